@@ -1,0 +1,19 @@
+-- Laws of checks in their order. Assumes nothing.
+use mathlib.Core.Path.{_≡_, refl}
+use mathlib.Core.Bool.{Bool, true, false}
+use Prim.Native.Nat.{ℕ}
+use native.Mathlib.Omega.{arith}
+use Rattle.errors.specs.Refusals.{Reply, accepted, refused, must, _then_}
+
+pub refused≢accepted : {k n : ℕ} → refused k n ≡ accepted → ⊥
+refused≢accepted e = let z : _≡_ {A = ℕ} 0 1 = cc in omega arith
+
+-- what passed held
+pub must-held : (b : Bool) (k n : ℕ) → must b k n ≡ accepted → b ≡ true
+must-held true k n e = refl
+must-held false k n e = absurd (refused≢accepted e)
+
+-- where checks in order pass, the first does
+pub then-first : (r s : Reply) → (r then s) ≡ accepted → r ≡ accepted
+then-first accepted s e = refl
+then-first (refused k n) s e = absurd (refused≢accepted e)

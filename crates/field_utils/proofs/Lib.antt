@@ -1,0 +1,4 @@
+pub mod Places
+pub mod Trims
+pub mod Identifiers
+pub mod NameLines

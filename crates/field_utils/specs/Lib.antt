@@ -1,0 +1,5 @@
+pub mod Lines
+pub mod Trim
+pub mod Identifier
+pub mod Names
+pub mod Examples

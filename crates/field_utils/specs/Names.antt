@@ -1,0 +1,60 @@
+-- Names (document 01, field_utils.rs and 'Checks in this order' of field50.rs). n is a body line, k its place among the names from 1.
+use Prim.Native.Nat.{ℕ, suc, _+_}
+use mathlib.Core.List.{List, [], _∷_}
+use lib.Dec.{leb, eqb}
+use lib.ListN.{length, drop, getD}
+use Rattle.errors.specs.Refusals.{Reply, accepted, must, _then_}
+use Rattle.party.specs.declared.PartyOption.{PartyOption}
+use Rattle.party.specs.declared.PartyOption.the-variants.{Field50NoOption, Field50A, Field50F, Field50K, Field50C, Field50L, Field50G, Field50H, Field59NoOption, Field59A, Field59F}
+use Rattle.party.specs.Limits.{limitsOf}
+use Rattle.swift_utils.specs.Bytes.{between}
+use Rattle.swift_utils.specs.Checks.{parseSwiftChars}
+use Rattle.field_utils.specs.declared.Numbering.{Numbering}
+use Rattle.field_utils.specs.declared.Numbering.the-variants.{Unnumbered, Numbered, InTurn}
+use Rattle.field_utils.specs.Identifier.{isNumbered}
+
+-- 50F: each line is numbered; 59F: lines are numbered 1, 2, 3 .. in order
+abbrev pub numberingOf : PartyOption → Numbering
+numberingOf Field50NoOption = Unnumbered
+numberingOf Field50A = Unnumbered
+numberingOf Field50F = Numbered
+numberingOf Field50K = Unnumbered
+numberingOf Field50C = Unnumbered
+numberingOf Field50L = Unnumbered
+numberingOf Field50G = Unnumbered
+numberingOf Field50H = Unnumbered
+numberingOf Field59NoOption = Unnumbered
+numberingOf Field59A = Unnumbered
+numberingOf Field59F = InTurn
+
+-- how many bytes stand before the text of a line: a numbered one has its digit and slash
+abbrev pub skipOf : Numbering → ℕ
+skipOf Unnumbered = 0
+skipOf Numbered = 2
+skipOf InTurn = 2
+
+-- 5 not a numbered line; 6 a number out of turn
+abbrev pub parseNumber : Numbering → ℕ → ℕ → List ℕ → Reply
+parseNumber Unnumbered n k l = accepted
+parseNumber Numbered n k l = must (isNumbered l) 5 n
+parseNumber InTurn n k l = must (isNumbered l) 5 n then must (eqb (getD l 0 0) (48 + k)) 6 n
+
+-- a line of names: its number, the length of its text (4), then its bytes
+unfoldable pub parseLine : Numbering → ℕ → ℕ → ℕ → List ℕ → Reply
+parseLine f longest n k l =
+    parseNumber f n k l
+    then must (leb (length (drop (skipOf f) l)) longest) 4 n
+    then parseSwiftChars n (drop (skipOf f) l)
+
+-- the lines of names, tested in order
+unfoldable pub parseLines : Numbering → ℕ → ℕ → ℕ → List (List ℕ) → Reply
+parseLines f longest n k [] = accepted
+parseLines f longest n k (l ∷ ls) = parseLine f longest n k l then parseLines f longest (suc n) (suc k) ls
+
+-- 7: names, counted last, are none or over 4
+abbrev pub parseCount : ℕ → ℕ → Reply
+parseCount most count = must (between 1 most count) 7 0
+
+-- names: the lines from body line n on, tested in order and counted last
+unfoldable pub parseNameAndAddress : PartyOption → ℕ → List (List ℕ) → Reply
+parseNameAndAddress o n ls = parseLines (numberingOf o) (limitsOf o .name) n 1 ls then parseCount (limitsOf o .names) (length ls)

@@ -1,0 +1,140 @@
+// What the Rust has of std: the lines of a text by a cursor, and a text trimmed.
+ghost use mathlib.Core.Path.{_≡_};
+ghost use Prim.Native.Nat.{_+_, _-_, _≤_, _<_};
+ghost use lib.ListN.{length, take, drop};
+ghost use Rattle.field_utils.specs.Lines.{upto, withoutCr, nextLine, lines};
+ghost use Rattle.field_utils.specs.Trim.{white, trimmed, trimmedEnd};
+
+// Where a byte first stands from a place on, or the length where it does not; a place past the length is given back.
+pub fn find(s: &[u8], from: usize, b: u8) -> usize
+    ensures { λ r. ⌜ r ≡ from + upto b (drop from (now (s .entry))) ⌝ }
+{
+    let mut i = from;
+    while i < s.len() {
+        if s[i] == b {
+            return i;
+        }
+        i += 1;
+    }
+    i
+}
+
+// Where the next LF stands from a place on, or the length where there is none; a place past the length is given back.
+pub fn find_lf(s: &[u8], from: usize) -> usize
+    ensures { λ r. ⌜ r ≡ from + upto 10 (drop from (now (s .entry))) ⌝ }
+{
+    find(s, from, b'\n')
+}
+
+// A cursor over the lines of a text: the place where the next one starts.
+pub struct Lines {
+    pub at: usize,
+}
+
+// What a cursor finds: a line from start to end, with the cursor after it, or no more lines.
+pub enum Line {
+    Next {
+        start: usize,
+        end: usize,
+        rest: Lines,
+    },
+    Done,
+}
+
+impl Lines {
+    // The next line.
+    pub fn next(self, s: &[u8]) -> Line
+        ensures { λ r. ⌜ r ≡ nextLine (now (s .entry)) (self .at) ⌝ }
+    {
+        let at = self.at;
+        if s.len() <= at {
+            return Line::Done;
+        }
+        let lf = find_lf(s, at);
+        if s.len() <= lf {
+            return Line::Next {
+                start: at,
+                end: lf,
+                rest: Lines { at: lf },
+            };
+        }
+        Line::Next {
+            start: at,
+            end: without_cr(s, at, lf),
+            rest: Lines { at: lf + 1 },
+        }
+    }
+}
+
+// The end of a line that an LF closes: the place of that LF, or of a CR just before it.
+fn without_cr(s: &[u8], start: usize, lf: usize) -> usize
+    requires { ⌜ (start ≤ lf) × (lf < length (now s)) ⌝ }
+    ensures { λ r. ⌜ r ≡ start + length (withoutCr (take (lf - start) (drop start (now (s .entry))))) ⌝ }
+{
+    if lf <= start {
+        return lf;
+    }
+    if s[lf - 1] == b'\r' {
+        return lf - 1;
+    }
+    lf
+}
+
+// How many lines there are.
+pub fn count_lines(s: &[u8]) -> usize
+    ensures { λ r. ⌜ r ≡ length (lines (now (s .entry))) ⌝ }
+{
+    let mut cursor = Lines { at: 0 };
+    let mut count = 0;
+    loop {
+        let found = cursor.next(s);
+        let Line::Next {
+            start: _,
+            end: _,
+            rest,
+        } = found
+        else {
+            return count;
+        };
+        cursor = rest;
+        count += 1;
+    }
+}
+
+// A byte that trimming takes away: 9 to 13 and 32.
+fn is_white(b: u8) -> bool
+    ensures { λ r. ⌜ r ≡ white b ⌝ }
+{
+    if b == b' ' {
+        return true;
+    }
+    9 <= b && b <= 13
+}
+
+// The part without such bytes at its end.
+fn trim_end(s: &[u8]) -> &[u8]
+    ensures { λ r. ⌜ now r ≡ trimmedEnd (now (s .entry)) ⌝ }
+{
+    let mut end = s.len();
+    while 0 < end {
+        if !is_white(s[end - 1]) {
+            return &s[..end];
+        }
+        end -= 1;
+    }
+    &s[..0]
+}
+
+// The part without such bytes at both ends.
+pub fn trim(s: &[u8]) -> &[u8]
+    ensures { λ r. ⌜ now r ≡ trimmed (now (s .entry)) ⌝ }
+{
+    let mut start = 0;
+    while start < s.len() {
+        if !is_white(s[start]) {
+            return trim_end(&s[start..]);
+        }
+        start += 1;
+    }
+    &s[..0]
+}

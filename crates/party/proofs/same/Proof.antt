@@ -1,0 +1,127 @@
+-- `party::same` meets its contract: each test decides a part of what the records say.
+-- Assumes nothing.
+use mathlib.Core.Path.{_∙_, sym, ap}
+use borrow.Author.Needs.{needs}
+use borrow.Author.Tests.{not-true, not-false}
+use Rattle.party.specs.declared.Party.{Party}
+use Rattle.party.specs.Decides.{Decides}
+use Rattle.party.specs.Limits.{limitsOf, placeOf}
+use Rattle.party.specs.Party.{where-limit, Same}
+use Rattle.party.proofs.Laws.{holds, fails, decides-as, equal-true, equal-false, where-none, where-same}
+use Rattle.party.proofs.Options.{place-one}
+use Rattle.party.proofs.Said.{SameHead, SameAccount, SameBic, SameNames, head, account, bic, names, same}
+use Rattle.party.proofs.same.Statement.{statement}
+use Rattle.party.proofs.same.Tie as tie
+
+-- past the tests of option, presence and count
+module _ (c : tie.After-limits-of) where
+  abbrev p : Party
+  p = c .before .before .before .before .before .before .args .p
+
+  abbrev q : Party
+  q = c .before .before .before .before .before .before .args .q
+
+  headed : SameHead p q
+  headed =
+      let c3 = c .before in
+      let c2 = c3 .before in
+      let c1 = c2 .before in
+      record {
+        option = place-one _ _ (sym (c1 .before .before .index-of .ensures) ∙ (c1 .if1 .left ∙ c1 .before .index-of2 .ensures));
+        present = equal-true _ _ (not-false _ (c2 .if2 .left));
+        count = c3 .if3 .left;
+      }
+
+-- the tests of account and BIC
+accounted :
+    (c : tie.After-same-where) →
+    let l = c .before .before .before in
+    Decides (c .same-where .result) (SameAccount (p l) (q l))
+accounted c = rw (c .before .before .before .limits-of .ensures) at (c .same-where .ensures)
+
+with-bic :
+    (c : tie.After-same-where2) →
+    let l = c .before .before .before .before .before .before .before in
+    Decides (c .same-where2 .result) (SameBic (p l) (q l))
+with-bic c = rw (c .before .before .before .before .before .before .before .limits-of .ensures) at (c .same-where2 .ensures)
+
+-- past both, the names are left
+module _ (c : tie.Else5) where
+  abbrev limits : tie.After-limits-of
+  limits = c .before .before .before .before .before .before .before .before
+
+  by-names : SameNames (p limits) (q limits) → Same (p limits) (q limits)
+  by-names n =
+      let c4 = c .before .before .before .before in
+      same (headed limits) (accounted (c4 .before) .yes (not-false _ (c4 .if4 .left)))
+      (with-bic (c .before) .yes (not-false _ (c .if5 .left))) n
+
+index-of-requires : tie.Need-index-of-requires
+index-of-requires c κs = search needs
+
+index-of-requires-2 : tie.Need-index-of-requires-2
+index-of-requires-2 c κs = search needs
+
+returns : tie.Need-returns
+returns c =
+    let i = c .before .before .index-of .ensures in
+    let j = c .before .index-of2 .ensures in
+    fails (λ e. c .if1 .taken (i ∙ (ap placeOf (head e .option) ∙ sym j)))
+
+returns-2 : tie.Need-returns-2
+returns-2 c = fails (λ e. equal-false _ _ (not-true _ (c .if2 .taken)) (head e .present))
+
+returns-3 : tie.Need-returns-3
+returns-3 c = fails (λ e. c .if3 .taken (head e .count))
+
+limits-of-requires : tie.Need-limits-of-requires
+limits-of-requires c κs = search needs
+
+same-where-requires : tie.Need-same-where-requires
+same-where-requires c κs = search needs
+
+returns-4 : tie.Need-returns-4
+returns-4 c =
+    let l = c .before .before .before .before in
+    fails (λ e. accounted (c .before) .no (not-true _ (c .if4 .taken)) (account (headed l) e))
+
+same-where-requires-2 : tie.Need-same-where-requires-2
+same-where-requires-2 c κs = search needs
+
+returns-5 : tie.Need-returns-5
+returns-5 c =
+    let l = c .before .before .before .before .before .before .before .before in
+    fails (λ e. with-bic (c .before) .no (not-true _ (c .if5 .taken)) (bic (headed l) e))
+
+returns-6 : tie.Need-returns-6
+returns-6 c =
+    let c5 = c .before .before in
+    holds (by-names c5 (where-none _ _ _ (rw (limits c5 .limits-of .ensures) at (c .if6 .taken))))
+
+same-names-requires : tie.Need-same-names-requires
+same-names-requires c κs = search needs
+
+returns-7 : tie.Need-returns-7
+returns-7 c =
+    let c5 = c .before .before .before in
+    let l = limits c5 in
+    decides-as (λ n. by-names c5 (ap (where-limit (limitsOf (p l .option) .names)) n))
+    (λ e. where-same _ _ _ (rw (l .limits-of .ensures) at (c .before .if6 .left)) (names (headed l) e)) (c .same-names .ensures)
+
+pub same-spec : {M : Type 1} → statement M
+same-spec =
+    tie.close
+    (tie.spec
+    index-of-requires
+    index-of-requires-2
+    returns
+    returns-2
+    returns-3
+    limits-of-requires
+    same-where-requires
+    returns-4
+    same-where-requires-2
+    returns-5
+    returns-6
+    same-names-requires
+    returns-7)

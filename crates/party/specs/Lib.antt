@@ -1,0 +1,4 @@
+pub mod Decides
+pub mod Limits
+pub mod Text
+pub mod Party

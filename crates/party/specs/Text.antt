@@ -1,0 +1,29 @@
+-- A text by value: an array of 38 bytes and a length (document 01, 'Rust forms and their Rattle stand-ins').
+use Prim.Native.Nat.{ℕ, _-_, _<_, _^_}
+use mathlib.Core.Path.{_≡_}
+use mathlib.Core.List.{List, _++_}
+use lib.ListN.{length, getD, take, replicate}
+use Rattle.party.specs.declared.Text.{Text}
+
+-- 38 bytes: those of a list of at most as many, and zeros ('Readers zero unused bytes')
+unfoldable pub padded : List ℕ → List ℕ
+padded l = l ++ replicate (38 - length l) 0
+
+-- the text of a list's first 38 bytes ('each with its length, at most 38 bytes')
+unfoldable pub textOf : List ℕ → Text
+textOf l = record { bytes = padded (take 38 l); len = length (take 38 l) }
+
+-- what a text holds: its length, and the bytes that it uses ('used bytes agree')
+pub record Used : Type 0 where
+  pub len : ℕ
+  pub bytes : List ℕ
+
+-- what a text holds; where its length passes 38, all of its bytes
+abbrev pub used : Text → Used
+used t = record { len = t .len; bytes = take (t .len) (t .bytes) }
+
+-- a text as Rattle has it: 38 bytes, and a length that is a usize ('a fixed byte array and a length per text')
+pub record IsText (t : Text) : Type 0 where
+  pub size : length (t .bytes) ≡ 38
+  pub byte : (i : ℕ) → getD (t .bytes) i 0 < 256
+  pub fits : t .len < 2 ^ 64

@@ -1,0 +1,338 @@
+// The party record, which no Rust file has: it stands for the Rust's eleven structs, with their texts by value, and for the enums, with
+// the option beside one record. The limits of the eleven options stand here in one table.
+ghost use mathlib.Core.Path.{_≡_};
+ghost use mathlib.Core.List.{[], _∷_};
+ghost use Rattle.party.specs.Limits.{limitsOf, placeOf};
+ghost use Rattle.party.specs.Text.{textOf, used};
+ghost use Rattle.party.specs.Party.{IsParty, blank as blankParty, where-limit, namesOf, Same};
+ghost use Rattle.party.specs.Decides.{Decides};
+
+// The eleven options, under the names of the Rust's structs.
+pub enum PartyOption {
+    Field50NoOption,
+    Field50A,
+    Field50F,
+    Field50K,
+    Field50C,
+    Field50L,
+    Field50G,
+    Field50H,
+    Field59NoOption,
+    Field59A,
+    Field59F,
+}
+
+// A text by value: the first len bytes.
+pub struct Text {
+    pub bytes: [u8; 38],
+    pub len: usize,
+}
+
+// A party: its option, whether the body gave an account or identifier, that text, the BIC, and as many names as count says.
+pub struct Party {
+    pub option: PartyOption,
+    pub present: bool,
+    pub account: Text,
+    pub bic: Text,
+    pub count: usize,
+    pub name_and_address: [Text; 4],
+}
+
+// The limits of an option.
+pub struct Limits {
+    // the tag: its field, 50 or 59, and its letter, 0 for none
+    pub field: u8,
+    pub letter: u8,
+    // how many lines the body has, where they are counted first
+    pub least: usize,
+    pub most: usize,
+    // the length of the account, or of the identifier after its slashes; longest is 0 where the option has none
+    pub shortest: usize,
+    pub longest: usize,
+    // the longest BIC, 0 where the option has none
+    pub bic: usize,
+    // how many names there may be, 0 where the option has none, and how long the text of each may be
+    pub names: usize,
+    pub name: usize,
+}
+
+const LIMITS: [Limits; 11] = [
+    // Field50NoOption
+    Limits {
+        field: 50,
+        letter: 0,
+        least: 1,
+        most: 4,
+        shortest: 0,
+        longest: 0,
+        bic: 0,
+        names: 4,
+        name: 35,
+    },
+    // Field50A
+    Limits {
+        field: 50,
+        letter: b'A',
+        least: 1,
+        most: 2048,
+        shortest: 0,
+        longest: 34, // 50A
+        bic: 11,
+        names: 0,
+        name: 0,
+    },
+    // Field50F
+    Limits {
+        field: 50,
+        letter: b'F',
+        least: 2,
+        most: 2048,
+        shortest: 1,
+        longest: 35,
+        bic: 0,
+        names: 4,
+        name: 33,
+    },
+    // Field50K
+    Limits {
+        field: 50,
+        letter: b'K',
+        least: 1,
+        most: 2048,
+        shortest: 0,
+        longest: 34,
+        bic: 0,
+        names: 4,
+        name: 35,
+    },
+    // Field50C
+    Limits {
+        field: 50,
+        letter: b'C',
+        least: 0,
+        most: 2048,
+        shortest: 0,
+        longest: 0,
+        bic: 11,
+        names: 0,
+        name: 0,
+    },
+    // Field50L
+    Limits {
+        field: 50,
+        letter: b'L',
+        least: 0,
+        most: 2048,
+        shortest: 1,
+        longest: 35,
+        bic: 0,
+        names: 0,
+        name: 0,
+    },
+    // Field50G
+    Limits {
+        field: 50,
+        letter: b'G',
+        least: 2,
+        most: 2,
+        shortest: 1,
+        longest: 34,
+        bic: 11,
+        names: 0,
+        name: 0,
+    },
+    // Field50H
+    Limits {
+        field: 50,
+        letter: b'H',
+        least: 2,
+        most: 2048,
+        shortest: 1,
+        longest: 34,
+        bic: 0,
+        names: 4,
+        name: 35,
+    },
+    // Field59NoOption
+    Limits {
+        field: 59,
+        letter: 0,
+        least: 1,
+        most: 2048,
+        shortest: 0,
+        longest: 34,
+        bic: 0,
+        names: 4,
+        name: 35,
+    },
+    // Field59A
+    Limits {
+        field: 59,
+        letter: b'A',
+        least: 1,
+        most: 2048,
+        shortest: 0,
+        longest: 34,
+        bic: 11,
+        names: 0,
+        name: 0,
+    },
+    // Field59F
+    Limits {
+        field: 59,
+        letter: b'F',
+        least: 1,
+        most: 2048,
+        shortest: 0,
+        longest: 34,
+        bic: 0,
+        names: 4,
+        name: 33,
+    },
+];
+
+// The text that holds nothing.
+const NOTHING: Text = Text {
+    bytes: [0u8; 38],
+    len: 0,
+};
+
+// The option's place in the table.
+fn index_of(option: PartyOption) -> usize
+    ensures { λ r. ⌜ r ≡ placeOf option ⌝ }
+{
+    match option {
+        PartyOption::Field50NoOption => 0,
+        PartyOption::Field50A => 1,
+        PartyOption::Field50F => 2,
+        PartyOption::Field50K => 3,
+        PartyOption::Field50C => 4,
+        PartyOption::Field50L => 5,
+        PartyOption::Field50G => 6,
+        PartyOption::Field50H => 7,
+        PartyOption::Field59NoOption => 8,
+        PartyOption::Field59A => 9,
+        PartyOption::Field59F => 10,
+    }
+}
+
+// The option's limits.
+pub fn limits_of(option: PartyOption) -> Limits
+    ensures { λ r. ⌜ r ≡ limitsOf option ⌝ }
+{
+    let i = index_of(option);
+    LIMITS[i]
+}
+
+// What every record has, whatever its bytes say: each text has its 38 bytes, and there are four names.
+pub fn sized(p: Party)
+    ensures { λ r. ⌜ IsParty p ⌝ }
+{}
+
+// The text of the first 38 bytes of a slice, with the bytes after it zero.
+pub fn text_of(s: &[u8]) -> Text
+    ensures { λ r. ⌜ r ≡ textOf (now (s .entry)) ⌝ }
+{
+    let mut text = NOTHING;
+    let mut i = 0;
+    while i < 38 && i < s.len() {
+        text.bytes[i] = s[i];
+        i += 1;
+    }
+    text.len = i;
+    text
+}
+
+// The blank record: what stands beside a refusal, and beside a page's end.
+pub fn blank() -> Party
+    ensures { λ r. ⌜ r ≡ blankParty ⌝ }
+{
+    Party {
+        option: PartyOption::Field50NoOption,
+        present: false,
+        account: NOTHING,
+        bic: NOTHING,
+        count: 0,
+        name_and_address: [NOTHING; 4],
+    }
+}
+
+// Whether two texts hold the same.
+fn same_text(t: Text, u: Text) -> bool
+    ensures { λ r. ⌜ Decides r (used t ≡ used u) ⌝ }
+{
+    if t.len != u.len {
+        return false;
+    }
+    let len = t.len;
+    let mut i = 0;
+    while i < 38 && i < len {
+        if t.bytes[i] != u.bytes[i] {
+            return false;
+        }
+        i += 1;
+    }
+    true
+}
+
+// Whether the texts of an option hold the same, where its limit for them is not 0.
+fn same_where(limit: usize, t: Text, u: Text) -> bool
+    ensures { λ r. ⌜ Decides r (where-limit limit (used t ∷ []) ≡ where-limit limit (used u ∷ [])) ⌝ }
+{
+    if limit == 0 {
+        return true;
+    }
+    same_text(t, u)
+}
+
+// Whether the first names of two records hold the same, as many as count says.
+fn same_names(p: Party, q: Party, count: usize) -> bool
+    ensures { λ r. ⌜ Decides r (namesOf count p ≡ namesOf count q) ⌝ }
+{
+    let mut i = 0;
+    while i < 4 && i < count {
+        let t = p.name_and_address[i];
+        let u = q.name_and_address[i];
+        if !same_text(t, u) {
+            return false;
+        }
+        i += 1;
+    }
+    true
+}
+
+// Whether two records are the same: option, presence, count and used bytes agree.
+pub fn same(p: Party, q: Party) -> bool
+    ensures { λ r. ⌜ Decides r (Same p q) ⌝ }
+{
+    let option = p.option;
+    let other_option = q.option;
+    if index_of(option) != index_of(other_option) {
+        return false;
+    }
+    let present = p.present;
+    let other_present = q.present;
+    if present != other_present {
+        return false;
+    }
+    let count = p.count;
+    let other_count = q.count;
+    if count != other_count {
+        return false;
+    }
+    let limits = limits_of(option);
+    let account = p.account;
+    let other_account = q.account;
+    if !same_where(limits.longest, account, other_account) {
+        return false;
+    }
+    let bic = p.bic;
+    let other_bic = q.bic;
+    if !same_where(limits.bic, bic, other_bic) {
+        return false;
+    }
+    if limits.names == 0 {
+        return true;
+    }
+    same_names(p, q, count)
+}

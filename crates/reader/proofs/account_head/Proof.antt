@@ -1,0 +1,58 @@
+-- `reader::account_head` meets its contract, by the first byte. Assumes nothing.
+use mathlib.Core.Path.{_≡_, sym, _∙_, ap}
+use denote.Ref.{now}
+use lib.ListN.{drop}
+use borrow.Author.Tests.{not-true, not-false}
+use Rattle.reader.specs.Code.{toldHead}
+use Rattle.reader.specs.Options.{accountReply, head}
+use Rattle.reader.proofs.Heads.{account-none, account-some}
+use borrow.Author.Needs.{needs}
+use Rattle.reader.proofs.account_head.Statement.{statement}
+use Rattle.reader.proofs.account_head.Tie as tie
+use Rattle.reader.proofs.account_head.Reads as reads
+use Rattle.reader.proofs.account_head.Lts as lts
+use Rattle.field_utils.proofs.starts_with_slash.Reads as starts-with-slash-reads
+use Rattle.reader.proofs.account.Reads as account-reads
+use Rattle.reader.proofs.behind.Reads as behind-reads
+use Rattle.reader.proofs.head.Reads as head-reads
+use Rattle.reader.proofs.no_head.Reads as no-head-reads
+
+starts-with-slash-requires : tie.Need-starts-with-slash-requires
+starts-with-slash-requires c κs = search needs
+
+no-head-requires : tie.Need-no-head-requires
+no-head-requires c κs = search needs
+
+returns : tie.Need-returns
+returns c =
+    let a = c .before .before .before .before .args in
+    ap (toldHead (now (a .line))) (c .no-head .ensures)
+    ∙ sym (account-none (a .option) (now (a .line)) (sym (c .before .before .starts-with-slash .ensures) ∙ not-true _ (c .before .if1 .taken)))
+
+behind-requires : tie.Need-behind-requires
+behind-requires c κs = search needs
+
+account-requires : tie.Need-account-requires
+account-requires c κs = search needs
+
+head-requires : tie.Need-head-requires
+head-requires c κs = search needs
+
+returns-2 : tie.Need-returns-2
+returns-2 c =
+    let a = c .before .before .before .before .before .before .args in
+    ap (toldHead (now (a .line))) (c .head .ensures)
+    ∙ ap (head (drop 1 (now (a .line)))) (c .before .account .ensures ∙ ap (accountReply (a .option)) (c .before .before .behind .ensures))
+    ∙ sym (account-some (a .option) (now (a .line)) (sym (c .before .before .before .before .starts-with-slash .ensures) ∙ not-false _ (c .before .before .before .if1 .left)))
+
+pub account-head-spec : {M : Type 1} → statement M
+account-head-spec =
+    tie.close
+    (tie.spec
+    starts-with-slash-requires
+    no-head-requires
+    returns
+    behind-requires
+    account-requires
+    head-requires
+    returns-2)

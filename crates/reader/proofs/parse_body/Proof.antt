@@ -1,0 +1,24 @@
+-- `reader::parse_body` meets its contract. Assumes nothing.
+use mathlib.Core.Path.{_≡_, sym, _∙_}
+use borrow.Author.Tests.{le-leb, lt-leb}
+use borrow.Author.Needs.{needs}
+use Rattle.reader.proofs.parse_body.Statement.{statement}
+use Rattle.reader.proofs.parse_body.Tie as tie
+use Rattle.reader.proofs.parse_body.Reads as reads
+use Rattle.reader.proofs.parse_body.Lts as lts
+use Rattle.reader.proofs.is_ascii.Reads as is-ascii-reads
+
+returns : tie.Need-returns
+returns c = rw (lt-leb _ _ (c .if1 .taken))
+
+is-ascii-requires : tie.Need-is-ascii-requires
+is-ascii-requires c κs = search needs
+
+returns-2 : tie.Need-returns-2
+returns-2 c = rw (le-leb _ _ (c .before .before .if1 .left), sym (c .before .is-ascii .ensures) ∙ c .if2 .taken)
+
+returns-3 : tie.Need-returns-3
+returns-3 c = rw (le-leb _ _ (c .before .before .if1 .left), sym (c .before .is-ascii .ensures) ∙ c .if2 .left)
+
+pub parse-body-spec : {M : Type 1} → statement M
+parse-body-spec = tie.close (tie.spec returns is-ascii-requires returns-2 returns-3)

@@ -1,0 +1,133 @@
+-- `reader::read_bic` meets its contract, by whether a line is left. Assumes nothing.
+use mathlib.Core.Path.{_≡_, sym, _∙_, ap}
+use mathlib.Core.List.{List}
+use Prim.Native.Nat.{ℕ, suc}
+use native.Mathlib.Numerals.{add-one}
+use native.Mathlib.Omega.{arith}
+use denote.Ref.{now}
+use lib.ListN.{drop}
+use Rattle.errors.specs.Refusals.{told}
+use Rattle.swift_utils.specs.Checks.{parseBic}
+use Rattle.swift_utils.proofs.Parts.{part}
+use Rattle.field_utils.specs.Lines.{lines}
+use Rattle.field_utils.proofs.Places.{Found, found}
+use Rattle.reader.specs.Reading.{partyOf}
+use Rattle.reader.specs.Options.{withBic}
+use Rattle.reader.specs.Code.{passedHead}
+use Rattle.reader.proofs.Readings.{refusing, accepting}
+use borrow.Author.Needs.{needs}
+use Rattle.reader.proofs.read_bic.Statement.{statement}
+use Rattle.reader.proofs.read_bic.Tie as tie
+use Rattle.reader.proofs.read_bic.Reads as reads
+use Rattle.reader.proofs.read_bic.Lts as lts
+use Rattle.field_utils.proofs.lines.Lines.next.Reads as next-reads
+use Rattle.reader.proofs.accept.Reads as accept-reads
+use Rattle.reader.proofs.nameless_party.Reads as nameless-party-reads
+use Rattle.reader.proofs.refuse.Reads as refuse-reads
+use Rattle.swift_utils.proofs.parse_bic.Reads as parse-bic-reads
+
+-- what the line that was found says
+fits : (c : tie.After-known-told) → let v = c .before .found .given .0 in let a = c .before .before .before .before .before .before .args in
+       Found (now (a .body)) (a .from .at) (v .0) (v .1 .0) (v .1 .1 .0 .at)
+fits c =
+    let a = c .before .before .before .before .before .before .args in
+    found (now (a .body)) (a .from .at) (c .before .before .before .next .ensures) (c .before .found .given .1)
+
+-- what is said of it
+said : (c : tie.After-parse-bic) → let k = c .before .before in let a = k .before .before .before .before .before .before .args in
+       withBic (suc (a .start-idx)) (passedHead (a .present) (now (a .account))) (lines (drop (a .from .at) (now (a .body)))) .reply ≡ told (c .parse-bic .result)
+said c =
+    let k = c .before .before in
+    let a = k .before .before .before .before .before .before .args in
+    let v = k .before .found .given .0 in
+    ap (λ (ls : List (List ℕ)). withBic (suc (a .start-idx)) (passedHead (a .present) (now (a .account))) ls .reply) (fits k .line)
+    ∙ ap (λ (n : ℕ). parseBic n (part (v .0) (v .1 .0) (now (a .body)))) (sym (add-one (a .start-idx)))
+    ∙ sym (c .parse-bic .ensures)
+
+next-requires : tie.Need-next-requires
+next-requires c κs = search needs
+
+enum-known-found : tie.Need-enum-known-found
+enum-known-found c = search needs
+
+enum-told : tie.Need-enum-told
+enum-told c = search needs
+
+refuse-requires : tie.Need-refuse-requires
+refuse-requires c κs = search needs
+
+returns : tie.Need-returns
+returns c =
+    let n = c .before .before .before in
+    let a = n .before .before .before .args in
+    refusing (a .option) _ (c .refuse .ensures)
+    (ap (λ (ls : List (List ℕ)). withBic (suc (a .start-idx)) (passedHead (a .present) (now (a .account))) ls .reply)
+    (found (now (a .body)) (a .from .at) (n .next .ensures) (c .before .enum-told .given .1) .0))
+
+sub-bic : tie.Need-sub-bic
+sub-bic c = omega (arith, fits c .forward)
+
+part-bic-start : tie.Need-part-bic-start
+part-bic-start c = omega (arith, fits c .forward)
+
+part-bic-end : tie.Need-part-bic-end
+part-bic-end c = omega (arith, fits c .before, fits c .within)
+
+add-parse-bic : tie.Need-add-parse-bic
+add-parse-bic c = search needs
+
+parse-bic-requires : tie.Need-parse-bic-requires
+parse-bic-requires c κs = search needs
+
+enum-known-outcome : tie.Need-enum-known-outcome
+enum-known-outcome c = search needs
+
+refuse-requires-2 : tie.Need-refuse-requires-2
+refuse-requires-2 c κs = search needs
+
+returns-2 : tie.Need-returns-2
+returns-2 c =
+    let p = c .before .before .before .before in
+    refusing _ _ (c .refuse2 .ensures) (said p ∙ ap told (c .before .before .outcome .given .1))
+
+enum-told-2 : tie.Need-enum-told-2
+enum-told-2 c = search needs
+
+nameless-party-requires : tie.Need-nameless-party-requires
+nameless-party-requires c κs = search needs
+
+accept-requires : tie.Need-accept-requires
+accept-requires c κs = search needs
+
+returns-3 : tie.Need-returns-3
+unfolding partyOf
+returns-3 c =
+    let p = c .before .before .before .before in
+    let k = p .before .before in
+    let a = k .before .before .before .before .before .before .args in
+    accepting (a .option) (withBic (suc (a .start-idx)) (passedHead (a .present) (now (a .account))) (lines (drop (a .from .at) (now (a .body))))) (c .accept .ensures)
+    (said p ∙ ap told (c .before .before .enum-told2 .given .1))
+    (c .before .nameless-party .ensures
+    ∙ ap (λ (ls : List (List ℕ)). partyOf (a .option) (withBic (suc (a .start-idx)) (passedHead (a .present) (now (a .account))) ls)) (sym (fits k .line)))
+
+pub read-bic-spec : {M : Type 1} → statement M
+read-bic-spec =
+    tie.close
+    (tie.spec
+    next-requires
+    enum-known-found
+    enum-told
+    refuse-requires
+    returns
+    sub-bic
+    part-bic-start
+    part-bic-end
+    add-parse-bic
+    parse-bic-requires
+    enum-known-outcome
+    refuse-requires-2
+    returns-2
+    enum-told-2
+    nameless-party-requires
+    accept-requires
+    returns-3)

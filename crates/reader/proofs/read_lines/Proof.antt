@@ -1,0 +1,197 @@
+-- `reader::read_lines` meets its contract: the count, the first line, then the lines after it. Assumes nothing.
+use mathlib.Core.Path.{_≡_, sym, _∙_, ap}
+use mathlib.Core.Bool.{Bool, true, false}
+use mathlib.Core.List.{List, [], _∷_}
+use Prim.Native.Nat.{ℕ}
+use native.Mathlib.Omega.{arith}
+use denote.Ref.{now}
+use lib.ListN.{length, drop}
+use borrow.Author.Tests.{not-true, not-false}
+use Rattle.errors.specs.Refusals.{told}
+use Rattle.party.specs.Limits.{limitsOf}
+use Rattle.swift_utils.specs.Bytes.{between}
+use Rattle.swift_utils.proofs.Parts.{part}
+use Rattle.field_utils.specs.Lines.{lines}
+use Rattle.field_utils.proofs.Places.{Found, found}
+use Rattle.reader.specs.declared.First.{First}
+use Rattle.reader.specs.Options.{firstOf, headBy, afterHead, byLines}
+use Rattle.reader.specs.Code.{toldHead, passedHead, readingOf}
+use Rattle.reader.proofs.Readings.{refusing}
+use Rattle.reader.proofs.Bodies.{lines-count, head-refused, head-there, head-none, told-text, told-none}
+use borrow.Author.Needs.{needs}
+use Rattle.reader.proofs.read_lines.Statement.{statement}
+use Rattle.reader.proofs.read_lines.Tie as tie
+use Rattle.reader.proofs.read_lines.Reads as reads
+use Rattle.reader.proofs.read_lines.Lts as lts
+use Rattle.field_utils.proofs.lines.Lines.next.Reads as next-reads
+use Rattle.reader.proofs.behind.Reads as behind-reads
+use Rattle.reader.proofs.counts.Reads as counts-reads
+use Rattle.reader.proofs.first_of.Reads as first-of-reads
+use Rattle.reader.proofs.parse_head.Reads as parse-head-reads
+use Rattle.reader.proofs.read_rest.Reads as read-rest-reads
+use Rattle.reader.proofs.refuse.Reads as refuse-reads
+
+-- what the line that was found says
+fits : (c : tie.After-known-told) → let v = c .before .found .given .0 in let a = c .before .before .before .before .before .args in
+       Found (now (a .body)) 0 (v .0) (v .1 .0) (v .1 .1 .0 .at)
+fits c =
+    let a = c .before .before .before .before .before .args in
+    found (now (a .body)) 0 (c .before .before .before .next .ensures) (c .before .found .given .1)
+
+-- how the lines are counted
+counted : (c : tie.After-counts) {t : Bool} → let k = c .before in let v = k .before .found .given .0 in let a = k .before .before .before .before .before .args in
+          c .counts .result ≡ t
+          → between (limitsOf (a .option) .least) (limitsOf (a .option) .most) (length (part (v .0) (v .1 .0) (now (a .body)) ∷ lines (drop (v .1 .1 .0 .at) (now (a .body))))) ≡ t
+counted c e =
+    let k = c .before in
+    let a = k .before .before .before .before .before .args in
+    ap (λ (ls : List (List ℕ)). between (limitsOf (a .option) .least) (limitsOf (a .option) .most) (length ls)) (sym (fits k .line)) ∙ sym (c .counts .ensures) ∙ e
+
+-- what was made of the first line
+first : (c : tie.After-parse-head) → let k = c .before .before .before .before .before in let v = k .before .found .given .0 in let a = k .before .before .before .before .before .args in
+        toldHead (part (v .0) (v .1 .0) (now (a .body))) (c .parse-head .result) ≡ headBy (firstOf (a .option)) (a .option) (part (v .0) (v .1 .0) (now (a .body)))
+first c =
+    let k = c .before .before .before .before .before in
+    let v = k .before .found .given .0 in
+    let a = k .before .before .before .before .before .args in
+    c .parse-head .ensures ∙ ap (λ (f : First). headBy f (a .option) (part (v .0) (v .1 .0) (now (a .body)))) (c .before .first-of .ensures)
+
+next-requires : tie.Need-next-requires
+next-requires c κs = search needs
+
+enum-known-found : tie.Need-enum-known-found
+enum-known-found c = search needs
+
+enum-told : tie.Need-enum-told
+enum-told c = search needs
+
+refuse-requires : tie.Need-refuse-requires
+refuse-requires c κs = search needs
+
+returns : tie.Need-returns
+returns c =
+    let n = c .before .before .before in
+    let a = n .before .before .args in
+    refusing (a .option) _ (c .refuse .ensures)
+    (ap (λ (ls : List (List ℕ)). byLines (a .option) ls .reply) (found (now (a .body)) 0 (n .next .ensures) (c .before .enum-told .given .1) .0))
+
+counts-requires : tie.Need-counts-requires
+counts-requires c κs = omega (arith, fits c .moved, fits c .within, c .before .before .before .before .before .pre)
+
+refuse-requires-2 : tie.Need-refuse-requires-2
+refuse-requires-2 c κs = search needs
+
+returns-2 : tie.Need-returns-2
+returns-2 c =
+    let n = c .before .before in
+    let k = n .before in
+    let v = k .before .found .given .0 in
+    let a = k .before .before .before .before .before .args in
+    refusing (a .option) _ (c .refuse2 .ensures)
+    (ap (λ (ls : List (List ℕ)). byLines (a .option) ls .reply) (fits k .line) ∙ lines-count (a .option) (part (v .0) (v .1 .0) (now (a .body))) (lines (drop (v .1 .1 .0 .at) (now (a .body)))) (counted n (not-true _ (c .before .if1 .taken))))
+
+sub-line : tie.Need-sub-line
+sub-line c = omega (arith, fits (c .before .before) .forward)
+
+part-line-start : tie.Need-part-line-start
+part-line-start c = omega (arith, fits (c .before .before) .forward)
+
+part-line-end : tie.Need-part-line-end
+part-line-end c = omega (arith, fits (c .before .before) .before, fits (c .before .before) .within)
+
+first-of-requires : tie.Need-first-of-requires
+first-of-requires c κs = search needs
+
+parse-head-requires : tie.Need-parse-head-requires
+parse-head-requires c κs = search needs
+
+enum-known-outcome : tie.Need-enum-known-outcome
+enum-known-outcome c = search needs
+
+refuse-requires-3 : tie.Need-refuse-requires-3
+refuse-requires-3 c κs = search needs
+
+returns-3 : tie.Need-returns-3
+returns-3 c =
+    let p = c .before .before .before .before in
+    let n = p .before .before .before .before in
+    let k = n .before in
+    let v = k .before .found .given .0 in
+    let a = k .before .before .before .before .before .args in
+    refusing (a .option) _ (c .refuse3 .ensures)
+    (ap (λ (ls : List (List ℕ)). byLines (a .option) ls .reply) (fits k .line)
+    ∙ head-refused (a .option) (part (v .0) (v .1 .0) (now (a .body))) (lines (drop (v .1 .1 .0 .at) (now (a .body)))) (first p) (counted n (not-false _ (p .before .before .before .if1 .left))) (ap told (c .before .before .outcome .given .1)))
+
+enum-told-2 : tie.Need-enum-told-2
+enum-told-2 c = search needs
+
+behind-requires : tie.Need-behind-requires
+behind-requires c κs = search needs
+
+read-rest-requires : tie.Need-read-rest-requires
+read-rest-requires c κs = search needs
+
+slice-aggregate-read-rest : tie.Need-slice-aggregate-read-rest
+slice-aggregate-read-rest c = search needs
+
+read-rest-requires-2 : tie.Need-read-rest-requires-2
+read-rest-requires-2 c κs = search needs
+
+returns-4 : tie.Need-returns-4
+returns-4 c =
+    let e = c .before .before .before in
+    let p = e .before .before in
+    let n = p .before .before .before .before in
+    let k = n .before in
+    let v = k .before .found .given .0 in
+    let a = k .before .before .before .before .before .args in
+    c .read-rest .ensures
+    ∙ ap (readingOf (a .option))
+    (sym
+    (ap (byLines (a .option)) (fits k .line)
+    ∙ head-there (a .option) (part (v .0) (v .1 .0) (now (a .body))) (lines (drop (v .1 .1 .0 .at) (now (a .body)))) (first p) (counted n (not-false _ (p .before .before .before .if1 .left))) (c .before .before .if2 .taken)
+    (told-text (part (v .0) (v .1 .0) (now (a .body))) (p .parse-head .result) (c .before .before .if2 .taken) ∙ sym (c .before .behind .ensures)) (ap told (e .enum-told2 .given .1))))
+
+returns-5 : tie.Need-returns-5
+returns-5 c =
+    let e = c .before .before .before in
+    let p = e .before .before in
+    let n = p .before .before .before .before in
+    let k = n .before in
+    let v = k .before .found .given .0 in
+    let a = k .before .before .before .before .before .args in
+    c .read-rest2 .ensures
+    ∙ ap (readingOf (a .option))
+    (ap (afterHead (a .option) 1 (passedHead false [])) (fits k .line)
+    ∙ sym
+    (ap (byLines (a .option)) (fits k .line)
+    ∙ head-none (a .option) (part (v .0) (v .1 .0) (now (a .body))) (lines (drop (v .1 .1 .0 .at) (now (a .body)))) (first p) (counted n (not-false _ (p .before .before .before .if1 .left))) (c .before .before .if2 .left)
+    (told-none (part (v .0) (v .1 .0) (now (a .body))) (p .parse-head .result) (c .before .before .if2 .left)) (ap told (e .enum-told2 .given .1))))
+
+pub read-lines-spec : {M : Type 1} → statement M
+read-lines-spec =
+    tie.close
+    (tie.spec
+    next-requires
+    enum-known-found
+    enum-told
+    refuse-requires
+    returns
+    counts-requires
+    refuse-requires-2
+    returns-2
+    sub-line
+    part-line-start
+    part-line-end
+    first-of-requires
+    parse-head-requires
+    enum-known-outcome
+    refuse-requires-3
+    returns-3
+    enum-told-2
+    behind-requires
+    read-rest-requires
+    slice-aggregate-read-rest
+    read-rest-requires-2
+    returns-4
+    returns-5)

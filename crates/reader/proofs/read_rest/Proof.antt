@@ -1,0 +1,45 @@
+-- `reader::read_rest` meets its contract, by whether the option has names. Assumes nothing.
+use mathlib.Core.Path.{_≡_, sym, _∙_, ap}
+use Prim.Native.Nat.{suc}
+use denote.Ref.{now}
+use lib.ListN.{drop}
+use Rattle.field_utils.specs.Lines.{lines}
+use Rattle.reader.specs.Code.{passedHead, readingOf}
+use Rattle.reader.proofs.Readings.{rest-bic, rest-names}
+use borrow.Author.Needs.{needs}
+use Rattle.reader.proofs.read_rest.Statement.{statement}
+use Rattle.reader.proofs.read_rest.Tie as tie
+use Rattle.reader.proofs.read_rest.Reads as reads
+use Rattle.reader.proofs.read_rest.Lts as lts
+use Rattle.party.proofs.limits_of.Reads as limits-of-reads
+use Rattle.reader.proofs.read_bic.Reads as read-bic-reads
+use Rattle.reader.proofs.read_names.Reads as read-names-reads
+
+limits-of-requires : tie.Need-limits-of-requires
+limits-of-requires c κs = search needs
+
+read-bic-requires : tie.Need-read-bic-requires
+read-bic-requires c κs = search needs
+
+read-names-requires : tie.Need-read-names-requires
+read-names-requires c κs = search needs
+
+returns : tie.Need-returns
+returns c =
+    let m = c .before .before .before in
+    let a = m .before .before .before .args in
+    c .read-bic .ensures
+    ∙ ap (readingOf (a .option))
+    (sym (rest-bic (a .option) (m .limits-of .ensures) (suc (a .start-idx)) (passedHead (a .present) (now (a .account))) (lines (drop (a .from .at) (now (a .body)))) (c .before .if1 .taken)))
+
+returns-2 : tie.Need-returns-2
+returns-2 c =
+    let m = c .before .before .before in
+    let a = m .before .before .before .args in
+    c .read-names .ensures
+    ∙ ap (readingOf (a .option))
+    (sym (rest-names (a .option) (m .limits-of .ensures) (suc (a .start-idx)) (passedHead (a .present) (now (a .account))) (lines (drop (a .from .at) (now (a .body)))) (c .before .if1 .left)))
+
+pub read-rest-spec : {M : Type 1} → statement M
+read-rest-spec =
+    tie.close (tie.spec limits-of-requires read-bic-requires read-names-requires returns returns-2)

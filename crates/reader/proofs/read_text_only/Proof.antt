@@ -1,0 +1,90 @@
+-- `reader::read_text_only` meets its contract. Assumes nothing.
+use mathlib.Core.Path.{_≡_, sym, _∙_, ap}
+use native.Mathlib.Omega.{arith}
+use denote.Ref.{now}
+use Rattle.errors.specs.Refusals.{told}
+use Rattle.reader.specs.Reading.{partyOf}
+use Rattle.reader.specs.Options.{textOnly}
+use Rattle.reader.proofs.LineCounts.{among-found, among-none}
+use Rattle.reader.proofs.Readings.{refusing, accepting, text-lf, text-line}
+use borrow.Author.Needs.{needs}
+use Rattle.reader.proofs.read_text_only.Statement.{statement}
+use Rattle.reader.proofs.read_text_only.Tie as tie
+use Rattle.reader.proofs.read_text_only.Reads as reads
+use Rattle.reader.proofs.read_text_only.Lts as lts
+use Rattle.field_utils.proofs.lines.find_lf.Reads as find-lf-reads
+use Rattle.reader.proofs.accept.Reads as accept-reads
+use Rattle.reader.proofs.account.Reads as account-reads
+use Rattle.reader.proofs.nameless_party.Reads as nameless-party-reads
+use Rattle.reader.proofs.refuse.Reads as refuse-reads
+
+find-lf-requires : tie.Need-find-lf-requires
+find-lf-requires c κs = search needs
+
+refuse-requires : tie.Need-refuse-requires
+refuse-requires c κs = search needs
+
+returns : tie.Need-returns
+returns c =
+    let p = c .before .before in
+    let a = p .before .before .args in
+    refusing (a .option) (textOnly (a .option) (now (a .body))) (c .refuse .ensures)
+    (text-lf (a .option) (now (a .body)) (among-found (now (a .body)) (omega (arith, p .find-lf .ensures, c .before .if1 .taken))))
+
+account-requires : tie.Need-account-requires
+account-requires c κs = search needs
+
+enum-known-outcome : tie.Need-enum-known-outcome
+enum-known-outcome c = search needs
+
+refuse-requires-2 : tie.Need-refuse-requires-2
+refuse-requires-2 c κs = search needs
+
+returns-2 : tie.Need-returns-2
+returns-2 c =
+    let q = c .before .before .before .before in
+    let p = q .before .before in
+    let a = p .before .before .args in
+    refusing (a .option) (textOnly (a .option) (now (a .body))) (c .refuse2 .ensures)
+    (text-line (a .option) (now (a .body)) (among-none (now (a .body)) (omega (arith, p .find-lf .ensures, q .before .if1 .left)))
+    ∙ sym (q .account .ensures) ∙ ap told (c .before .before .outcome .given .1))
+
+enum-told : tie.Need-enum-told
+enum-told c = search needs
+
+slice-aggregate-nameless-party : tie.Need-slice-aggregate-nameless-party
+slice-aggregate-nameless-party c = search needs
+
+nameless-party-requires : tie.Need-nameless-party-requires
+nameless-party-requires c κs = search needs
+
+accept-requires : tie.Need-accept-requires
+accept-requires c κs = search needs
+
+returns-3 : tie.Need-returns-3
+unfolding partyOf
+returns-3 c =
+    let q = c .before .before .before .before .before in
+    let p = q .before .before in
+    let a = p .before .before .args in
+    accepting (a .option) (textOnly (a .option) (now (a .body))) (c .accept .ensures)
+    (text-line (a .option) (now (a .body)) (among-none (now (a .body)) (omega (arith, p .find-lf .ensures, q .before .if1 .left)))
+    ∙ sym (q .account .ensures) ∙ ap told (c .before .before .before .enum-told .given .1))
+    (c .before .nameless-party .ensures)
+
+pub read-text-only-spec : {M : Type 1} → statement M
+read-text-only-spec =
+    tie.close
+    (tie.spec
+    find-lf-requires
+    refuse-requires
+    returns
+    account-requires
+    enum-known-outcome
+    refuse-requires-2
+    returns-2
+    enum-told
+    slice-aggregate-nameless-party
+    nameless-party-requires
+    accept-requires
+    returns-3)

@@ -1,0 +1,49 @@
+-- `reader::short_account_head` meets its contract, by the length. Assumes nothing.
+use mathlib.Core.Path.{_≡_, sym, _∙_, ap}
+use denote.Ref.{now}
+use Rattle.reader.specs.Code.{toldHead}
+use Rattle.reader.proofs.Heads.{short-long, short-fits}
+use borrow.Author.Needs.{needs}
+use Rattle.reader.proofs.short_account_head.Statement.{statement}
+use Rattle.reader.proofs.short_account_head.Tie as tie
+use Rattle.reader.proofs.short_account_head.Reads as reads
+use Rattle.reader.proofs.short_account_head.Lts as lts
+use Rattle.party.proofs.limits_of.Reads as limits-of-reads
+use Rattle.reader.proofs.account_head.Reads as account-head-reads
+use Rattle.reader.proofs.behind.Reads as behind-reads
+use Rattle.reader.proofs.no_head.Reads as no-head-reads
+
+limits-of-requires : tie.Need-limits-of-requires
+limits-of-requires c κs = search needs
+
+behind-requires : tie.Need-behind-requires
+behind-requires c κs = search needs
+
+no-head-requires : tie.Need-no-head-requires
+no-head-requires c κs = search needs
+
+returns : tie.Need-returns
+returns c =
+    let a = c .before .before .before .before .before .before .args in
+    ap (toldHead (now (a .line))) (c .no-head .ensures)
+    ∙ sym (short-long (a .option) (c .before .before .before .before .limits-of .ensures) (now (a .line)) (rw (c .before .before .before .behind .ensures) at (c .before .if1 .taken)))
+
+account-head-requires : tie.Need-account-head-requires
+account-head-requires c κs = search needs
+
+returns-2 : tie.Need-returns-2
+returns-2 c =
+    let a = c .before .before .before .before .before .before .args in
+    c .account-head .ensures
+    ∙ sym (short-fits (a .option) (c .before .before .before .before .limits-of .ensures) (now (a .line)) (rw (c .before .before .before .behind .ensures) at (c .before .if1 .left)))
+
+pub short-account-head-spec : {M : Type 1} → statement M
+short-account-head-spec =
+    tie.close
+    (tie.spec
+    limits-of-requires
+    behind-requires
+    no-head-requires
+    returns
+    account-head-requires
+    returns-2)

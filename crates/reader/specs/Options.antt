@@ -1,0 +1,169 @@
+-- The eleven options' readers (document 01, field50.rs and field59.rs): what each checks, in its order, and what it finds.
+use Prim.Native.Nat.{ℕ}
+use mathlib.Core.Bool.{Bool, true, false, not}
+use mathlib.Core.List.{List, [], _∷_, map}
+use lib.Dec.{leb, eqb}
+use lib.ListN.{length, drop}
+use Rattle.errors.specs.Refusals.{Reply, accepted, refused, must, _then_}
+use Rattle.party.specs.declared.PartyOption.{PartyOption}
+use Rattle.party.specs.declared.PartyOption.the-variants.{Field50NoOption, Field50A, Field50F, Field50K, Field50C, Field50L, Field50G, Field50H, Field59NoOption, Field59A, Field59F}
+use Rattle.party.specs.Limits.{limitsOf}
+use Rattle.swift_utils.specs.Bytes.{all, among, between}
+use Rattle.swift_utils.specs.Checks.{parseAccount, parseBic}
+use Rattle.field_utils.specs.declared.Numbering.{Numbering}
+use Rattle.field_utils.specs.declared.Numbering.the-variants.{Unnumbered, Numbered, InTurn}
+use Rattle.field_utils.specs.Lines.{lines, starts}
+use Rattle.field_utils.specs.Identifier.{Identifier, absent, given, parsePartyIdentifier}
+use Rattle.field_utils.specs.Names.{numberingOf, parseNameAndAddress}
+use Rattle.reader.specs.declared.First.{First}
+use Rattle.reader.specs.declared.First.the-variants.{Name, Identified, Account, ShortAccount, SlashAccount, AnyAccount, WholeLine}
+use Rattle.reader.specs.declared.Layout.{Layout}
+use Rattle.reader.specs.declared.Layout.the-variants.{BicOnly, TextOnly, ByLines}
+use Rattle.reader.specs.Reading.{Reading, giving, Found, partyOf}
+
+-- what the first line is to an option
+abbrev pub firstOf : PartyOption → First
+firstOf Field50NoOption = Name
+firstOf Field50A = Identified
+firstOf Field50F = WholeLine
+firstOf Field50K = Account
+firstOf Field50C = Name
+firstOf Field50L = Name
+firstOf Field50G = SlashAccount
+firstOf Field50H = AnyAccount
+firstOf Field59NoOption = ShortAccount
+firstOf Field59A = ShortAccount
+firstOf Field59F = Identified
+
+-- what is found of an account or identifier in the first line: whether it is there, its text, and what the checks say of it
+pub record Head : Type 0 where
+  pub present : Bool
+  pub text : List ℕ
+  pub reply : Reply
+
+abbrev pub noHead : Head
+noHead = record { present = false; text = []; reply = accepted }
+
+abbrev pub head : List ℕ → Reply → Head
+head text reply = record { present = true; text = text; reply = reply }
+
+-- 50A, 59F: identifier or none
+abbrev pub identifierHead : Identifier → Head
+identifierHead absent = noHead
+identifierHead (given text reply) = head text reply
+
+-- the account's or identifier's length and bytes (2, then 3)
+abbrev pub accountReply : PartyOption → List ℕ → Reply
+accountReply o text = parseAccount (limitsOf o .shortest) (limitsOf o .longest) 1 text
+
+-- its length alone
+abbrev pub lengthReply : PartyOption → List ℕ → Reply
+lengthReply o text = must (between (limitsOf o .shortest) (limitsOf o .longest) (length text)) 2 1
+
+-- a first line that must start with `/`, with what is said of the text after it
+abbrev pub slashHead : List ℕ → Reply → Head
+slashHead l reply = head (drop 1 l) (must (starts 47 l) 2 1 then reply)
+
+-- 50K: a first line with `/` is an account of 0 to 34 legal bytes
+unfoldable pub accountHead : PartyOption → List ℕ → Head
+accountHead o l = elim (starts 47 l) [ true ↦ head (drop 1 l) (accountReply o (drop 1 l)) | false ↦ noHead ]
+
+-- 59, 59A: account as 50K, but `/` with over 34 bytes is taken for a name
+unfoldable pub shortAccountHead : PartyOption → List ℕ → Head
+shortAccountHead o l = elim (leb (length (drop 1 l)) (limitsOf o .longest)) [ true ↦ accountHead o l | false ↦ noHead ]
+
+-- what an option makes of the first line
+abbrev pub headBy : First → PartyOption → List ℕ → Head
+-- 50: a name
+headBy Name o l = noHead
+headBy Identified o l = identifierHead (parsePartyIdentifier o 1 l)
+headBy Account o l = accountHead o l
+headBy ShortAccount o l = shortAccountHead o l
+-- 50G: `/` and 1 to 34 legal bytes
+headBy SlashAccount o l = slashHead l (accountReply o (drop 1 l))
+-- 50H: `/` and 1 to 34 bytes of any kind
+headBy AnyAccount o l = slashHead l (lengthReply o (drop 1 l))
+-- 50F: first is 1 to 35 legal bytes
+headBy WholeLine o l = head l (accountReply o l)
+
+-- what is kept of a line of names: 50F's digits are not, 59F's are
+abbrev pub kept : Numbering → List ℕ → List ℕ
+kept Unnumbered l = l
+kept Numbered l = drop 2 l
+kept InTurn l = l
+
+-- the lines after the head, the first of them body line n: names
+abbrev pub withNames : PartyOption → ℕ → Head → List (List ℕ) → Found
+withNames o n h ls = record {
+  reply = parseNameAndAddress o n ls;
+  present = h .present;
+  account = h .text;
+  bic = [];
+  names = map (kept (numberingOf o)) ls;
+}
+
+-- or a BIC; later lines are ignored, and 8 where it is missing
+abbrev pub withBic : ℕ → Head → List (List ℕ) → Found
+withBic n h [] = record { reply = refused 8 0; present = h .present; account = h .text; bic = []; names = [] }
+withBic n h (l ∷ ls) = record { reply = parseBic n l; present = h .present; account = h .text; bic = l; names = [] }
+
+-- the one or the other, by whether the option has names
+unfoldable pub afterHead : PartyOption → ℕ → Head → List (List ℕ) → Found
+afterHead o n h ls = elim (eqb (limitsOf o .names) 0) [ true ↦ withBic n h ls | false ↦ withNames o n h ls ]
+
+-- a check before those of what is found
+abbrev pub after : Reply → Found → Found
+after r f = record { reply = r then f .reply; present = f .present; account = f .account; bic = f .bic; names = f .names }
+
+-- the head and the lines after it
+abbrev pub fromHead : PartyOption → Head → List (List ℕ) → List (List ℕ) → Found
+fromHead o h all-lines later =
+    elim (h .present) [ true ↦ after (h .reply) (afterHead o 2 h later) | false ↦ after (h .reply) (afterHead o 1 h all-lines) ]
+
+-- 1: a wrong line count at the start; then the first line and the others
+abbrev pub byLines : PartyOption → List (List ℕ) → Found
+byLines o [] = after (refused 1 0) (withBic 1 noHead [])
+byLines o (l ∷ ls) =
+    after (must (between (limitsOf o .least) (limitsOf o .most) (length (l ∷ ls))) 1 0) (fromHead o (headBy (firstOf o) o l) (l ∷ ls) ls)
+
+-- 50C: the whole body is a BIC
+abbrev pub bicOnly : List ℕ → Found
+bicOnly body = record { reply = parseBic 1 body; present = false; account = []; bic = body; names = [] }
+
+-- 50L: no LF (1), 1 to 35 bytes, legal
+abbrev pub textOnly : PartyOption → List ℕ → Found
+textOnly o body = record { reply = must (not (among body 10)) 1 0 then accountReply o body; present = true; account = body; bic = []; names = [] }
+
+-- which of the two an option's body is, or lines
+abbrev pub layoutOf : PartyOption → Layout
+layoutOf Field50NoOption = ByLines
+layoutOf Field50A = ByLines
+layoutOf Field50F = ByLines
+layoutOf Field50K = ByLines
+layoutOf Field50C = BicOnly
+layoutOf Field50L = TextOnly
+layoutOf Field50G = ByLines
+layoutOf Field50H = ByLines
+layoutOf Field59NoOption = ByLines
+layoutOf Field59A = ByLines
+layoutOf Field59F = ByLines
+
+-- what an option finds in a body
+abbrev pub foundBy : Layout → PartyOption → List ℕ → Found
+foundBy BicOnly o body = bicOnly body
+foundBy TextOnly o body = textOnly o body
+foundBy ByLines o body = byLines o (lines body)
+
+-- a byte of at most 127
+abbrev pub ascii : ℕ → Bool
+ascii b = leb b 127
+
+-- 12 body over 2,048; 13 byte above 127
+abbrev pub bodyReply : List ℕ → Reply
+bodyReply body = must (leb (length body) 2048) 12 0 then must (all ascii body) 13 0
+
+-- an option's reader: 12, 13, then the option's own
+unfoldable pub read : PartyOption → List ℕ → Reading
+read o body =
+    let f = foundBy (layoutOf o) o body in
+    giving (bodyReply body then f .reply) (partyOf o f)

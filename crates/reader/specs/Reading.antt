@@ -1,0 +1,50 @@
+-- What a reader gives: a record or a refusal (document 01, 'From the input' and 'Rust forms and their Rattle stand-ins').
+use Prim.Native.Nat.{ℕ}
+use mathlib.Core.Bool.{Bool}
+use mathlib.Core.List.{List, [], _∷_, _++_, map}
+use lib.ListN.{length, take}
+use Rattle.errors.specs.Refusals.{Reply, accepted, refused, told}
+use Rattle.party.specs.declared.PartyOption.{PartyOption}
+use Rattle.party.specs.declared.Text.{Text}
+use Rattle.party.specs.declared.Party.{Party}
+use Rattle.party.specs.Text.{textOf}
+use Rattle.party.specs.Party.{blank}
+use Rattle.reader.specs.declared.Answer.{Answer}
+
+-- accepted with a record, or refused; the record beside a refusal is the blank one
+pub record Reading : Type 0 where
+  pub reply : Reply
+  pub party : Party
+
+-- the record, where the checks pass
+abbrev pub giving : Reply → Party → Reading
+giving accepted p = record { reply = accepted; party = p }
+giving (refused k n) p = record { reply = refused k n; party = blank }
+
+-- an answer of the code in document 01's terms
+abbrev pub toldAnswer : Answer → Reading
+toldAnswer a = record { reply = told (a .outcome); party = a .party }
+
+-- what an option finds in a body: what its checks say in their order, whether the body gave an account or identifier, that text, the
+-- BIC, and the names; a text that the option has not is empty
+pub record Found : Type 0 where
+  pub reply : Reply
+  pub present : Bool
+  pub account : List ℕ
+  pub bic : List ℕ
+  pub names : List (List ℕ)
+
+-- four texts by value: those of a list, then empty ones
+unfoldable pub fourTexts : List (List ℕ) → List Text
+fourTexts names = take 4 (map textOf names ++ (textOf [] ∷ textOf [] ∷ textOf [] ∷ textOf [] ∷ []))
+
+-- the record of what an option found
+unfoldable pub partyOf : PartyOption → Found → Party
+partyOf o f = record {
+  option = o;
+  present = f .present;
+  account = textOf (f .account);
+  bic = textOf (f .bic);
+  count = length (f .names);
+  «name_and_address» = fourTexts (f .names);
+}

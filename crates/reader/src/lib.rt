@@ -1,0 +1,461 @@
+// The readers of the eleven options: one for all, by option. What the Rust writes out in each `parse` of field50.rs and field59.rs
+// is here in parts: the first line, then a BIC or names.
+use errors::{Outcome, ParseError};
+use field_utils::{
+    Numbering,
+    PartyIdentifier,
+    numbering_of,
+    parse_name_and_address,
+    parse_party_identifier,
+    starts_with_slash,
+};
+use field_utils::lines::{Line, Lines, count_lines, find_lf};
+use party::{Party, PartyOption, Text, blank, limits_of, text_of};
+use swift_utils::{parse_account, parse_bic};
+
+ghost use mathlib.Core.Path.{_≡_};
+ghost use mathlib.Core.Bool.{true, false};
+ghost use Prim.Native.Nat.{suc, _≤_, _<_};
+ghost use lib.ListN.{length, drop};
+ghost use Rattle.errors.specs.declared.Outcome.the-variants.{Accepted, Refused};
+ghost use Rattle.party.specs.Limits.{limitsOf};
+ghost use Rattle.party.specs.Party.{blank as blankParty};
+ghost use Rattle.swift_utils.specs.Bytes.{all, between};
+ghost use Rattle.field_utils.specs.Lines.{lines};
+ghost use Rattle.reader.specs.Reading.{toldAnswer, partyOf};
+ghost use Rattle.reader.specs.declared.First.the-variants.{Identified, Account, ShortAccount, SlashAccount, AnyAccount};
+ghost use Rattle.errors.specs.Refusals.{told};
+ghost use Rattle.reader.specs.Options.{firstOf, layoutOf, lengthReply, accountReply, slashHead, headBy, withNames, withBic, afterHead, byLines, bicOnly, textOnly, ascii, bodyReply, read as readOf};
+ghost use Rattle.reader.specs.Code.{toldHead, passedHead, nameless, keptFrom, namesFrom, readingOf};
+
+// What a reader gives: accepted with the record, or refused with the blank record.
+pub struct Answer {
+    pub outcome: Outcome,
+    pub party: Party,
+}
+
+// What the first line is to an option: a name, an identifier, or an account, whose forms differ.
+enum First {
+    Name,
+    Identified,
+    Account,
+    ShortAccount,
+    SlashAccount,
+    AnyAccount,
+    WholeLine,
+}
+
+// What a body is to an option: a BIC, a text, or lines.
+enum Layout {
+    BicOnly,
+    TextOnly,
+    ByLines,
+}
+
+fn first_of(option: PartyOption) -> First
+    ensures { λ r. ⌜ r ≡ firstOf option ⌝ }
+{
+    match option {
+        PartyOption::Field50NoOption => First::Name,
+        PartyOption::Field50A => First::Identified,
+        PartyOption::Field50F => First::WholeLine,
+        PartyOption::Field50K => First::Account,
+        PartyOption::Field50C => First::Name,
+        PartyOption::Field50L => First::Name,
+        PartyOption::Field50G => First::SlashAccount,
+        PartyOption::Field50H => First::AnyAccount,
+        PartyOption::Field59NoOption => First::ShortAccount,
+        PartyOption::Field59A => First::ShortAccount,
+        PartyOption::Field59F => First::Identified,
+    }
+}
+
+fn layout_of(option: PartyOption) -> Layout
+    ensures { λ r. ⌜ r ≡ layoutOf option ⌝ }
+{
+    match option {
+        PartyOption::Field50NoOption => Layout::ByLines,
+        PartyOption::Field50A => Layout::ByLines,
+        PartyOption::Field50F => Layout::ByLines,
+        PartyOption::Field50K => Layout::ByLines,
+        PartyOption::Field50C => Layout::BicOnly,
+        PartyOption::Field50L => Layout::TextOnly,
+        PartyOption::Field50G => Layout::ByLines,
+        PartyOption::Field50H => Layout::ByLines,
+        PartyOption::Field59NoOption => Layout::ByLines,
+        PartyOption::Field59A => Layout::ByLines,
+        PartyOption::Field59F => Layout::ByLines,
+    }
+}
+
+fn accept(party: Party) -> Answer
+    ensures { λ r. ⌜ r ≡ record { outcome = Accepted; party = party } ⌝ }
+{
+    Answer {
+        outcome: Outcome::Accepted,
+        party,
+    }
+}
+
+fn refuse(e: ParseError) -> Answer
+    ensures { λ r. ⌜ r ≡ record { outcome = Refused e; party = blankParty } ⌝ }
+{
+    Answer {
+        outcome: Outcome::Refused(e),
+        party: blank(),
+    }
+}
+
+// Names by value: the first four lines, and how many they are.
+struct Names {
+    count: usize,
+    texts: [Text; 4],
+}
+
+// The bytes of a slice from a place on, none where it is past the end.
+fn behind(s: &[u8], skip: usize) -> &[u8]
+    ensures { λ r. ⌜ now r ≡ drop skip (now (s .entry)) ⌝ }
+{
+    if skip <= s.len() {
+        &s[skip..]
+    } else {
+        &s[..0]
+    }
+}
+
+// What was found of an account or identifier in the first line: its text is the line from skip on.
+struct HeadAt {
+    outcome: Outcome,
+    present: bool,
+    skip: usize,
+}
+
+fn no_head() -> HeadAt
+    ensures { λ r. ⌜ r ≡ record { outcome = Accepted; present = false; skip = 0 } ⌝ }
+{
+    HeadAt {
+        outcome: Outcome::Accepted,
+        present: false,
+        skip: 0,
+    }
+}
+
+fn head(outcome: Outcome, skip: usize) -> HeadAt
+    ensures { λ r. ⌜ r ≡ record { outcome = outcome; present = true; skip = skip } ⌝ }
+{
+    HeadAt {
+        outcome,
+        present: true,
+        skip,
+    }
+}
+
+fn identifier_head(line: &[u8], option: PartyOption) -> HeadAt
+    ensures { λ r. ⌜ toldHead (now (line .entry)) r ≡ headBy Identified option (now (line .entry)) ⌝ }
+{
+    let found = parse_party_identifier(line, 1, option);
+    match found {
+        PartyIdentifier::Absent => no_head(),
+        PartyIdentifier::Present => head(Outcome::Accepted, 1),
+        PartyIdentifier::Refused(e) => head(Outcome::Refused(e), 1),
+    }
+}
+
+// A text as an account: its length, then its bytes.
+fn account(text: &[u8], option: PartyOption) -> Outcome
+    ensures { λ r. ⌜ told r ≡ accountReply option (now (text .entry)) ⌝ }
+{
+    let limits = limits_of(option);
+    parse_account(text, limits.shortest, limits.longest, 1)
+}
+
+// Its length alone.
+fn account_length(text: &[u8], option: PartyOption) -> Outcome
+    ensures { λ r. ⌜ told r ≡ lengthReply option (now (text .entry)) ⌝ }
+{
+    let limits = limits_of(option);
+    let n = text.len();
+    if n < limits.shortest {
+        return Outcome::Refused(ParseError::PartyIdentifier(1));
+    }
+    if limits.longest < n {
+        return Outcome::Refused(ParseError::PartyIdentifier(1));
+    }
+    Outcome::Accepted
+}
+
+fn account_head(line: &[u8], option: PartyOption) -> HeadAt
+    ensures { λ r. ⌜ toldHead (now (line .entry)) r ≡ headBy Account option (now (line .entry)) ⌝ }
+{
+    if !starts_with_slash(line) {
+        return no_head();
+    }
+    head(account(behind(line, 1), option), 1)
+}
+
+fn short_account_head(line: &[u8], option: PartyOption) -> HeadAt
+    ensures { λ r. ⌜ toldHead (now (line .entry)) r ≡ headBy ShortAccount option (now (line .entry)) ⌝ }
+{
+    let limits = limits_of(option);
+    let text = behind(line, 1);
+    if limits.longest < text.len() {
+        return no_head();
+    }
+    account_head(line, option)
+}
+
+// A first line that must start with a slash, with what is said of the text after it.
+fn slash_head(line: &[u8], outcome: Outcome) -> HeadAt
+    ensures { λ r. ⌜ toldHead (now (line .entry)) r ≡ slashHead (now (line .entry)) (told outcome) ⌝ }
+{
+    if starts_with_slash(line) {
+        head(outcome, 1)
+    } else {
+        head(Outcome::Refused(ParseError::PartyIdentifier(1)), 1)
+    }
+}
+
+// What an option makes of the first line.
+fn parse_head(first: First, line: &[u8], option: PartyOption) -> HeadAt
+    ensures { λ r. ⌜ toldHead (now (line .entry)) r ≡ headBy first option (now (line .entry)) ⌝ }
+{
+    match first {
+        First::Name => no_head(),
+        First::Identified => identifier_head(line, option),
+        First::Account => account_head(line, option),
+        First::ShortAccount => short_account_head(line, option),
+        First::SlashAccount => slash_head(line, account(behind(line, 1), option)),
+        First::AnyAccount => slash_head(line, account_length(behind(line, 1), option)),
+        First::WholeLine => head(account(line, option), 0),
+    }
+}
+
+// How many bytes of a line of names are not kept.
+fn kept_from(numbering: Numbering) -> usize
+    ensures { λ r. ⌜ r ≡ keptFrom numbering ⌝ }
+{
+    match numbering {
+        Numbering::Unnumbered => 0,
+        Numbering::Numbered => 2,
+        Numbering::InTurn => 0,
+    }
+}
+
+// The lines from a place on as names by value, the first four.
+fn fill(body: &[u8], from: Lines, numbering: Numbering) -> Names
+    ensures { λ r. ⌜ r ≡ namesFrom numbering (lines (drop (from .at) (now (body .entry)))) ⌝ }
+{
+    let skip = kept_from(numbering);
+    let none = blank();
+    let mut texts = none.name_and_address;
+    let mut cursor = from;
+    let mut count = 0;
+    while count < 4 {
+        let found = cursor.next(body);
+        let Line::Next { start, end, rest } = found else {
+            return Names { count, texts };
+        };
+        texts[count] = text_of(behind(&body[start..end], skip));
+        cursor = rest;
+        count += 1;
+    }
+    Names { count, texts }
+}
+
+// A record without names.
+fn nameless_party(option: PartyOption, present: bool, account: &[u8], bic: &[u8]) -> Party
+    ensures { λ r. ⌜ r ≡ partyOf option (nameless present (now (account .entry)) (now (bic .entry))) ⌝ }
+{
+    let none = blank();
+    let texts = none.name_and_address;
+    Party {
+        option,
+        present,
+        account: text_of(account),
+        bic: text_of(bic),
+        count: 0,
+        name_and_address: texts,
+    }
+}
+
+// The lines from a place on, which start_idx lines precede, as names.
+fn read_names(
+    option: PartyOption,
+    body: &[u8],
+    from: Lines,
+    start_idx: u8,
+    present: bool,
+    account: &[u8],
+) -> Answer
+    ensures { λ r. ⌜ toldAnswer r ≡ readingOf option (withNames option (suc «start_idx») (passedHead present (now (account .entry))) (lines (drop (from .at) (now (body .entry))))) ⌝ }
+{
+    let outcome = parse_name_and_address(body, from, start_idx, option);
+    if let Outcome::Refused(e) = outcome {
+        return refuse(e);
+    }
+    let names = fill(body, from, numbering_of(option));
+    let texts = names.texts;
+    accept(Party {
+        option,
+        present,
+        account: text_of(account),
+        bic: text_of(&body[..0]),
+        count: names.count,
+        name_and_address: texts,
+    })
+}
+
+// The line at a place, which start_idx lines precede, as a BIC.
+fn read_bic(
+    option: PartyOption,
+    body: &[u8],
+    from: Lines,
+    start_idx: u8,
+    present: bool,
+    account: &[u8],
+) -> Answer
+    ensures { λ r. ⌜ toldAnswer r ≡ readingOf option (withBic (suc «start_idx») (passedHead present (now (account .entry))) (lines (drop (from .at) (now (body .entry))))) ⌝ }
+{
+    let found = from.next(body);
+    let Line::Next { start, end, rest: _ } = found else {
+        return refuse(ParseError::BicMissing);
+    };
+    let bic = &body[start..end];
+    let outcome = parse_bic(bic, start_idx as usize + 1);
+    if let Outcome::Refused(e) = outcome {
+        return refuse(e);
+    }
+    accept(nameless_party(option, present, account, bic))
+}
+
+// The lines after the first one, or all, as the option has them.
+fn read_rest(
+    option: PartyOption,
+    body: &[u8],
+    from: Lines,
+    start_idx: u8,
+    present: bool,
+    account: &[u8],
+) -> Answer
+    ensures { λ r. ⌜ toldAnswer r ≡ readingOf option (afterHead option (suc «start_idx») (passedHead present (now (account .entry))) (lines (drop (from .at) (now (body .entry))))) ⌝ }
+{
+    let limits = limits_of(option);
+    if limits.names == 0 {
+        read_bic(option, body, from, start_idx, present, account)
+    } else {
+        read_names(option, body, from, start_idx, present, account)
+    }
+}
+
+// Whether a body of at least one line has as many as the option counts first. Most options count no more than that.
+fn counts(option: PartyOption, body: &[u8]) -> bool
+    requires { ⌜ (0 < length (now body)) × (length (now body) ≤ 2048) ⌝ }
+    ensures { λ r. ⌜ r ≡ between (limitsOf option .least) (limitsOf option .most) (length (lines (now (body .entry)))) ⌝ }
+{
+    let limits = limits_of(option);
+    if limits.least <= 1 {
+        if 2048 <= limits.most {
+            return true;
+        }
+    }
+    let n = count_lines(body);
+    if n < limits.least {
+        return false;
+    }
+    n <= limits.most
+}
+
+fn read_lines(option: PartyOption, body: &[u8]) -> Answer
+    requires { ⌜ length (now body) ≤ 2048 ⌝ }
+    ensures { λ r. ⌜ toldAnswer r ≡ readingOf option (byLines option (lines (now (body .entry)))) ⌝ }
+{
+    let top = Lines { at: 0 };
+    let found = top.next(body);
+    let Line::Next { start, end, rest } = found else {
+        return refuse(ParseError::LineCount);
+    };
+    if !counts(option, body) {
+        return refuse(ParseError::LineCount);
+    }
+    let line = &body[start..end];
+    let head = parse_head(first_of(option), line, option);
+    let outcome = head.outcome;
+    if let Outcome::Refused(e) = outcome {
+        return refuse(e);
+    }
+    if head.present {
+        let skip = head.skip;
+        read_rest(option, body, rest, 1, true, behind(line, skip))
+    } else {
+        read_rest(option, body, top, 0, false, &body[..0])
+    }
+}
+
+// A body that is a BIC.
+fn read_bic_only(option: PartyOption, body: &[u8]) -> Answer
+    ensures { λ r. ⌜ toldAnswer r ≡ readingOf option (bicOnly (now (body .entry))) ⌝ }
+{
+    let outcome = parse_bic(body, 1);
+    if let Outcome::Refused(e) = outcome {
+        return refuse(e);
+    }
+    accept(nameless_party(option, false, &body[..0], body))
+}
+
+// A body that is a text without LF.
+fn read_text_only(option: PartyOption, body: &[u8]) -> Answer
+    ensures { λ r. ⌜ toldAnswer r ≡ readingOf option (textOnly option (now (body .entry))) ⌝ }
+{
+    if find_lf(body, 0) < body.len() {
+        return refuse(ParseError::LineCount);
+    }
+    let outcome = account(body, option);
+    if let Outcome::Refused(e) = outcome {
+        return refuse(e);
+    }
+    accept(nameless_party(option, true, body, &body[..0]))
+}
+
+// Whether no byte is above 127.
+fn is_ascii(body: &[u8]) -> bool
+    ensures { λ r. ⌜ r ≡ all ascii (now (body .entry)) ⌝ }
+{
+    let mut i = 0;
+    while i < body.len() {
+        if 127 < body[i] {
+            return false;
+        }
+        i += 1;
+    }
+    true
+}
+
+// What any body must be: at most 2,048 bytes (12), none above 127 (13).
+pub fn parse_body(body: &[u8]) -> Outcome
+    ensures { λ r. ⌜ told r ≡ bodyReply (now (body .entry)) ⌝ }
+{
+    if 2048 < body.len() {
+        return Outcome::Refused(ParseError::BodyTooLong);
+    }
+    if is_ascii(body) {
+        Outcome::Accepted
+    } else {
+        Outcome::Refused(ParseError::NotAscii)
+    }
+}
+
+// The reader of an option.
+pub fn read(option: PartyOption, body: &[u8]) -> Answer
+    ensures { λ r. ⌜ toldAnswer r ≡ readOf option (now (body .entry)) ⌝ }
+{
+    let outcome = parse_body(body);
+    if let Outcome::Refused(e) = outcome {
+        return refuse(e);
+    }
+    let layout = layout_of(option);
+    match layout {
+        Layout::BicOnly => read_bic_only(option, body),
+        Layout::TextOnly => read_text_only(option, body),
+        Layout::ByLines => read_lines(option, body),
+    }
+}

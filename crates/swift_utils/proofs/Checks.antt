@@ -1,0 +1,52 @@
+-- The cases of parse_swift_chars, parse_account and parse_bic, and that a BIC's length is at least 8. Assumes nothing.
+use mathlib.Core.Path.{_≡_, refl}
+use mathlib.Core.Bool.{Bool, true, false, _||_, and-false, false≢true}
+use mathlib.Core.List.{List}
+use Prim.Native.Nat.{ℕ, _≤_, _<_}
+use native.Mathlib.Omega.{arith}
+use lib.Dec.{leb, eqb}
+use lib.ListN.{length, take, drop}
+use borrow.Author.Tests.{eqb-true, le-leb, lt-leb}
+use Rattle.errors.specs.Refusals.{refused, must}
+use Rattle.swift_utils.specs.Bytes.{all, letter, alphanumeric, legal}
+use Rattle.swift_utils.specs.Checks.{parseSwiftChars, parseAccount, bicLength, parseBic}
+
+pub bicLength-least : (n : ℕ) → bicLength n ≡ true → 8 ≤ n
+unfolding bicLength
+bicLength-least n = go (eqb n 8) (eqb n 11) refl refl
+  where
+    go : (p q : Bool) → eqb n 8 ≡ p → eqb n 11 ≡ q → (p || q) ≡ true → 8 ≤ n
+    go true q e f t = let h = eqb-true n 8 e in omega arith
+    go false true e f t = let h = eqb-true n 11 f in omega arith
+    go false false e f t = absurd (false≢true t)
+
+module _ (n : ℕ) (l : List ℕ) where
+  pub chars : {t : Bool} → all legal l ≡ t → parseSwiftChars n l ≡ must t 3 n
+  unfolding parseSwiftChars
+  chars e = rw e
+
+  module _ (shortest longest : ℕ) where
+    pub account-short : length l < shortest → parseAccount shortest longest n l ≡ refused 2 n
+    unfolding parseAccount
+    account-short h = rw (lt-leb _ _ h)
+
+    pub account-long : longest < length l → parseAccount shortest longest n l ≡ refused 2 n
+    unfolding parseAccount
+    account-long h = rw (lt-leb _ _ h, and-false (leb shortest (length l)))
+
+    pub account-fits : shortest ≤ length l → length l ≤ longest → parseAccount shortest longest n l ≡ parseSwiftChars n l
+    unfolding parseAccount
+    account-fits h k = rw (le-leb _ _ h, le-leb _ _ k)
+
+  pub bic-length : bicLength (length l) ≡ false → parseBic n l ≡ refused 9 n
+  unfolding parseBic
+  bic-length e = rw e
+
+  module _ (h : bicLength (length l) ≡ true) where
+    pub bic-bank : all letter (take 6 l) ≡ false → parseBic n l ≡ refused 10 n
+    unfolding parseBic
+    bic-bank e = rw (h, e)
+
+    pub bic-rest : {t : Bool} → all letter (take 6 l) ≡ true → all alphanumeric (drop 6 l) ≡ t → parseBic n l ≡ must t 10 n
+    unfolding parseBic
+    bic-rest e f = rw (h, e, f)

@@ -1,0 +1,4 @@
+pub mod Table
+pub mod Classes
+pub mod Checks
+pub mod Parts

@@ -1,0 +1,106 @@
+-- `swift_utils::parse_bic` meets its contract: a case of the rule for each way through the tests. Assumes nothing.
+use mathlib.Core.Path.{_≡_, sym, _∙_, ap}
+use mathlib.Core.Bool.{Bool, true}
+use mathlib.Core.List.{List}
+use Prim.Native.Nat.{ℕ, _≤_}
+use native.Mathlib.Omega.{arith}
+use denote.Ref.{now}
+use lib.ListN.{length, take, drop}
+use lib.Seq.{length-take-le}
+use borrow.Author.Tests.{not-true, not-false}
+use Rattle.errors.specs.Refusals.{must}
+use Rattle.swift_utils.specs.Bytes.{all, letter, alphanumeric}
+use Rattle.swift_utils.specs.Classes.{atLeast}
+use Rattle.swift_utils.specs.Checks.{bicLength, parseBic}
+use Rattle.swift_utils.proofs.Classes.{class-letter, class-alphanumeric, by-class}
+use Rattle.swift_utils.proofs.Checks.{bicLength-least, bic-length, bic-bank, bic-rest}
+use borrow.Author.Needs.{needs}
+use Rattle.swift_utils.proofs.Parts.{part-end}
+use Rattle.swift_utils.proofs.parse_bic.Statement.{statement}
+use Rattle.swift_utils.proofs.parse_bic.Tie as tie
+
+-- past the test of the length
+module _ (c : tie.Else1) where
+  abbrev input : List ℕ
+  input = now (c .before .before .before .args .input)
+
+  abbrev line : ℕ
+  line = c .before .before .before .args .line
+
+  right : bicLength (length input) ≡ true
+  right = sym (c .before .is-bic-length .ensures) ∙ not-false _ (c .if1 .left)
+
+  long : 8 ≤ length input
+  long = bicLength-least _ right
+
+-- past the test of the first six
+module _ (c : tie.After-all-at-least) where
+  abbrev tested : tie.Else1
+  tested = c .before .before
+
+  bank : {t : Bool} → c .all-at-least .result ≡ t → all letter (take 6 (input tested)) ≡ t
+  bank e = by-class 3 letter class-letter (take 6 (input tested)) (c .all-at-least .ensures) e
+
+-- past the test of the rest
+module _ (c : tie.After-all-at-least2) where
+  abbrev six : tie.After-all-at-least
+  six = c .before .before .before
+
+  rest : {t : Bool} → c .all-at-least2 .result ≡ t → must t 10 (line (tested six)) ≡ parseBic (line (tested six)) (input (tested six))
+  rest e =
+      sym
+      (bic-rest (line (tested six)) (input (tested six)) (right (tested six)) (bank six (not-false _ (c .before .before .if2 .left)))
+      (by-class 2 alphanumeric class-alphanumeric (drop 6 (input (tested six))) (c .all-at-least2 .ensures ∙ ap (all (atLeast 2)) (part-end (input (tested six)) 6)) e))
+
+is-bic-length-requires : tie.Need-is-bic-length-requires
+is-bic-length-requires c κs = search needs
+
+returns : tie.Need-returns
+returns c =
+    let a = c .before .before .before .args in
+    sym (bic-length (a .line) (now (a .input)) (sym (c .before .is-bic-length .ensures) ∙ not-true _ (c .if1 .taken)))
+
+slice-aggregate-bank-and-country : tie.Need-slice-aggregate-bank-and-country
+slice-aggregate-bank-and-country c = sym (length-take-le 6 (input (c .before)) (omega (arith, long (c .before))))
+
+all-at-least-requires : tie.Need-all-at-least-requires
+all-at-least-requires c κs = search needs
+
+returns-2 : tie.Need-returns-2
+returns-2 c =
+    let t = tested (c .before) in
+    sym (bic-bank (line t) (input t) (right t) (bank (c .before) (not-true _ (c .if2 .taken))))
+
+sub-location-and-branch : tie.Need-sub-location-and-branch
+sub-location-and-branch c = omega (arith, long (tested (c .before)))
+
+part-location-and-branch-start : tie.Need-part-location-and-branch-start
+part-location-and-branch-start c = omega (arith, long (tested (c .before)))
+
+part-location-and-branch-end : tie.Need-part-location-and-branch-end
+part-location-and-branch-end c = search needs
+
+all-at-least-requires-2 : tie.Need-all-at-least-requires-2
+all-at-least-requires-2 c κs = search needs
+
+returns-3 : tie.Need-returns-3
+returns-3 c = rest (c .before) (c .if3 .taken)
+
+returns-4 : tie.Need-returns-4
+returns-4 c = rest (c .before) (c .if3 .left)
+
+pub parse-bic-spec : {M : Type 1} → statement M
+parse-bic-spec =
+    tie.close
+    (tie.spec
+    is-bic-length-requires
+    returns
+    slice-aggregate-bank-and-country
+    all-at-least-requires
+    returns-2
+    sub-location-and-branch
+    part-location-and-branch-start
+    part-location-and-branch-end
+    all-at-least-requires-2
+    returns-3
+    returns-4)
