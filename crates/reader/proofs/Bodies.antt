@@ -3,7 +3,6 @@ use mathlib.Core.Path.{_≡_, refl, sym, _∙_, ap}
 use mathlib.Core.Bool.{Bool, true, false}
 use mathlib.Core.List.{List, [], _∷_}
 use Prim.Native.Nat.{ℕ, _≤_}
-use lib.Dec.{leb}
 use lib.ListN.{length, drop}
 use borrow.Author.Tests.{leb-true}
 use Rattle.errors.specs.declared.ParseError.{ParseError}
@@ -14,7 +13,7 @@ use Rattle.party.specs.Limits.{limitsOf}
 use Rattle.party.specs.Party.{blank}
 use Rattle.swift_utils.specs.Bytes.{all, between}
 use Rattle.reader.specs.declared.HeadAt.{HeadAt}
-use Rattle.reader.specs.Reading.{Reading, giving, Found, partyOf}
+use Rattle.reader.specs.Reading.{giving, Found, partyOf}
 use Rattle.reader.specs.Options.{Head, firstOf, headBy, afterHead, after, fromHead, byLines, layoutOf, foundBy, ascii, bodyReply, read}
 use Rattle.reader.specs.Code.{toldHead, passedHead, readingOf}
 

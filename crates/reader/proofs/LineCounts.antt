@@ -1,5 +1,5 @@
 -- How many lines a body has, and whether it has an LF. Assumes nothing.
-use mathlib.Core.Path.{_≡_, refl, sym, _∙_, ap}
+use mathlib.Core.Path.{_≡_, refl, sym, _∙_}
 use mathlib.Core.Bool.{Bool, true, false, _&&_, _||_, and-false, or-true, false≢true}
 use mathlib.Core.List.{List, [], _∷_}
 use Prim.Native.Nat.{ℕ, suc, _≤_, _<_}
@@ -43,6 +43,7 @@ lines-some (b ∷ l) h = go (eqb b 10) (eqb b 13 && starts 10 l) refl refl (line
     started : (m : List ℕ) → (eqb b 13 && starts 10 m) ≡ true → 0 < length m
     started [] e = absurd (false≢true (sym (and-false (eqb b 13)) ∙ e))
     started (a ∷ m) e = omega arith
+
     go : (p q : Bool) → eqb b 10 ≡ p → (eqb b 13 && starts 10 l) ≡ q → (0 < length l → 0 < length (lines l)) → 0 < length (lines (b ∷ l))
     go true q e f ih = rw (e, lines) (omega arith)
     go false true e f ih = rw (e, lines) (rw f (ih (started l f)))

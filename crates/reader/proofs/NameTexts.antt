@@ -71,13 +71,14 @@ filled-more skip ls n texts later l t x h f e k =
     let size : length (take n (map (drop skip) ls)) ≡ n = length-take-le n (map (drop skip) ls) (omega (arith, f .enough, length-map ls (drop skip))) in
     record {
       texts-are =
-        ap (λ (w : List Text). set w n x) (f .texts-are)
-        ∙ ap (set (fourTexts (take n (map (drop skip) ls))) n) k
-        ∙ ap (λ (m : ℕ). set (fourTexts (take n (map (drop skip) ls))) m (textOf (drop skip l))) (sym size)
-        ∙ four-more (take n (map (drop skip) ls)) (drop skip l) (omega (arith, size))
-        ∙ ap fourTexts (sym (take-next (drop skip) n ls l t next) ∙ ap (λ (m : ℕ). take m (map (drop skip) ls)) (sym (add-one n)));
+          ap (λ (w : List Text). set w n x) (f .texts-are)
+          ∙ ap (set (fourTexts (take n (map (drop skip) ls))) n) k
+          ∙ ap (λ (m : ℕ). set (fourTexts (take n (map (drop skip) ls))) m (textOf (drop skip l))) (sym size)
+          ∙ four-more (take n (map (drop skip) ls)) (drop skip l) (omega (arith, size))
+          ∙ ap fourTexts (sym (take-next (drop skip) n ls l t next) ∙ ap (λ (m : ℕ). take m (map (drop skip) ls)) (sym (add-one n)));
       left = rw add-one (sym (drop-next n ls l t next));
-      enough = omega (arith, left-some n ls l t next) }
+      enough = omega (arith, left-some n ls l t next);
+    }
 
 -- the names as they are kept
 kept-from : (f : Numbering) (ls : List (List ℕ)) → map (drop (keptFrom f)) ls ≡ map (kept f) ls
@@ -93,7 +94,7 @@ filled-all f skip ls n texts s h k =
     let short = left-none n ls (sym (h .left)) in
     let count : n ≡ min 4 (length ls) = omega (arith, h .enough) in
     let are : texts ≡ fourTexts (map (kept f) ls) =
-      h .texts-are ∙ ap fourTexts (take-all n (map (drop skip) ls) (omega (arith, length-map ls (drop skip))) ∙ ap (λ (m : ℕ). map (drop m) ls) s ∙ kept-from f ls) in
+    h .texts-are ∙ ap fourTexts (take-all n (map (drop skip) ls) (omega (arith, length-map ls (drop skip))) ∙ ap (λ (m : ℕ). map (drop m) ls) s ∙ kept-from f ls) in
     λ i. record { count = count i; texts = are i }
 
 pub filled-four : (f : Numbering) (skip : ℕ) (ls : List (List ℕ)) (texts : List Text) (later : List (List ℕ)) (n : ℕ) → skip ≡ keptFrom f → Filled skip ls n texts later → n ≡ 4
@@ -102,6 +103,6 @@ unfolding namesFrom
 filled-four f skip ls texts later n s h k =
     let count : n ≡ min 4 (length ls) = omega (arith, h .enough) in
     let are : texts ≡ fourTexts (map (kept f) ls) =
-      h .texts-are ∙ ap (λ (m : ℕ). fourTexts (take m (map (drop skip) ls))) k ∙ four-first (map (drop skip) ls)
-      ∙ ap fourTexts (ap (λ (m : ℕ). map (drop m) ls) s ∙ kept-from f ls) in
+    h .texts-are ∙ ap (λ (m : ℕ). fourTexts (take m (map (drop skip) ls))) k ∙ four-first (map (drop skip) ls)
+    ∙ ap fourTexts (ap (λ (m : ℕ). map (drop m) ls) s ∙ kept-from f ls) in
     λ i. record { count = count i; texts = are i }

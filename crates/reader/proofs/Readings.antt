@@ -41,8 +41,8 @@ module _ (o : PartyOption) (f : Found) {r : Answer} where
 -- a record without names
 pub party-nameless : (o : PartyOption) (present : Bool) (account bic : List ℕ) {t u : Text} {p : Party} → t ≡ textOf account → u ≡ textOf bic → p ≡ blank
     → _≡_ {A = Party}
-      (record { option = o; present = present; account = t; bic = u; count = 0; «name_and_address» = p .«name_and_address» })
-      (partyOf o (nameless present account bic))
+    (record { option = o; present = present; account = t; bic = u; count = 0; «name_and_address» = p .«name_and_address» })
+    (partyOf o (nameless present account bic))
 unfolding partyOf fourTexts
 party-nameless o present account bic e f g =
     λ i. record { option = o; present = present; account = e i; bic = f i; count = 0; «name_and_address» = g i .«name_and_address» }
@@ -51,14 +51,14 @@ party-nameless o present account bic e f g =
 pub party-named : (o : PartyOption) (n : ℕ) (h : Head) (ls : List (List ℕ)) {g : Numbering} {t u : Text} {m : Names} → length ls ≤ 4
     → g ≡ numberingOf o → t ≡ textOf (h .text) → u ≡ textOf [] → m ≡ namesFrom g ls
     → _≡_ {A = Party}
-      (record { option = o; present = h .present; account = t; bic = u; count = m .count; «name_and_address» = m .texts })
-      (partyOf o (withNames o n h ls))
+    (record { option = o; present = h .present; account = t; bic = u; count = m .count; «name_and_address» = m .texts })
+    (partyOf o (withNames o n h ls))
 unfolding partyOf namesFrom
 party-named o n h ls {g} {m = m} k a e f d =
     let fit : min 4 (length ls) ≡ length ls = omega arith in
     let count : m .count ≡ length (map (kept (numberingOf o)) ls) = ap (λ (w : Names). w .count) d ∙ fit ∙ sym (length-map ls (kept (numberingOf o))) in
     let texts : m .texts ≡ fourTexts (map (kept (numberingOf o)) ls) =
-      ap (λ (w : Names). w .texts) d ∙ ap (λ (w : Numbering). fourTexts (map (kept w) ls)) a in
+    ap (λ (w : Names). w .texts) d ∙ ap (λ (w : Numbering). fourTexts (map (kept w) ls)) a in
     λ i. record { option = o; present = h .present; account = e i; bic = f i; count = count i; «name_and_address» = texts i }
 
 -- a body that is a text, with and without an LF

@@ -3,7 +3,7 @@ use Prim.Native.Nat.{ℕ, min}
 use mathlib.Core.Bool.{Bool, true, false}
 use mathlib.Core.List.{List, [], map}
 use lib.ListN.{length, drop}
-use Rattle.errors.specs.Refusals.{Reply, accepted, told}
+use Rattle.errors.specs.Refusals.{accepted, told}
 use Rattle.party.specs.declared.PartyOption.{PartyOption}
 use Rattle.field_utils.specs.declared.Numbering.{Numbering}
 use Rattle.field_utils.specs.declared.Numbering.the-variants.{Unnumbered, Numbered, InTurn}

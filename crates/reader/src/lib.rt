@@ -1,18 +1,25 @@
 // The readers of the eleven options: one for all, by option. What the Rust writes out in each `parse` of field50.rs and field59.rs
 // is here in parts: the first line, then a BIC or names.
-use errors::{Outcome, ParseError};
-use field_utils::{
-    Numbering,
-    PartyIdentifier,
-    numbering_of,
-    parse_name_and_address,
-    parse_party_identifier,
-    starts_with_slash,
-};
-use field_utils::lines::{Line, Lines, count_lines, find_lf};
-use party::{Party, PartyOption, Text, blank, limits_of, text_of};
-use swift_utils::{parse_account, parse_bic};
-
+use errors::Outcome;
+use errors::ParseError;
+use field_utils::Numbering;
+use field_utils::PartyIdentifier;
+use field_utils::lines::Line;
+use field_utils::lines::Lines;
+use field_utils::lines::count_lines;
+use field_utils::lines::find_lf;
+use field_utils::numbering_of;
+use field_utils::parse_name_and_address;
+use field_utils::parse_party_identifier;
+use field_utils::starts_with_slash;
+use party::Party;
+use party::PartyOption;
+use party::Text;
+use party::blank;
+use party::limits_of;
+use party::text_of;
+use swift_utils::parse_account;
+use swift_utils::parse_bic;
 ghost use mathlib.Core.Path.{_≡_};
 ghost use mathlib.Core.Bool.{true, false};
 ghost use Prim.Native.Nat.{suc, _≤_, _<_};
@@ -116,11 +123,7 @@ struct Names {
 fn behind(s: &[u8], skip: usize) -> &[u8]
     ensures { λ r. ⌜ now r ≡ drop skip (now (s .entry)) ⌝ }
 {
-    if skip <= s.len() {
-        &s[skip..]
-    } else {
-        &s[..0]
-    }
+    if skip <= s.len() { &s[skip..] } else { &s[..0] }
 }
 
 // What was found of an account or identifier in the first line: its text is the line from skip on.
@@ -317,7 +320,12 @@ fn read_bic(
     ensures { λ r. ⌜ toldAnswer r ≡ readingOf option (withBic (suc «start_idx») (passedHead present (now (account .entry))) (lines (drop (from .at) (now (body .entry))))) ⌝ }
 {
     let found = from.next(body);
-    let Line::Next { start, end, rest: _ } = found else {
+    let Line::Next {
+        start,
+        end,
+        rest: _,
+    } = found
+    else {
         return refuse(ParseError::BicMissing);
     };
     let bic = &body[start..end];

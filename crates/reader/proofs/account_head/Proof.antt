@@ -1,5 +1,5 @@
 -- `reader::account_head` meets its contract, by the first byte. Assumes nothing.
-use mathlib.Core.Path.{_≡_, sym, _∙_, ap}
+use mathlib.Core.Path.{sym, _∙_, ap}
 use denote.Ref.{now}
 use lib.ListN.{drop}
 use borrow.Author.Tests.{not-true, not-false}
@@ -9,13 +9,6 @@ use Rattle.reader.proofs.Heads.{account-none, account-some}
 use borrow.Author.Needs.{needs}
 use Rattle.reader.proofs.account_head.Statement.{statement}
 use Rattle.reader.proofs.account_head.Tie as tie
-use Rattle.reader.proofs.account_head.Reads as reads
-use Rattle.reader.proofs.account_head.Lts as lts
-use Rattle.field_utils.proofs.starts_with_slash.Reads as starts-with-slash-reads
-use Rattle.reader.proofs.account.Reads as account-reads
-use Rattle.reader.proofs.behind.Reads as behind-reads
-use Rattle.reader.proofs.head.Reads as head-reads
-use Rattle.reader.proofs.no_head.Reads as no-head-reads
 
 starts-with-slash-requires : tie.Need-starts-with-slash-requires
 starts-with-slash-requires c κs = search needs

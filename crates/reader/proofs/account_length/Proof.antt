@@ -5,9 +5,6 @@ use Rattle.reader.proofs.Heads.{length-short, length-long, length-fits}
 use borrow.Author.Needs.{needs}
 use Rattle.reader.proofs.account_length.Statement.{statement}
 use Rattle.reader.proofs.account_length.Tie as tie
-use Rattle.reader.proofs.account_length.Reads as reads
-use Rattle.reader.proofs.account_length.Lts as lts
-use Rattle.party.proofs.limits_of.Reads as limits-of-reads
 
 limits-of-requires : tie.Need-limits-of-requires
 limits-of-requires c κs = search needs

@@ -1,5 +1,5 @@
 -- `reader::counts` meets its contract: a body has at least one line and at most as many as bytes. Assumes nothing.
-use mathlib.Core.Path.{_≡_, sym, _∙_, ap}
+use mathlib.Core.Path.{sym, _∙_, ap}
 use Prim.Native.Nat.{ℕ}
 use native.Mathlib.Omega.{arith}
 use lib.Dec.{leb}
@@ -10,10 +10,6 @@ use Rattle.reader.proofs.LineCounts.{lines-some, lines-most, counts-eno
 use borrow.Author.Needs.{needs}
 use Rattle.reader.proofs.counts.Statement.{statement}
 use Rattle.reader.proofs.counts.Tie as tie
-use Rattle.reader.proofs.counts.Reads as reads
-use Rattle.reader.proofs.counts.Lts as lts
-use Rattle.field_utils.proofs.lines.count_lines.Reads as count-lines-reads
-use Rattle.party.proofs.limits_of.Reads as limits-of-reads
 
 limits-of-requires : tie.Need-limits-of-requires
 limits-of-requires c κs = search needs

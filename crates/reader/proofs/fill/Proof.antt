@@ -1,5 +1,5 @@
 -- `reader::fill` meets its contract: after each turn the lines passed are filled, and the others are left. Assumes nothing.
-use mathlib.Core.Path.{_≡_, _∙_, ap, subst}
+use mathlib.Core.Path.{_∙_, ap, subst}
 use Prim.Native.Nat.{_-_, _≤_}
 use native.Mathlib.Omega.{arith}
 use denote.Ref.{now}
@@ -13,13 +13,6 @@ use Rattle.reader.specs.Reading.{fourTexts}
 use Rattle.reader.proofs.NameTexts.{Filled, filled-none, filled-more, filled-all, filled-four}
 use Rattle.reader.proofs.fill.Statement.{statement}
 use Rattle.reader.proofs.fill.Tie as tie
-use Rattle.reader.proofs.fill.Reads as reads
-use Rattle.reader.proofs.fill.Lts as lts
-use Rattle.field_utils.proofs.lines.Lines.next.Reads as next-reads
-use Rattle.party.proofs.blank.Reads as blank-reads
-use Rattle.party.proofs.text_of.Reads as text-of-reads
-use Rattle.reader.proofs.behind.Reads as behind-reads
-use Rattle.reader.proofs.kept_from.Reads as kept-from-reads
 
 abbrev Inv-loop : tie.InvT-loop
 Inv-loop body skip texts₀ cursor₀ count₀ texts cursor count = (count ≤ 4) × Filled skip (lines (drop (cursor₀ .at) body)) count texts (lines (drop (cursor .at) body))
@@ -35,7 +28,7 @@ blank-requires c κs = search needs
 
 -- what the line that was found says
 fits : (c : tie.After-known-told Inv-loop μ-loop) → let v = c .before .found .given .0 in
-       Found (now (c .before .before .before .before .before .before .before .before .before .before .args .body)) (c .before .before .before .before .before .loop .cursor .at) (v .0) (v .1 .0) (v .1 .1 .0 .at)
+    Found (now (c .before .before .before .before .before .before .before .before .before .before .args .body)) (c .before .before .before .before .before .loop .cursor .at) (v .0) (v .1 .0) (v .1 .1 .0 .at)
 fits c = found (now (c .before .before .before .before .before .before .before .before .before .before .args .body)) (c .before .before .before .before .before .loop .cursor .at) (c .before .before .before .next .ensures) (c .before .found .given .1)
 
 loop-holds : tie.Need-loop-holds Inv-loop μ-loop
@@ -89,10 +82,11 @@ loop-less c = omega arith
 loop-again : tie.Need-loop-again Inv-loop μ-loop
 loop-again c =
     let k = c .before .before .before in
-    let t = k .before .before .before .before .before in
-    (omega arith,
+    let t = k .before .before .before .before .before in (
+      omega arith,
       filled-more _ _ (t .loop .count) (t .loop .texts) _ _ _ _ (k .before .before .before .before .loop-test .taken) (t .loop .inv .1) (fits k .line)
-      (c .text-of .ensures ∙ ap textOf (c .before .behind .ensures)))
+          (c .text-of .ensures ∙ ap textOf (c .before .behind .ensures)),
+    )
 
 returns-2 : tie.Need-returns-2 Inv-loop μ-loop
 returns-2 c =

@@ -1,18 +1,12 @@
 -- `reader::identifier_head` meets its contract, by what was found. Assumes nothing.
-use mathlib.Core.Path.{_≡_, sym, _∙_, ap}
+use mathlib.Core.Path.{sym, _∙_, ap}
 use denote.Ref.{now}
-use Rattle.field_utils.specs.declared.PartyIdentifier.{PartyIdentifier}
 use Rattle.field_utils.specs.Identifier.{toldIdentifier}
 use Rattle.reader.specs.Code.{toldHead}
 use Rattle.reader.specs.Options.{identifierHead}
 use borrow.Author.Needs.{needs}
 use Rattle.reader.proofs.identifier_head.Statement.{statement}
 use Rattle.reader.proofs.identifier_head.Tie as tie
-use Rattle.reader.proofs.identifier_head.Reads as reads
-use Rattle.reader.proofs.identifier_head.Lts as lts
-use Rattle.field_utils.proofs.parse_party_identifier.Reads as parse-party-identifier-reads
-use Rattle.reader.proofs.head.Reads as head-reads
-use Rattle.reader.proofs.no_head.Reads as no-head-reads
 
 parse-party-identifier-requires : tie.Need-parse-party-identifier-requires
 parse-party-identifier-requires c κs = search needs

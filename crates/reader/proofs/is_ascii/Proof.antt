@@ -11,8 +11,6 @@ use Rattle.swift_utils.proofs.Parts.{part, part-end}
 use Rattle.reader.specs.Options.{ascii}
 use Rattle.reader.proofs.is_ascii.Statement.{statement}
 use Rattle.reader.proofs.is_ascii.Tie as tie
-use Rattle.reader.proofs.is_ascii.Reads as reads
-use Rattle.reader.proofs.is_ascii.Lts as lts
 
 abbrev Inv-loop : tie.InvT-loop
 Inv-loop body i₀ i = (i ≤ length body) × (all ascii body ≡ all ascii (part i (length body) body))

@@ -4,10 +4,6 @@ use Rattle.reader.proofs.Readings.{party-nameless}
 use borrow.Author.Needs.{needs}
 use Rattle.reader.proofs.nameless_party.Statement.{statement}
 use Rattle.reader.proofs.nameless_party.Tie as tie
-use Rattle.reader.proofs.nameless_party.Reads as reads
-use Rattle.reader.proofs.nameless_party.Lts as lts
-use Rattle.party.proofs.blank.Reads as blank-reads
-use Rattle.party.proofs.text_of.Reads as text-of-reads
 
 blank-requires : tie.Need-blank-requires
 blank-requires c κs = search needs

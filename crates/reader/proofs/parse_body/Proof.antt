@@ -1,12 +1,9 @@
 -- `reader::parse_body` meets its contract. Assumes nothing.
-use mathlib.Core.Path.{_≡_, sym, _∙_}
+use mathlib.Core.Path.{sym, _∙_}
 use borrow.Author.Tests.{le-leb, lt-leb}
 use borrow.Author.Needs.{needs}
 use Rattle.reader.proofs.parse_body.Statement.{statement}
 use Rattle.reader.proofs.parse_body.Tie as tie
-use Rattle.reader.proofs.parse_body.Reads as reads
-use Rattle.reader.proofs.parse_body.Lts as lts
-use Rattle.reader.proofs.is_ascii.Reads as is-ascii-reads
 
 returns : tie.Need-returns
 returns c = rw (lt-leb _ _ (c .if1 .taken))

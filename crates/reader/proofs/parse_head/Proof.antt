@@ -10,17 +10,6 @@ use Rattle.reader.specs.Options.{lengthReply, accountReply, slashHead, h
 use borrow.Author.Needs.{needs}
 use Rattle.reader.proofs.parse_head.Statement.{statement}
 use Rattle.reader.proofs.parse_head.Tie as tie
-use Rattle.reader.proofs.parse_head.Reads as reads
-use Rattle.reader.proofs.parse_head.Lts as lts
-use Rattle.reader.proofs.account.Reads as account-reads
-use Rattle.reader.proofs.account_head.Reads as account-head-reads
-use Rattle.reader.proofs.account_length.Reads as account-length-reads
-use Rattle.reader.proofs.behind.Reads as behind-reads
-use Rattle.reader.proofs.head.Reads as head-reads
-use Rattle.reader.proofs.identifier_head.Reads as identifier-head-reads
-use Rattle.reader.proofs.no_head.Reads as no-head-reads
-use Rattle.reader.proofs.short_account_head.Reads as short-account-head-reads
-use Rattle.reader.proofs.slash_head.Reads as slash-head-reads
 
 by : (o : PartyOption) {f g : First} (l : List ℕ) → f ≡ g → headBy g o l ≡ headBy f o l
 by o l e = ap (λ (k : First). headBy k o l) (sym e)

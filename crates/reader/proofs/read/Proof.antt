@@ -13,14 +13,6 @@ use Rattle.reader.proofs.Bodies.{body-refused, body-passed, body-length
 use borrow.Author.Needs.{needs}
 use Rattle.reader.proofs.read.Statement.{statement}
 use Rattle.reader.proofs.read.Tie as tie
-use Rattle.reader.proofs.read.Reads as reads
-use Rattle.reader.proofs.read.Lts as lts
-use Rattle.reader.proofs.layout_of.Reads as layout-of-reads
-use Rattle.reader.proofs.parse_body.Reads as parse-body-reads
-use Rattle.reader.proofs.read_bic_only.Reads as read-bic-only-reads
-use Rattle.reader.proofs.read_lines.Reads as read-lines-reads
-use Rattle.reader.proofs.read_text_only.Reads as read-text-only-reads
-use Rattle.reader.proofs.refuse.Reads as refuse-reads
 
 -- past 12 and 13
 passed : (c : tie.After-enum-told) → bodyReply (now (c .before .before .before .before .args .body)) ≡ accepted

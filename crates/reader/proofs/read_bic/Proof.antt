@@ -18,24 +18,17 @@ use Rattle.reader.proofs.Readings.{refusing, accepting}
 use borrow.Author.Needs.{needs}
 use Rattle.reader.proofs.read_bic.Statement.{statement}
 use Rattle.reader.proofs.read_bic.Tie as tie
-use Rattle.reader.proofs.read_bic.Reads as reads
-use Rattle.reader.proofs.read_bic.Lts as lts
-use Rattle.field_utils.proofs.lines.Lines.next.Reads as next-reads
-use Rattle.reader.proofs.accept.Reads as accept-reads
-use Rattle.reader.proofs.nameless_party.Reads as nameless-party-reads
-use Rattle.reader.proofs.refuse.Reads as refuse-reads
-use Rattle.swift_utils.proofs.parse_bic.Reads as parse-bic-reads
 
 -- what the line that was found says
 fits : (c : tie.After-known-told) → let v = c .before .found .given .0 in let a = c .before .before .before .before .before .before .args in
-       Found (now (a .body)) (a .from .at) (v .0) (v .1 .0) (v .1 .1 .0 .at)
+    Found (now (a .body)) (a .from .at) (v .0) (v .1 .0) (v .1 .1 .0 .at)
 fits c =
     let a = c .before .before .before .before .before .before .args in
     found (now (a .body)) (a .from .at) (c .before .before .before .next .ensures) (c .before .found .given .1)
 
 -- what is said of it
 said : (c : tie.After-parse-bic) → let k = c .before .before in let a = k .before .before .before .before .before .before .args in
-       withBic (suc (a .start-idx)) (passedHead (a .present) (now (a .account))) (lines (drop (a .from .at) (now (a .body)))) .reply ≡ told (c .parse-bic .result)
+    withBic (suc (a .start-idx)) (passedHead (a .present) (now (a .account))) (lines (drop (a .from .at) (now (a .body)))) .reply ≡ told (c .parse-bic .result)
 said c =
     let k = c .before .before in
     let a = k .before .before .before .before .before .before .args in

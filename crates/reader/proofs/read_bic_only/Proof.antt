@@ -1,5 +1,5 @@
 -- `reader::read_bic_only` meets its contract. Assumes nothing.
-use mathlib.Core.Path.{_≡_, sym, _∙_, ap}
+use mathlib.Core.Path.{sym, _∙_, ap}
 use denote.Ref.{now}
 use Rattle.errors.specs.Refusals.{told}
 use Rattle.reader.specs.Reading.{partyOf}
@@ -8,12 +8,6 @@ use Rattle.reader.proofs.Readings.{refusing, accepting}
 use borrow.Author.Needs.{needs}
 use Rattle.reader.proofs.read_bic_only.Statement.{statement}
 use Rattle.reader.proofs.read_bic_only.Tie as tie
-use Rattle.reader.proofs.read_bic_only.Reads as reads
-use Rattle.reader.proofs.read_bic_only.Lts as lts
-use Rattle.reader.proofs.accept.Reads as accept-reads
-use Rattle.reader.proofs.nameless_party.Reads as nameless-party-reads
-use Rattle.reader.proofs.refuse.Reads as refuse-reads
-use Rattle.swift_utils.proofs.parse_bic.Reads as parse-bic-reads
 
 parse-bic-requires : tie.Need-parse-bic-requires
 parse-bic-requires c κs = search needs

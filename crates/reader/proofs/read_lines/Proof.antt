@@ -1,6 +1,6 @@
 -- `reader::read_lines` meets its contract: the count, the first line, then the lines after it. Assumes nothing.
 use mathlib.Core.Path.{_≡_, sym, _∙_, ap}
-use mathlib.Core.Bool.{Bool, true, false}
+use mathlib.Core.Bool.{Bool, false}
 use mathlib.Core.List.{List, [], _∷_}
 use Prim.Native.Nat.{ℕ}
 use native.Mathlib.Omega.{arith}
@@ -21,27 +21,18 @@ use Rattle.reader.proofs.Bodies.{lines-count, head-refused, head-there,
 use borrow.Author.Needs.{needs}
 use Rattle.reader.proofs.read_lines.Statement.{statement}
 use Rattle.reader.proofs.read_lines.Tie as tie
-use Rattle.reader.proofs.read_lines.Reads as reads
-use Rattle.reader.proofs.read_lines.Lts as lts
-use Rattle.field_utils.proofs.lines.Lines.next.Reads as next-reads
-use Rattle.reader.proofs.behind.Reads as behind-reads
-use Rattle.reader.proofs.counts.Reads as counts-reads
-use Rattle.reader.proofs.first_of.Reads as first-of-reads
-use Rattle.reader.proofs.parse_head.Reads as parse-head-reads
-use Rattle.reader.proofs.read_rest.Reads as read-rest-reads
-use Rattle.reader.proofs.refuse.Reads as refuse-reads
 
 -- what the line that was found says
 fits : (c : tie.After-known-told) → let v = c .before .found .given .0 in let a = c .before .before .before .before .before .args in
-       Found (now (a .body)) 0 (v .0) (v .1 .0) (v .1 .1 .0 .at)
+    Found (now (a .body)) 0 (v .0) (v .1 .0) (v .1 .1 .0 .at)
 fits c =
     let a = c .before .before .before .before .before .args in
     found (now (a .body)) 0 (c .before .before .before .next .ensures) (c .before .found .given .1)
 
 -- how the lines are counted
 counted : (c : tie.After-counts) {t : Bool} → let k = c .before in let v = k .before .found .given .0 in let a = k .before .before .before .before .before .args in
-          c .counts .result ≡ t
-          → between (limitsOf (a .option) .least) (limitsOf (a .option) .most) (length (part (v .0) (v .1 .0) (now (a .body)) ∷ lines (drop (v .1 .1 .0 .at) (now (a .body))))) ≡ t
+    c .counts .result ≡ t
+    → between (limitsOf (a .option) .least) (limitsOf (a .option) .most) (length (part (v .0) (v .1 .0) (now (a .body)) ∷ lines (drop (v .1 .1 .0 .at) (now (a .body))))) ≡ t
 counted c e =
     let k = c .before in
     let a = k .before .before .before .before .before .args in
@@ -49,7 +40,7 @@ counted c e =
 
 -- what was made of the first line
 first : (c : tie.After-parse-head) → let k = c .before .before .before .before .before in let v = k .before .found .given .0 in let a = k .before .before .before .before .before .args in
-        toldHead (part (v .0) (v .1 .0) (now (a .body))) (c .parse-head .result) ≡ headBy (firstOf (a .option)) (a .option) (part (v .0) (v .1 .0) (now (a .body)))
+    toldHead (part (v .0) (v .1 .0) (now (a .body))) (c .parse-head .result) ≡ headBy (firstOf (a .option)) (a .option) (part (v .0) (v .1 .0) (now (a .body)))
 first c =
     let k = c .before .before .before .before .before in
     let v = k .before .found .given .0 in

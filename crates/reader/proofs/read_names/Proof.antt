@@ -1,5 +1,5 @@
 -- `reader::read_names` meets its contract: names that pass are at most four, and all are filled. Assumes nothing.
-use mathlib.Core.Path.{_≡_, sym, _∙_, ap}
+use mathlib.Core.Path.{sym, _∙_, ap}
 use Prim.Native.Nat.{suc}
 use denote.Ref.{now}
 use lib.ListN.{drop}
@@ -11,14 +11,6 @@ use Rattle.reader.proofs.Readings.{refusing, accepting, names-few, part
 use borrow.Author.Needs.{needs}
 use Rattle.reader.proofs.read_names.Statement.{statement}
 use Rattle.reader.proofs.read_names.Tie as tie
-use Rattle.reader.proofs.read_names.Reads as reads
-use Rattle.reader.proofs.read_names.Lts as lts
-use Rattle.field_utils.proofs.numbering_of.Reads as numbering-of-reads
-use Rattle.field_utils.proofs.parse_name_and_address.Reads as parse-name-and-address-reads
-use Rattle.party.proofs.text_of.Reads as text-of-reads
-use Rattle.reader.proofs.accept.Reads as accept-reads
-use Rattle.reader.proofs.fill.Reads as fill-reads
-use Rattle.reader.proofs.refuse.Reads as refuse-reads
 
 parse-name-and-address-requires : tie.Need-parse-name-and-address-requires
 parse-name-and-address-requires c κs = search needs

@@ -1,5 +1,5 @@
 -- `reader::read_rest` meets its contract, by whether the option has names. Assumes nothing.
-use mathlib.Core.Path.{_≡_, sym, _∙_, ap}
+use mathlib.Core.Path.{sym, _∙_, ap}
 use Prim.Native.Nat.{suc}
 use denote.Ref.{now}
 use lib.ListN.{drop}
@@ -9,11 +9,6 @@ use Rattle.reader.proofs.Readings.{rest-bic, rest-names}
 use borrow.Author.Needs.{needs}
 use Rattle.reader.proofs.read_rest.Statement.{statement}
 use Rattle.reader.proofs.read_rest.Tie as tie
-use Rattle.reader.proofs.read_rest.Reads as reads
-use Rattle.reader.proofs.read_rest.Lts as lts
-use Rattle.party.proofs.limits_of.Reads as limits-of-reads
-use Rattle.reader.proofs.read_bic.Reads as read-bic-reads
-use Rattle.reader.proofs.read_names.Reads as read-names-reads
 
 limits-of-requires : tie.Need-limits-of-requires
 limits-of-requires c κs = search needs

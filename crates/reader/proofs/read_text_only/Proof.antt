@@ -1,5 +1,5 @@
 -- `reader::read_text_only` meets its contract. Assumes nothing.
-use mathlib.Core.Path.{_≡_, sym, _∙_, ap}
+use mathlib.Core.Path.{sym, _∙_, ap}
 use native.Mathlib.Omega.{arith}
 use denote.Ref.{now}
 use Rattle.errors.specs.Refusals.{told}
@@ -10,13 +10,6 @@ use Rattle.reader.proofs.Readings.{refusing, accepting, text-lf, text-l
 use borrow.Author.Needs.{needs}
 use Rattle.reader.proofs.read_text_only.Statement.{statement}
 use Rattle.reader.proofs.read_text_only.Tie as tie
-use Rattle.reader.proofs.read_text_only.Reads as reads
-use Rattle.reader.proofs.read_text_only.Lts as lts
-use Rattle.field_utils.proofs.lines.find_lf.Reads as find-lf-reads
-use Rattle.reader.proofs.accept.Reads as accept-reads
-use Rattle.reader.proofs.account.Reads as account-reads
-use Rattle.reader.proofs.nameless_party.Reads as nameless-party-reads
-use Rattle.reader.proofs.refuse.Reads as refuse-reads
 
 find-lf-requires : tie.Need-find-lf-requires
 find-lf-requires c κs = search needs

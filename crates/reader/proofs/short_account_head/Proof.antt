@@ -1,17 +1,11 @@
 -- `reader::short_account_head` meets its contract, by the length. Assumes nothing.
-use mathlib.Core.Path.{_≡_, sym, _∙_, ap}
+use mathlib.Core.Path.{sym, _∙_, ap}
 use denote.Ref.{now}
 use Rattle.reader.specs.Code.{toldHead}
 use Rattle.reader.proofs.Heads.{short-long, short-fits}
 use borrow.Author.Needs.{needs}
 use Rattle.reader.proofs.short_account_head.Statement.{statement}
 use Rattle.reader.proofs.short_account_head.Tie as tie
-use Rattle.reader.proofs.short_account_head.Reads as reads
-use Rattle.reader.proofs.short_account_head.Lts as lts
-use Rattle.party.proofs.limits_of.Reads as limits-of-reads
-use Rattle.reader.proofs.account_head.Reads as account-head-reads
-use Rattle.reader.proofs.behind.Reads as behind-reads
-use Rattle.reader.proofs.no_head.Reads as no-head-reads
 
 limits-of-requires : tie.Need-limits-of-requires
 limits-of-requires c κs = search needs

@@ -1,5 +1,5 @@
 -- `reader::slash_head` meets its contract. Assumes nothing.
-use mathlib.Core.Path.{_≡_, sym, _∙_, ap}
+use mathlib.Core.Path.{sym, _∙_, ap}
 use denote.Ref.{now}
 use Rattle.errors.specs.Refusals.{told}
 use Rattle.reader.specs.Code.{toldHead}
@@ -7,10 +7,6 @@ use Rattle.reader.proofs.Heads.{slash-there, slash-missing}
 use borrow.Author.Needs.{needs}
 use Rattle.reader.proofs.slash_head.Statement.{statement}
 use Rattle.reader.proofs.slash_head.Tie as tie
-use Rattle.reader.proofs.slash_head.Reads as reads
-use Rattle.reader.proofs.slash_head.Lts as lts
-use Rattle.field_utils.proofs.starts_with_slash.Reads as starts-with-slash-reads
-use Rattle.reader.proofs.head.Reads as head-reads
 
 starts-with-slash-requires : tie.Need-starts-with-slash-requires
 starts-with-slash-requires c κs = search needs

@@ -1,0 +1,26 @@
+-- `field50::Field50Creditor::parse` meets its contract: the tests are those of the rule. Assumes nothing.
+use mathlib.Core.Path.{_∙_, ap}
+use mathlib.Core.Bool.{Bool}
+use mathlib.Core.List.{[], _∷_, _++_}
+use denote.Ref.{now}
+use Rattle.party.specs.declared.PartyOption.the-variants.{Field50A, Field50K}
+use Rattle.choices.specs.Detection.{when, firstThat, detected}
+use Rattle.field50.specs.Choices.{creditor}
+use borrow.Author.Needs.{needs}
+use Rattle.field50.proofs.Field50Creditor.parse.Statement.{statement}
+use Rattle.field50.proofs.Field50Creditor.parse.Tie as tie
+
+last-is-bic-requires : tie.Need-last-is-bic-requires
+last-is-bic-requires c κs = search needs
+
+detect-requires : tie.Need-detect-requires
+detect-requires c κs = search needs
+
+returns : tie.Need-returns
+unfolding creditor
+returns c =
+    let body = now (c .before .before .before .args .input) in
+    c .detect .ensures ∙ ap (λ (t : Bool). detected body (firstThat (when t Field50A ++ (Field50K ∷ [])) body)) (c .before .last-is-bic .ensures)
+
+pub parse-spec : {M : Type 1} → statement M
+parse-spec = tie.close (tie.spec last-is-bic-requires detect-requires returns)

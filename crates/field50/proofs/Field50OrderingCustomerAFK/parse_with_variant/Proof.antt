@@ -1,0 +1,70 @@
+-- `field50::Field50OrderingCustomerAFK::parse_with_variant` meets its contract, by what the letter picks. Assumes nothing.
+use mathlib.Core.Path.{_∙_, ap}
+use mathlib.Core.List.{[], _∷_}
+use denote.Ref.{now}
+use Rattle.party.specs.declared.PartyOption.the-variants.{Field50A, Field50F, Field50K}
+use Rattle.reader.specs.Reading.{toldAnswer}
+use Rattle.choices.proofs.Trials.{by-pick}
+use Rattle.field50.specs.Choices.{orderingCustomerAFK, orderingCustomerAFKBy}
+use borrow.Author.Needs.{needs}
+use Rattle.field50.proofs.Field50OrderingCustomerAFK.parse_with_variant.Statement.{
+  statement,
+}
+use Rattle.field50.proofs.Field50OrderingCustomerAFK.parse_with_variant.Tie as tie
+
+pick-variant-requires : tie.Need-pick-variant-requires
+pick-variant-requires c κs = search needs
+
+enum-told : tie.Need-enum-told
+enum-told c = search needs
+
+refuse-requires : tie.Need-refuse-requires
+refuse-requires c κs = search needs
+
+enum-known-picked : tie.Need-enum-known-picked
+enum-known-picked c = search needs
+
+read-requires : tie.Need-read-requires
+read-requires c κs = search needs
+
+enum-told-2 : tie.Need-enum-told-2
+enum-told-2 c = search needs
+
+parse-requires : tie.Need-parse-requires
+parse-requires c κs = search needs
+
+returns : tie.Need-returns
+unfolding orderingCustomerAFKBy
+returns c =
+    let p = c .before .before .before in
+    let a = p .before .before .args in
+    ap toldAnswer (c .refuse .ensures) ∙ by-pick (a .letter) (Field50A ∷ Field50F ∷ Field50K ∷ []) (now (a .input)) (orderingCustomerAFK (now (a .input))) (p .pick-variant .ensures) (c .before .enum-told .given .1)
+
+returns-2 : tie.Need-returns-2
+unfolding orderingCustomerAFKBy
+returns-2 c =
+    let p = c .before .before .before .before in
+    let a = p .before .before .args in
+    c .read .ensures ∙ by-pick (a .letter) (Field50A ∷ Field50F ∷ Field50K ∷ []) (now (a .input)) (orderingCustomerAFK (now (a .input))) (p .pick-variant .ensures) (c .before .before .picked .given .1)
+
+returns-3 : tie.Need-returns-3
+unfolding orderingCustomerAFKBy
+returns-3 c =
+    let p = c .before .before .before in
+    let a = p .before .before .args in
+    c .parse .ensures ∙ by-pick (a .letter) (Field50A ∷ Field50F ∷ Field50K ∷ []) (now (a .input)) (orderingCustomerAFK (now (a .input))) (p .pick-variant .ensures) (c .before .enum-told2 .given .1)
+
+pub parse-with-variant-spec : {M : Type 1} → statement M
+parse-with-variant-spec =
+    tie.close
+    (tie.spec
+    pick-variant-requires
+    enum-told
+    refuse-requires
+    enum-known-picked
+    read-requires
+    enum-told-2
+    parse-requires
+    returns
+    returns-2
+    returns-3)

@@ -1,0 +1,107 @@
+-- Wrong programs that the definitions rule out (document 01, 'For the auditor's form' and 'Traps for a porter').
+use mathlib.Core.Path.{_≡_, refl, ap}
+use mathlib.Core.List.{List, [], _∷_, _++_}
+use Prim.Native.Nat.{ℕ}
+use native.Mathlib.Omega.{arith}
+use lib.ListN.{getD, replicate}
+use Rattle.errors.specs.Refusals.{accepted, refused}
+use Rattle.party.specs.declared.PartyOption.{PartyOption}
+use Rattle.party.specs.declared.PartyOption.the-variants.{Field50NoOption, Field50A, Field50F, Field50K, Field50C, Field50L, Field50G, Field50H, Field59NoOption, Field59A, Field59F}
+use Rattle.party.specs.Text.{padded, textOf, Used}
+use Rattle.party.specs.Party.{Said, said, Same}
+use Rattle.swift_utils.specs.Bytes.{bytes, letter, digit, alphanumeric, signs, legal}
+use Rattle.swift_utils.specs.Checks.{parseSwiftChars, parseAccount, bicLength, parseBic}
+use Rattle.field_utils.specs.Lines.{upto, onto, starts, lines}
+use Rattle.field_utils.specs.Trim.{white, trimmedStart, keep, trimmedEnd, trimmed}
+use Rattle.field_utils.specs.Identifier.{isNumbered, secondSlash, identifierReply, parsePartyIdentifier}
+use Rattle.field_utils.specs.Names.{parseLine, parseLines, parseNameAndAddress}
+use Rattle.reader.specs.Reading.{Reading, fourTexts, partyOf}
+use Rattle.reader.specs.Options.{accountHead, shortAccountHead, afterHead, read}
+use Rattle.choices.specs.Detection.{anyNumbered, firstLine, lastLine, bicLike, firstThat, pickOf, variantOf}
+use Rattle.field50.specs.Choices.{instructingParty, orderingCustomerFGH, orderingCustomerAFK, orderingCustomerNCF}
+use Rattle.field59.specs.Choices.{testLine, field59, field59By}
+
+-- two bodies that an option accepts, one letter apart
+abbrev pub bodyOf : PartyOption → List ℕ → List ℕ
+bodyOf Field50NoOption x = x
+bodyOf Field50A x = x ++ bytes "BCDEFGH"
+bodyOf Field50F x = x ++ bytes "\n1/N"
+bodyOf Field50K x = x
+bodyOf Field50C x = x ++ bytes "BCDEFGH"
+bodyOf Field50L x = x
+bodyOf Field50G x = bytes "/" ++ x ++ bytes "\nABCDEFGH"
+bodyOf Field50H x = bytes "/" ++ x ++ bytes "\nN"
+bodyOf Field59NoOption x = x
+bodyOf Field59A x = x ++ bytes "BCDEFGH"
+bodyOf Field59F x = bytes "1/" ++ x
+
+-- the bytes that a record says, one text after the other
+abbrev joined : List Used → List ℕ
+joined [] = []
+joined (u ∷ us) = u .bytes ++ joined us
+
+abbrev saidBytes : Said → List ℕ
+saidBytes s = joined (s .account) ++ joined (s .bic) ++ joined (s .names)
+
+-- a reader that turns away each body; one that sees the same party in all
+pub record Reads (o : PartyOption) : Type 0 where
+  pub first : read o (bodyOf o (bytes "A")) .reply ≡ accepted
+  pub second : read o (bodyOf o (bytes "B")) .reply ≡ accepted
+  pub apart : Same (read o (bodyOf o (bytes "A")) .party) (read o (bodyOf o (bytes "B")) .party) → ⊥
+
+pub reads : (o : PartyOption) → Reads o
+unfolding padded textOf said letter digit alphanumeric signs legal parseSwiftChars parseAccount bicLength parseBic upto onto starts lines white trimmedStart keep trimmedEnd trimmed isNumbered secondSlash identifierReply parsePartyIdentifier parseLine parseLines parseNameAndAddress fourTexts partyOf accountHead shortAccountHead afterHead read
+reads Field50NoOption = record { first = refl; second = refl; apart = λ e. let z : _≡_ {A = ℕ} 65 66 = ap (λ (s : Said). getD (saidBytes s) 0 0) e in omega arith }
+reads Field50A = record { first = refl; second = refl; apart = λ e. let z : _≡_ {A = ℕ} 65 66 = ap (λ (s : Said). getD (saidBytes s) 0 0) e in omega arith }
+reads Field50F = record { first = refl; second = refl; apart = λ e. let z : _≡_ {A = ℕ} 65 66 = ap (λ (s : Said). getD (saidBytes s) 0 0) e in omega arith }
+reads Field50K = record { first = refl; second = refl; apart = λ e. let z : _≡_ {A = ℕ} 65 66 = ap (λ (s : Said). getD (saidBytes s) 0 0) e in omega arith }
+reads Field50C = record { first = refl; second = refl; apart = λ e. let z : _≡_ {A = ℕ} 65 66 = ap (λ (s : Said). getD (saidBytes s) 0 0) e in omega arith }
+reads Field50L = record { first = refl; second = refl; apart = λ e. let z : _≡_ {A = ℕ} 65 66 = ap (λ (s : Said). getD (saidBytes s) 0 0) e in omega arith }
+reads Field50G = record { first = refl; second = refl; apart = λ e. let z : _≡_ {A = ℕ} 65 66 = ap (λ (s : Said). getD (saidBytes s) 0 0) e in omega arith }
+reads Field50H = record { first = refl; second = refl; apart = λ e. let z : _≡_ {A = ℕ} 65 66 = ap (λ (s : Said). getD (saidBytes s) 0 0) e in omega arith }
+reads Field59NoOption = record { first = refl; second = refl; apart = λ e. let z : _≡_ {A = ℕ} 65 66 = ap (λ (s : Said). getD (saidBytes s) 0 0) e in omega arith }
+reads Field59A = record { first = refl; second = refl; apart = λ e. let z : _≡_ {A = ℕ} 65 66 = ap (λ (s : Said). getD (saidBytes s) 0 0) e in omega arith }
+reads Field59F = record { first = refl; second = refl; apart = λ e. let z : _≡_ {A = ℕ} 65 66 = ap (λ (s : Said). getD (saidBytes s) 2 0) e in omega arith }
+
+-- names counted before they are tested: the fifth name of 50K is too long, and that is said first
+pub tested-first : read Field50K (bytes "A\nB\nC\nD\n" ++ replicate 36 65) .reply ≡ refused 4 5
+unfolding padded textOf said letter digit alphanumeric signs legal parseSwiftChars parseAccount bicLength parseBic upto onto starts lines white trimmedStart keep trimmedEnd trimmed isNumbered secondSlash identifierReply parsePartyIdentifier parseLine parseLines parseNameAndAddress fourTexts partyOf accountHead shortAccountHead afterHead read
+tested-first = refl
+
+-- every trailing CR dropped: one CR before the LF is, the other stays
+pub one-cr : read Field50NoOption (bytes "A\r\r\n") .party .count ≡ 1
+unfolding padded textOf said letter digit alphanumeric signs legal parseSwiftChars parseAccount bicLength parseBic upto onto starts lines white trimmedStart keep trimmedEnd trimmed isNumbered secondSlash identifierReply parsePartyIdentifier parseLine parseLines parseNameAndAddress fourTexts partyOf accountHead shortAccountHead afterHead read
+one-cr = refl
+
+-- a reading accepted as an option
+abbrev As : Reading → PartyOption → Type 0
+As r o = (r .reply ≡ accepted) × (r .party .option ≡ o)
+
+-- detection in another order: each body here is one that a later option would take too
+pub record Orders : Type 0 where
+  pub c-before-l : As (instructingParty (bytes "ABCDEFGH")) Field50C
+  pub f-before-h : As (orderingCustomerFGH (bytes "/X\n1/A")) Field50F
+  pub g-before-h : As (orderingCustomerFGH (bytes "/X\nABCDEFGH")) Field50G
+  pub f-before-k : As (orderingCustomerAFK (bytes "X\n1/A")) Field50F
+  pub a-before-k : As (orderingCustomerAFK (bytes "ABCDEFGH")) Field50A
+  pub f-before-50 : As (orderingCustomerNCF (bytes "X\n1/A")) Field50F
+  pub a-before-59 : As (field59 (bytes "ABCDEFGH")) Field59A
+  pub f-before-59 : As (field59 (bytes "1/A")) Field59F
+
+pub orders : Orders
+unfolding padded textOf said letter digit alphanumeric signs legal parseSwiftChars parseAccount bicLength parseBic upto onto starts lines white trimmedStart keep trimmedEnd trimmed isNumbered secondSlash identifierReply parsePartyIdentifier parseLine parseLines parseNameAndAddress fourTexts partyOf accountHead shortAccountHead afterHead read anyNumbered firstLine lastLine bicLike firstThat pickOf variantOf instructingParty orderingCustomerFGH orderingCustomerAFK orderingCustomerNCF testLine field59
+orders = record {
+  c-before-l = (refl, refl);
+  f-before-h = (refl, refl);
+  g-before-h = (refl, refl);
+  f-before-k = (refl, refl);
+  a-before-k = (refl, refl);
+  f-before-50 = (refl, refl);
+  a-before-59 = (refl, refl);
+  f-before-59 = (refl, refl);
+}
+
+-- detecting when `Field59` gets no letter: it does not
+pub no-letter : As (field59By (bytes "ABCDEFGH") 0) Field59NoOption
+unfolding padded textOf said letter digit alphanumeric signs legal parseSwiftChars parseAccount bicLength parseBic upto onto starts lines white trimmedStart keep trimmedEnd trimmed isNumbered secondSlash identifierReply parsePartyIdentifier parseLine parseLines parseNameAndAddress fourTexts partyOf accountHead shortAccountHead afterHead read anyNumbered firstLine lastLine bicLike firstThat pickOf variantOf testLine field59 field59By
+no-letter = (refl, refl)

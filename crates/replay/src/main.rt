@@ -1,0 +1,96 @@
+// Replays the list of the Rust's answers, from standard input: asks our readers each case, and compares each answer with what is
+// expected. Says which cases differ, and at the end how many there are of each kind.
+mod answer;
+mod asked;
+mod compare;
+mod list;
+mod rules;
+mod tally;
+
+use answer::Reply;
+use answer::given_reply;
+use answer::reply_of;
+use asked::NamedQuestion;
+use asked::Question;
+use asked::ask;
+use asked::question_named;
+use compare::Difference;
+use compare::compare;
+use libc::STDIN_FILENO;
+use libc::STDOUT_FILENO;
+use list::field;
+use list::find;
+use list::is_plain;
+use list::past;
+use list::unescape;
+use rules::expect;
+use tally::Tally;
+use tally::Verdict;
+
+// The verdict on a case, from its line of the list.
+fn judge(line: &[u8]) -> Verdict {
+    let NamedQuestion::Is(question) = question_named(field(line, 0), field(line, 1)) else {
+        return Verdict::Differs(Difference::Malformed);
+    };
+    let rust = given_reply(line);
+    let mut buffer = [0u8; 4096];
+    let body = unescape(field(line, 2), &mut buffer);
+    if !is_plain(line) || !rust.whole || !body.whole {
+        return Verdict::Differs(Difference::Malformed);
+    }
+    let len = body.len;
+    let reply = rust.reply;
+    weigh(question, &buffer[..len], reply)
+}
+
+// The verdict on our answer, from the question, the body and what the Rust answers.
+fn weigh(question: Question, body: &[u8], rust: Reply) -> Verdict {
+    let wanted = expect(question, body, rust);
+    let ours = reply_of(ask(question, body));
+    let rule = wanted.rule;
+    let reply = wanted.reply;
+    match compare(reply, ours) {
+        Difference::Nothing => Verdict::Agrees(rule),
+        found => Verdict::Differs(found),
+    }
+}
+
+// Every line but the comments is a case.
+fn replay(list: &[u8]) -> Tally {
+    let mut tally = Tally::new();
+    let mut at = 0;
+    while at < list.len() {
+        let end = find(list, at, b'\n');
+        let line = &list[at..end];
+        tally = tally.next_line();
+        if !is_comment(line) {
+            tally = tally.note(judge(line));
+        }
+        at = past(list, at, b'\n');
+    }
+    tally
+}
+
+fn is_comment(line: &[u8]) -> bool {
+    0 < line.len() && line[0] == b'#'
+}
+
+// Reads the list into the room for it, and replays it.
+fn run(room: &mut [u8]) {
+    let len = io::read_full(STDIN_FILENO, room);
+    if len == room.len() {
+        io::write_all(STDOUT_FILENO, b"error: the list is too long\n");
+        return;
+    }
+    replay(&room[..len]).print();
+}
+
+// By reference the array has its length from its type; a proof that counts so many bytes would be too deep.
+fn lend(room: &mut [u8; 1048576]) {
+    run(room);
+}
+
+fn main() {
+    let mut room = [0u8; 1048576];
+    lend(&mut room);
+}

@@ -1,0 +1,123 @@
+// The count of the cases, and what is printed.
+use crate::compare::Difference;
+use crate::rules::Rule;
+use libc::STDOUT_FILENO;
+
+// What came of a case: ours is as expected by a rule, or something differs.
+pub enum Verdict {
+    Agrees(Rule),
+    Differs(Difference),
+}
+
+// How many differences are printed.
+const MOST: u64 = 20;
+
+pub struct Tally {
+    // lines read, and cases among them
+    line: u64,
+    cases: u64,
+    // as the Rust; by rule 12, 13, 14, and 50H's account
+    rust: u64,
+    long: u64,
+    high: u64,
+    letter: u64,
+    account: u64,
+    differ: u64,
+}
+
+// The list has too few lines for these to wrap.
+fn sum(a: u64, b: u64) -> u64 {
+    std::num::wrapping_add_u64(a, b)
+}
+
+fn more(n: u64) -> u64 {
+    sum(n, 1)
+}
+
+impl Tally {
+    pub fn new() -> Self {
+        Tally {
+            line: 0,
+            cases: 0,
+            rust: 0,
+            long: 0,
+            high: 0,
+            letter: 0,
+            account: 0,
+            differ: 0,
+        }
+    }
+
+    pub fn next_line(mut self) -> Self {
+        self.line = more(self.line);
+        self
+    }
+
+    // Counts a case, and prints its line if it differs.
+    pub fn note(mut self, verdict: Verdict) -> Self {
+        self.cases = more(self.cases);
+        match verdict {
+            Verdict::Agrees(rule) => self.agree(rule),
+            Verdict::Differs(difference) => {
+                if self.differ < MOST {
+                    print_number(b"line ", self.line);
+                    print_difference(difference);
+                }
+                self.differ = more(self.differ);
+                self
+            }
+        }
+    }
+
+    fn agree(mut self, rule: Rule) -> Self {
+        match rule {
+            Rule::Rust => self.rust = more(self.rust),
+            Rule::BodyTooLong => self.long = more(self.long),
+            Rule::NotAscii => self.high = more(self.high),
+            Rule::NotALetter => self.letter = more(self.letter),
+            Rule::Account50H => self.account = more(self.account),
+        }
+        self
+    }
+
+    // The last line. A list without a case is an error.
+    pub fn print(self) {
+        if self.cases == 0 {
+            print(b"error: no cases\n");
+            return;
+        }
+        let by_rule = sum(sum(self.long, self.high), sum(self.letter, self.account));
+        print_number(b"", self.cases);
+        print_number(b" cases: ", self.rust);
+        print_number(b" as the Rust, ", by_rule);
+        print_number(b" by rule (12: ", self.long);
+        print_number(b", 13: ", self.high);
+        print_number(b", 14: ", self.letter);
+        print_number(b", 50H: ", self.account);
+        print_number(b"), ", self.differ);
+        print(b" differ\n");
+    }
+}
+
+fn print(text: &[u8]) {
+    io::write_all(STDOUT_FILENO, text);
+}
+
+// A number, after a text.
+fn print_number(before: &[u8], n: u64) {
+    print(before);
+    io::print_decimal(STDOUT_FILENO, n);
+}
+
+fn print_difference(difference: Difference) {
+    match difference {
+        Difference::Nothing => print(b": nothing\n"),
+        Difference::Malformed => print(b": malformed\n"),
+        Difference::Outcome => print(b": outcome\n"),
+        Difference::Refusal => print(b": refusal\n"),
+        Difference::Option => print(b": option\n"),
+        Difference::Account => print(b": account\n"),
+        Difference::Bic => print(b": BIC\n"),
+        Difference::Names => print(b": names\n"),
+    }
+}
