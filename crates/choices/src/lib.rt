@@ -6,21 +6,19 @@ use field_utils::lines::Line;
 use field_utils::lines::Lines;
 use field_utils::lines::trim;
 use party::PartyOption;
-use party::blank;
 use party::limits_of;
 use reader::Answer;
 use reader::parse_body;
 use reader::read;
+use reader::refuse;
 use swift_utils::all_alphanumeric;
 use swift_utils::is_bic_length;
 ghost use mathlib.Core.Path.{_≡_};
 ghost use mathlib.Core.List.{[], _∷_, _++_};
 ghost use lib.Dec.{eqb};
 ghost use lib.ListN.{drop};
-ghost use Rattle.errors.specs.declared.Outcome.the-variants.{Refused};
 ghost use Rattle.errors.specs.Refusals.{told};
 ghost use Rattle.party.specs.Limits.{limitsOf};
-ghost use Rattle.party.specs.Party.{blank as blankParty};
 ghost use Rattle.field_utils.specs.Lines.{lines};
 ghost use Rattle.reader.specs.Reading.{toldAnswer};
 ghost use Rattle.choices.specs.Detection.{anyNumbered, firstLine, lastIsBic, when, firstThat, detected, letterReply, variantOf, bicLike, lastLine};
@@ -122,16 +120,6 @@ pub fn last_is_bic(body: &[u8]) -> bool
     ensures { λ r. ⌜ r ≡ lastIsBic (lines (now (body .entry))) ⌝ }
 {
     is_bic_like(trim(last_line(body)))
-}
-
-// A refusal, with the blank record beside it.
-pub fn refuse(e: ParseError) -> Answer
-    ensures { λ r. ⌜ r ≡ record { outcome = Refused e; party = blankParty } ⌝ }
-{
-    Answer {
-        outcome: Outcome::Refused(e),
-        party: blank(),
-    }
 }
 
 // An option, where its test holds.

@@ -7,8 +7,8 @@ use lines::find;
 use party::PartyOption;
 use party::limits_of;
 use swift_utils::all_alphanumeric;
+use swift_utils::class_table;
 use swift_utils::is_digit;
-use swift_utils::is_legal;
 use swift_utils::parse_account;
 
 pub mod lines;
@@ -192,6 +192,7 @@ pub fn parse_name_and_address(
     let limits = limits_of(option);
     let numbering = numbering_of(option);
     let skip = skip_of(numbering);
+    let classes = class_table();
     let mut cursor = from;
     let mut count = 0;
     let illegal = 'lines: loop {
@@ -210,7 +211,8 @@ pub fn parse_name_and_address(
             return Outcome::Refused(ParseError::TooLong(line));
         }
         while i < end {
-            if !is_legal(body[i]) {
+            let b = body[i] as usize;
+            if classes[b] < 1 {
                 break 'lines line;
             }
             i += 1;

@@ -8,7 +8,7 @@ use native.Mathlib.Numerals.{add-one}
 use native.Mathlib.Omega.{arith}
 use borrow.Author.Tests.{lt-ltb}
 use lib.ListN.{length, getD, take, set, replicate, length-append, length-take}
-use lib.Seq.{drop-cons, take-suc, take-all, take-take, getD-take, set-at, append-snoc, length-take-le}
+use lib.Seq.{take-suc, take-all, take-take, getD-take, set-at, append-snoc, length-take-le}
 use Rattle.party.specs.declared.Text.{Text}
 use Rattle.party.specs.Decides.{Decides}
 use Rattle.party.specs.Text.{padded, textOf, Used, used}
@@ -56,10 +56,6 @@ where-same limit a b h e = sym (where-some limit a h) ∙ (e ∙ where-some limi
 
 -- ---- lists
 module _ {A : Type 0} where
-  -- inside a list the default does not matter
-  pub getD-any : (l : List A) (i : ℕ) (a b : A) → i < length l → getD l i a ≡ getD l i b
-  getD-any l i a b h = cc (drop-cons l i a h, drop-cons l i b h)
-
   pub map-take : {B : Type 0} (f : A → B) (n : ℕ) (l : List A) → map f (take n l) ≡ take n (map f l)
   map-take f zero l = refl
   map-take f (suc n) [] = refl

@@ -216,12 +216,24 @@ fn index_of(option: PartyOption) -> usize
     }
 }
 
-// The option's limits.
+// The option's limits. Each arm names its row: at an index that is computed, the whole table would be written out at each call.
 pub fn limits_of(option: PartyOption) -> Limits
     ensures { λ r. ⌜ r ≡ limitsOf option ⌝ }
 {
-    let i = index_of(option);
-    LIMITS[i]
+    let table = LIMITS;
+    match option {
+        PartyOption::Field50NoOption => table[0],
+        PartyOption::Field50A => table[1],
+        PartyOption::Field50F => table[2],
+        PartyOption::Field50K => table[3],
+        PartyOption::Field50C => table[4],
+        PartyOption::Field50L => table[5],
+        PartyOption::Field50G => table[6],
+        PartyOption::Field50H => table[7],
+        PartyOption::Field59NoOption => table[8],
+        PartyOption::Field59A => table[9],
+        PartyOption::Field59F => table[10],
+    }
 }
 
 // What every record has, whatever its bytes say: each text has its 38 bytes, and there are four names.
@@ -233,14 +245,13 @@ pub fn sized(p: Party)
 pub fn text_of(s: &[u8]) -> Text
     ensures { λ r. ⌜ r ≡ textOf (now (s .entry)) ⌝ }
 {
-    let mut text = NOTHING;
+    let mut bytes = [0u8; 38];
     let mut i = 0;
     while i < 38 && i < s.len() {
-        text.bytes[i] = s[i];
+        bytes[i] = s[i];
         i += 1;
     }
-    text.len = i;
-    text
+    Text { bytes, len: i }
 }
 
 // The blank record: what stands beside a refusal, and beside a page's end.

@@ -104,7 +104,8 @@ fn accept(party: Party) -> Answer
     }
 }
 
-fn refuse(e: ParseError) -> Answer
+// A refusal, with the blank record beside it.
+pub fn refuse(e: ParseError) -> Answer
     ensures { λ r. ⌜ r ≡ record { outcome = Refused e; party = blankParty } ⌝ }
 {
     Answer {
@@ -424,18 +425,20 @@ fn read_text_only(option: PartyOption, body: &[u8]) -> Answer
     accept(nameless_party(option, true, body, &body[..0]))
 }
 
-// Whether no byte is above 127.
+// Whether no byte is above 127: the largest is not. The compiler takes this loop many bytes at a time.
 fn is_ascii(body: &[u8]) -> bool
     ensures { λ r. ⌜ r ≡ all ascii (now (body .entry)) ⌝ }
 {
+    let mut most = 0;
     let mut i = 0;
     while i < body.len() {
-        if 127 < body[i] {
-            return false;
+        let b = body[i];
+        if most < b {
+            most = b;
         }
         i += 1;
     }
-    true
+    most <= 127
 }
 
 // What any body must be: at most 2,048 bytes (12), none above 127 (13).

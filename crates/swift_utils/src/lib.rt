@@ -5,7 +5,7 @@ ghost use mathlib.Core.Path.{_≡_};
 ghost use Rattle.errors.specs.Refusals.{told};
 ghost use Rattle.swift_utils.specs.Bytes.{legal, letter, digit, alphanumeric, all};
 ghost use Rattle.swift_utils.specs.Checks.{parseSwiftChars, parseAccount, bicLength, parseBic};
-ghost use Rattle.swift_utils.specs.Classes.{classOf, atLeast};
+ghost use Rattle.swift_utils.specs.Classes.{classOf, atLeast, classTable};
 
 // The class of each byte: 0 illegal, 1 legal and neither a digit nor a letter, 2 a digit, 3 a letter.
 const CLASS: [u8; 256] = [
@@ -267,12 +267,20 @@ const CLASS: [u8; 256] = [
     0, // 255
 ];
 
+// The table, for a test of many bytes: each use of the constant writes it out anew.
+pub fn class_table() -> [u8; 256]
+    ensures { λ r. ⌜ r ≡ classTable ⌝ }
+{
+    CLASS
+}
+
 // The class of a byte.
 fn class(b: u8) -> u8
     ensures { λ r. ⌜ r ≡ classOf b ⌝ }
 {
+    let classes = class_table();
     let i = b as usize;
-    CLASS[i]
+    classes[i]
 }
 
 // Whether a byte is one of the 93 legal ones.
@@ -300,9 +308,11 @@ pub fn is_digit(b: u8) -> bool
 fn all_at_least(s: &[u8], k: u8) -> bool
     ensures { λ r. ⌜ r ≡ all (atLeast k) (now (s .entry)) ⌝ }
 {
+    let classes = class_table();
     let mut i = 0;
     while i < s.len() {
-        if class(s[i]) < k {
+        let b = s[i] as usize;
+        if classes[b] < k {
             return false;
         }
         i += 1;

@@ -4,18 +4,20 @@ use mathlib.Core.Path.{_≡_, refl, sym, _∙_, ap}
 use mathlib.Core.Logic.{⊎-elim}
 use mathlib.Core.Bool.{Bool}
 use mathlib.Core.List.{List, _∷_}
-use Prim.Native.Nat.{ℕ, suc, _+_, _-_, _≤_}
+use Prim.Native.Nat.{ℕ, suc, _+_, _-_, _≤_, _<_}
 use native.Mathlib.Nat.{add-zero}
 use native.Mathlib.Omega.{arith}
 use denote.Ref.{now}
-use lib.ListN.{length, drop}
+use lib.Dec.{leb}
+use lib.ListN.{length, drop, getD}
 use borrow.Author.Needs.{needs}
-use borrow.Author.Tests.{not-true, not-false}
+use borrow.Author.Tests.{le-leb, lt-leb}
 use Rattle.errors.specs.Refusals.{Reply, accepted, refused, told, must}
 use Rattle.party.specs.declared.PartyOption.{PartyOption}
 use Rattle.party.specs.declared.Limits.{Limits}
 use Rattle.swift_utils.specs.Bytes.{all, legal}
-use Rattle.swift_utils.proofs.Classes.{all-fails, all-passes, all-done}
+use Rattle.swift_utils.proofs.Classes.{class-legal, all-fails, all-passes, all-done}
+use Rattle.swift_utils.proofs.Table.{by-entry}
 use Rattle.swift_utils.proofs.Parts.{part, part-length, part-drop}
 use Rattle.field_utils.specs.declared.Numbering.{Numbering}
 use Rattle.field_utils.specs.Lines.{lines}
@@ -26,47 +28,47 @@ use Rattle.field_utils.proofs.parse_name_and_address.Statement.{stateme
 use Rattle.field_utils.proofs.parse_name_and_address.Tie as tie
 
 abbrev Inv-loop : tie.InvT-loop
-Inv-loop body start-idx limits numbering skip count start end rest line i₀ i = all legal (part i₀ end body) ≡ all legal (part i end body)
+Inv-loop body start-idx limits numbering skip classes count start end rest line i₀ i = all legal (part i₀ end body) ≡ all legal (part i end body)
 
 abbrev μ-loop : tie.MeasureT-loop
-μ-loop body start-idx limits numbering skip count start end rest line i₀ i = end - i
+μ-loop body start-idx limits numbering skip classes count start end rest line i₀ i = end - i
 
 abbrev Inv-lines : tie.InvT-lines
-Inv-lines body start-idx limits numbering skip cursor₀ count₀ cursor count =
+Inv-lines body start-idx limits numbering skip classes cursor₀ count₀ cursor count =
     (count ≤ cursor .at)
     × (parseLines numbering (limits .name) (suc start-idx) 1 (lines (drop (cursor₀ .at) body))
     ≡ parseLines numbering (limits .name) (suc (start-idx + count)) (suc count) (lines (drop (cursor .at) body)))
     × (length (lines (drop (cursor₀ .at) body)) ≡ count + length (lines (drop (cursor .at) body)))
 
 abbrev μ-lines : tie.MeasureT-lines
-μ-lines body start-idx limits numbering skip cursor₀ count₀ cursor count = length body - cursor .at
+μ-lines body start-idx limits numbering skip classes cursor₀ count₀ cursor count = length body - cursor .at
 
 -- at the head of the loop over the lines
 module _ (t : tie.At-lines Inv-loop μ-loop Inv-lines μ-lines) where
   abbrev body : List ℕ
-  body = now (t .before .before .before .before .before .args .body)
+  body = now (t .before .before .before .before .before .before .args .body)
 
   -- how many body lines precede, and how many names were counted
   abbrev earlier : ℕ
-  earlier = t .before .before .before .before .before .args .start-idx
+  earlier = t .before .before .before .before .before .before .args .start-idx
 
   abbrev count : ℕ
   count = t .lines .count
 
   abbrev option : PartyOption
-  option = t .before .before .before .before .before .args .option
+  option = t .before .before .before .before .before .before .args .option
 
   abbrev numbering : Numbering
-  numbering = t .before .before .numbering-of .result
+  numbering = t .before .before .before .numbering-of .result
 
   abbrev skip : ℕ
-  skip = t .before .skip-of .result
+  skip = t .before .before .skip-of .result
 
   abbrev limits : Limits
-  limits = t .before .before .before .limits-of .result
+  limits = t .before .before .before .before .limits-of .result
 
   abbrev names : List (List ℕ)
-  names = lines (drop (t .before .before .before .before .before .args .from .at) body)
+  names = lines (drop (t .before .before .before .before .before .before .args .from .at) body)
 
   -- what the contract says
   abbrev answer : Reply
@@ -116,7 +118,7 @@ module _ (k : tie.After-known-told Inv-loop μ-loop Inv-lines μ-lines) where
   refusal : {r j : ℕ} → says ≡ refused r j → refused r j ≡ answer head
   refusal e =
       sym
-      (names-refused (option head) (head .before .before .numbering-of .ensures) (head .before .before .before .limits-of .ensures) (suc (earlier head)) (names head)
+      (names-refused (option head) (head .before .before .before .numbering-of .ensures) (head .before .before .before .before .limits-of .ensures) (suc (earlier head)) (names head)
       (so-far ∙ lines-refused _ _ (earlier head) (count head) _ _ e))
 
 -- what the test of its number says
@@ -143,12 +145,12 @@ module _ (e : tie.After-enum-told2 Inv-loop μ-loop Inv-lines μ-lines) where
   room : first ≤ end here
   room =
       omega
-      (arith, number-room (numbering (head here)) (number here) (turn here) (line here) passed, part-length (start here) (end here) (body (head here)) (end-within here), head here .before .skip-of .ensures, fits here .forward)
+      (arith, number-room (numbering (head here)) (number here) (turn here) (line here) passed, part-length (start here) (end here) (body (head here)) (end-within here), head here .before .before .skip-of .ensures, fits here .forward)
 
   text-part : text ≡ part first (end here) (body (head here))
   text-part =
       part-drop _ (start here) (end here) (body (head here))
-      ∙ ap (λ (j : ℕ). part (start here + j) (end here) (body (head here))) (sym (head here .before .skip-of .ensures))
+      ∙ ap (λ (j : ℕ). part (start here + j) (end here) (body (head here))) (sym (head here .before .before .skip-of .ensures))
 
   text-length : length text ≡ end here - first
   text-length = ap length text-part ∙ part-length first (end here) (body (head here)) (end-within here)
@@ -167,14 +169,32 @@ module _ (l : tie.At-loop Inv-loop μ-loop Inv-lines μ-lines) where
       line-bytes _ _ _ _ _ (passed numbered) (omega (arith, text-length numbered, l .before .if1 .left))
       (ap (all legal) (text-part numbered) ∙ l .loop .inv ∙ h)
 
-illegal-byte : (c : tie.Then2 Inv-loop μ-loop Inv-lines μ-lines) → let k = found-line (c .before .before .before .before) in refused 3 (number k) ≡ answer (head k)
+-- at a byte
+module _ (c : tie.After-shared-slice-known2 Inv-loop μ-loop Inv-lines μ-lines) where
+  abbrev bytes : tie.At-loop Inv-loop μ-loop Inv-lines μ-lines
+  bytes = c .before .before
+
+  abbrev this : tie.After-known-told Inv-loop μ-loop Inv-lines μ-lines
+  this = found-line bytes
+
+  abbrev byte : ℕ
+  byte = getD (body (head this)) (bytes .loop .i) 0
+
+  is-byte : byte < 256
+  is-byte = omega (arith, c .shared-slice-known2 .given (bytes .loop .i))
+
+  -- what the test of its entry says
+  by-table : {t : Bool} → leb 1 (getD (head this .before .class-table .result) byte 0) ≡ t → legal byte ≡ t
+  by-table e = sym (class-legal byte) ∙ by-entry 1 byte (head this .before .class-table .ensures) is-byte e
+
+illegal-byte : (c : tie.Then2 Inv-loop μ-loop Inv-lines μ-lines) → let k = this (c .before) in refused 3 (number k) ≡ answer (head k)
 illegal-byte c =
-    let l = c .before .before .before .before in
+    let l = bytes (c .before) in
     let k = found-line l in
     refusal k
     (by-bytes l
-    (all-fails legal (body (head k)) (l .loop .i) (end k) (c .before .before .before .loop-test .taken) (end-within k)
-    (sym (c .before .is-legal .ensures) ∙ not-true _ (c .if2 .taken))))
+    (all-fails legal (body (head k)) (l .loop .i) (end k) (c .before .before .loop-test .taken) (end-within k)
+    (by-table (c .before) (lt-leb _ _ (c .if2 .taken)))))
 
 -- no line is left
 all-passed : (c : tie.After-enum-told Inv-loop μ-loop Inv-lines μ-lines) (n : ℕ) → let t = c .before .before .before in n ≡ count t → parseCount (limits t .names) n ≡ answer t
@@ -184,7 +204,7 @@ all-passed c n e =
     let counted : n ≡ length (names t) = omega (arith, e, t .lines .inv .2, ap length none) in
     ap (parseCount (limits t .names)) counted
     ∙ sym
-    (names-counted (option t) (t .before .before .numbering-of .ensures) (t .before .before .before .limits-of .ensures) (suc (earlier t)) (names t)
+    (names-counted (option t) (t .before .before .before .numbering-of .ensures) (t .before .before .before .before .limits-of .ensures) (suc (earlier t)) (names t)
     (t .lines .inv .1 ∙ ap (parseLines _ _ _ _) none ∙ lines-none _ _ _ _))
 
 limits-of-requires : tie.Need-limits-of-requires Inv-loop μ-loop Inv-lines μ-lines
@@ -195,6 +215,9 @@ numbering-of-requires c κs = search needs
 
 skip-of-requires : tie.Need-skip-of-requires Inv-loop μ-loop Inv-lines μ-lines
 skip-of-requires c κs = search needs
+
+class-table-requires : tie.Need-class-table-requires Inv-loop μ-loop Inv-lines μ-lines
+class-table-requires c κs = search needs
 
 lines-holds : tie.Need-lines-holds Inv-loop μ-loop Inv-lines μ-lines
 lines-holds c = (omega arith, rw add-zero, omega arith)
@@ -251,25 +274,28 @@ returns-2 c =
 loop-holds : tie.Need-loop-holds Inv-loop μ-loop Inv-lines μ-lines
 loop-holds c = refl
 
-shared-slice-read-is-legal : tie.Need-shared-slice-read-is-legal Inv-loop μ-loop Inv-lines μ-lines
-shared-slice-read-is-legal c = omega (arith, c .before .loop-test .taken, end-within (found-line (c .before .before)))
+shared-slice-read-b : tie.Need-shared-slice-read-b Inv-loop μ-loop Inv-lines μ-lines
+shared-slice-read-b c = omega (arith, c .before .loop-test .taken, end-within (found-line (c .before .before)))
 
-is-legal-requires : tie.Need-is-legal-requires Inv-loop μ-loop Inv-lines μ-lines
-is-legal-requires c κs = search needs
+cast-b : tie.Need-cast-b Inv-loop μ-loop Inv-lines μ-lines
+cast-b c = omega (arith, is-byte c)
+
+array-read-if2 : tie.Need-array-read-if2 Inv-loop μ-loop Inv-lines μ-lines
+array-read-if2 c = is-byte c
 
 add-i-2 : tie.Need-add-i-2 Inv-loop μ-loop Inv-lines μ-lines
-add-i-2 c = omega (arith, c .before .before .before .loop-test .taken, end-within (found-line (c .before .before .before .before)))
+add-i-2 c = omega (arith, c .before .before .loop-test .taken, end-within (this (c .before)))
 
 loop-less : tie.Need-loop-less Inv-loop μ-loop Inv-lines μ-lines
-loop-less c = omega (arith, c .before .before .before .loop-test .taken)
+loop-less c = omega (arith, c .before .before .loop-test .taken)
 
 loop-again : tie.Need-loop-again Inv-loop μ-loop Inv-lines μ-lines
 loop-again c =
-    let l = c .before .before .before .before in
+    let l = bytes (c .before) in
     let k = found-line l in
     l .loop .inv
-    ∙ all-passes legal (body (head k)) (l .loop .i) (end k) (c .before .before .before .loop-test .taken) (end-within k)
-    (sym (c .before .is-legal .ensures) ∙ not-false _ (c .if2 .left))
+    ∙ all-passes legal (body (head k)) (l .loop .i) (end k) (c .before .before .loop-test .taken) (end-within k)
+    (by-table (c .before) (le-leb _ _ (c .if2 .left)))
 
 lines-less : tie.Need-lines-less Inv-loop μ-loop Inv-lines μ-lines
 lines-less c = let k = found-line (c .before) in omega (arith, fits k .moved, fits k .within)
@@ -291,7 +317,7 @@ returns-3 c =
     let k : tie.After-known-told Inv-loop μ-loop Inv-lines μ-lines = record { before = record { before = record { before = c .before .before; match = w .0 }; found = w .1 }; known-told = w .2 } in
     let e : tie.After-enum-told2 Inv-loop μ-loop Inv-lines μ-lines = record { before = record { before = record { before = record { before = k; parse-number-arg = w .3 }; parse-number = w .4 }; match2 = w .5 }; enum-told2 = w .6 } in
     let l : tie.At-loop Inv-loop μ-loop Inv-lines μ-lines = record { before = record { before = record { before = e; struct-known = w .7 }; if1 = w .8 }; loop = w .9 } in
-    ap (refused 3) (w .15) ∙ illegal-byte (record { before = record { before = record { before = record { before = l; loop-test = w .10 }; shared-slice-known2 = w .11 }; is-legal = w .12 }; if2 = w .13 }))
+    ap (refused 3) (w .14) ∙ illegal-byte (record { before = record { before = record { before = l; loop-test = w .10 }; shared-slice-known2 = w .11 }; if2 = w .12 }))
     (c .before .match .came)
 
 parse-count-requires : tie.Need-parse-count-requires Inv-loop μ-loop Inv-lines μ-lines
@@ -302,7 +328,7 @@ returns-4 : tie.Need-returns-4 Inv-loop μ-loop Inv-lines μ-lines
 returns-4 c =
     c .parse-count .ensures
     ∙ ⊎-elim (λ w. all-passed (record { before = record { before = c .before .before .before; match = w .0 }; enum-told = w .1 }) (c .before .before .match .count) (w .2))
-    (λ w. absurd (omega (arith, c .before .if3 .left, w .15)))
+    (λ w. absurd (omega (arith, c .before .if3 .left, w .14)))
     (c .before .before .match .came)
 
 pub parse-name-and-address-spec : {M : Type 1} → statement M
@@ -316,6 +342,7 @@ parse-name-and-address-spec =
     limits-of-requires
     numbering-of-requires
     skip-of-requires
+    class-table-requires
     lines-holds
     next-requires
     enum-known-found
@@ -333,8 +360,9 @@ parse-name-and-address-spec =
     sub-if1
     returns-2
     loop-holds
-    shared-slice-read-is-legal
-    is-legal-requires
+    shared-slice-read-b
+    cast-b
+    array-read-if2
     add-i-2
     loop-less
     loop-again

@@ -11,26 +11,26 @@ use Rattle.party.proofs.text_of.Statement.{statement}
 use Rattle.party.proofs.text_of.Tie as tie
 
 abbrev Inv-loop : tie.InvT-loop
-Inv-loop s text₀ i₀ text i = (i ≤ 38) × (i ≤ length s) × (text .bytes ≡ padded (take i s))
+Inv-loop s bytes₀ i₀ bytes i = (i ≤ 38) × (i ≤ length s) × (bytes ≡ padded (take i s))
 
 abbrev μ-loop : tie.MeasureT-loop
-μ-loop s text₀ i₀ text i = 38 - i
+μ-loop s bytes₀ i₀ bytes i = 38 - i
 
 -- where the loop is left, the text is that of the slice
 ended :
     (c : tie.At-loop Inv-loop μ-loop) → c .loop .i ≡ min 38 (length (c .before .args .s .now)) →
-    (record { bytes = c .loop .text .bytes; len = c .loop .i }) ≡ textOf (c .before .args .s .now)
+    (record { bytes = c .loop .bytes; len = c .loop .i }) ≡ textOf (c .before .args .s .now)
 ended c h = rw (c .loop .inv .2) (padded-all (c .before .args .s .now) (c .loop .i) h)
 
 loop-holds : tie.Need-loop-holds Inv-loop μ-loop
 unfolding padded
 loop-holds c = (omega arith, omega arith, refl)
 
-shared-slice-read-text : tie.Need-shared-slice-read-text Inv-loop μ-loop
-shared-slice-read-text c = omega (arith, ltb-true)
+shared-slice-read-bytes : tie.Need-shared-slice-read-bytes Inv-loop μ-loop
+shared-slice-read-bytes c = omega (arith, ltb-true)
 
-element-write-text : tie.Need-element-write-text Inv-loop μ-loop
-element-write-text c = omega arith
+array-write-bytes : tie.Need-array-write-bytes Inv-loop μ-loop
+array-write-bytes c = omega arith
 
 add-i : tie.Need-add-i Inv-loop μ-loop
 add-i c = omega arith
@@ -58,8 +58,8 @@ text-of-spec =
     Inv-loop
     μ-loop
     loop-holds
-    shared-slice-read-text
-    element-write-text
+    shared-slice-read-bytes
+    array-write-bytes
     add-i
     loop-less
     loop-again

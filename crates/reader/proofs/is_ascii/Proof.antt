@@ -1,34 +1,46 @@
--- `reader::is_ascii` meets its contract: while bytes pass, the test of all is the test of those that are left. Assumes nothing.
-use mathlib.Core.Path.{_≡_, sym, _∙_, ap}
-use Prim.Native.Nat.{_-_, _≤_}
+-- `reader::is_ascii` meets its contract: the test of all is that of the largest byte so far and of those that are left. Assumes nothing.
+use mathlib.Core.Path.{_≡_, refl, sym, _∙_, ap}
+use mathlib.Core.Logic.{⊎-elim}
+use mathlib.Core.Bool.{Bool, true, false, _&&_, and-true, and-false}
+use mathlib.Core.List.{List}
+use Prim.Native.Nat.{ℕ, _-_, _+_, _≤_}
 use native.Mathlib.Omega.{arith}
 use denote.Ref.{now}
-use lib.ListN.{length}
-use borrow.Author.Tests.{le-leb, lt-leb}
+use lib.ListN.{length, getD}
+use borrow.Author.Tests.{leb-true, le-leb}
 use Rattle.swift_utils.specs.Bytes.{all}
-use Rattle.swift_utils.proofs.Classes.{all-fails, all-passes, all-done}
-use Rattle.swift_utils.proofs.Parts.{part, part-end}
+use Rattle.swift_utils.proofs.Classes.{all-done}
+use Rattle.swift_utils.proofs.Parts.{part, part-end, part-cons}
 use Rattle.reader.specs.Options.{ascii}
 use Rattle.reader.proofs.is_ascii.Statement.{statement}
 use Rattle.reader.proofs.is_ascii.Tie as tie
 
 abbrev Inv-loop : tie.InvT-loop
-Inv-loop body i₀ i = (i ≤ length body) × (all ascii body ≡ all ascii (part i (length body) body))
+Inv-loop body most₀ i₀ most i = (i ≤ length body) × ((ascii most && all ascii (part i (length body) body)) ≡ all ascii body)
 
 abbrev μ-loop : tie.MeasureT-loop
-μ-loop body i₀ i = length body - i
+μ-loop body most₀ i₀ most i = length body - i
+
+-- of two numbers the larger decides
+larger : (m b : ℕ) (x : Bool) → m ≤ b → (ascii m && (ascii b && x)) ≡ (ascii b && x)
+larger m b x h = go (ascii b) refl
+  where
+    go : (t : Bool) → ascii b ≡ t → (ascii m && (t && x)) ≡ (t && x)
+    go true e = let k = leb-true b 127 e in let l : m ≤ 127 = omega arith in rw (le-leb m 127 l)
+    go false e = and-false (ascii m)
+
+smaller : (m b : ℕ) (x : Bool) → b ≤ m → (ascii m && (ascii b && x)) ≡ (ascii m && x)
+smaller m b x h = go (ascii m) refl
+  where
+    go : (t : Bool) → ascii m ≡ t → (t && (ascii b && x)) ≡ (t && x)
+    go true e = let k = leb-true m 127 e in let l : b ≤ 127 = omega arith in rw (le-leb b 127 l)
+    go false e = refl
 
 loop-holds : tie.Need-loop-holds Inv-loop μ-loop
-loop-holds c = (omega arith, ap (all ascii) (sym (part-end (now (c .args .body)) 0)))
+loop-holds c = (omega arith, ap (all ascii) (part-end (now (c .args .body)) 0))
 
-shared-slice-read-if1 : tie.Need-shared-slice-read-if1 Inv-loop μ-loop
-shared-slice-read-if1 c = omega arith
-
-returns : tie.Need-returns Inv-loop μ-loop
-returns c =
-    let s = now (c .before .before .before .before .args .body) in
-    let k = c .before .before .before .loop in
-    sym (k .inv .1 ∙ all-fails ascii s (k .i) (length s) (omega arith) (omega arith) (lt-leb _ _ (c .if1 .taken)))
+shared-slice-read-b : tie.Need-shared-slice-read-b Inv-loop μ-loop
+shared-slice-read-b c = omega arith
 
 add-i : tie.Need-add-i Inv-loop μ-loop
 add-i c = omega arith
@@ -40,23 +52,23 @@ loop-again : tie.Need-loop-again Inv-loop μ-loop
 loop-again c =
     let s = now (c .before .before .before .before .args .body) in
     let k = c .before .before .before .loop in
-    (omega arith, k .inv .1 ∙ all-passes ascii s (k .i) (length s) (omega arith) (omega arith) (le-leb _ _ (c .if1 .left)))
+    let b = getD s (k .i) 0 in
+    let x = all ascii (part (k .i + 1) (length s) s) in
+    let was : (ascii (k .most) && (ascii b && x)) ≡ all ascii s =
+    ap (λ (l : List ℕ). ascii (k .most) && all ascii l) (sym (part-cons (k .i) (length s) s (omega arith) (omega arith))) ∙ k .inv .1 in (
+      omega arith,
+      ⊎-elim (λ w. rw (w .1) (sym (larger (k .most) b x (omega (arith, w .0 .taken))) ∙ was))
+          (λ w. rw (w .1) (sym (smaller (k .most) b x (omega (arith, w .0 .left))) ∙ was))
+          (c .if1 .came),
+    )
 
-returns-2 : tie.Need-returns-2 Inv-loop μ-loop
-returns-2 c =
+returns : tie.Need-returns Inv-loop μ-loop
+returns c =
     let s = now (c .before .before .args .body) in
-    sym (c .before .loop .inv .1 ∙ all-done ascii s (c .before .loop .i) (length s) (omega arith))
+    let k = c .before .loop in
+    sym (and-true (ascii (k .most))) ∙ ap (λ (t : Bool). ascii (k .most) && t) (sym (all-done ascii s (k .i) (length s) (omega arith))) ∙ k .inv .1
 
 pub is-ascii-spec : {M : Type 1} → statement M
 is-ascii-spec =
     tie.close
-    (tie.spec
-    Inv-loop
-    μ-loop
-    loop-holds
-    shared-slice-read-if1
-    returns
-    add-i
-    loop-less
-    loop-again
-    returns-2)
+    (tie.spec Inv-loop μ-loop loop-holds shared-slice-read-b add-i loop-less loop-again returns)
