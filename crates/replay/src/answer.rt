@@ -38,14 +38,14 @@ pub struct Given {
     pub reply: Reply,
 }
 
-pub fn refused(number: u8, line: usize) -> Reply {
+pub(crate) fn refused(number: u8, line: usize) -> Reply {
     Reply {
         said: Said::Refused(Refusal { number, line }),
         party: blank(),
     }
 }
 
-pub fn reply_of(answer: Answer) -> Reply {
+pub(crate) fn reply_of(answer: Answer) -> Reply {
     let outcome = answer.outcome;
     let party = answer.party;
     let said = match outcome {
@@ -63,7 +63,7 @@ fn malformed() -> Given {
 }
 
 // The answer in a line of the list.
-pub fn given_reply(line: &[u8]) -> Given {
+pub(crate) fn given_reply(line: &[u8]) -> Given {
     let word = field(line, 3);
     let tabs = count_tabs(line);
     if tabs == 13 && same(word, b"ok") {

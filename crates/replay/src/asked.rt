@@ -57,7 +57,7 @@ pub enum NamedQuestion {
 }
 
 // The option of a tag, as `50` or `59A`.
-pub fn option_named(name: &[u8]) -> NamedOption {
+pub(crate) fn option_named(name: &[u8]) -> NamedOption {
     if name.len() < 2 || 3 < name.len() {
         return NamedOption::Unknown;
     }
@@ -121,7 +121,7 @@ fn choice_named(name: &[u8]) -> NamedChoice {
 }
 
 // The question of a reader's name and a letter's; an option has `parse` alone.
-pub fn question_named(reader: &[u8], letter: &[u8]) -> NamedQuestion {
+pub(crate) fn question_named(reader: &[u8], letter: &[u8]) -> NamedQuestion {
     let is_parse = same(letter, b"parse");
     if let NamedOption::Is(option) = option_named(reader) {
         if is_parse {
@@ -152,7 +152,7 @@ fn variant_named(choice: Choice, letter: &[u8]) -> NamedQuestion {
 }
 
 // Our answer.
-pub fn ask(question: Question, body: &[u8]) -> Answer {
+pub(crate) fn ask(question: Question, body: &[u8]) -> Answer {
     match question {
         Question::Option(option) => ask_option(option, body),
         Question::Parse(choice) => ask_choice(choice, body),

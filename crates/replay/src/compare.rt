@@ -19,7 +19,7 @@ pub enum Difference {
     Names,
 }
 
-pub fn compare(a: Reply, b: Reply) -> Difference {
+pub(crate) fn compare(a: Reply, b: Reply) -> Difference {
     let said = a.said;
     let other_said = b.said;
     match compare_said(said, other_said) {

@@ -6,7 +6,7 @@ ghost use lib.ListN.{length};
 ghost use Rattle.io.specs.Counts.{Counts};
 
 // The place of the first byte b from a place on, or the length.
-pub fn find(s: &[u8], from: usize, b: u8) -> usize
+pub(crate) fn find(s: &[u8], from: usize, b: u8) -> usize
     requires { ⌜ from ≤ length (now s) ⌝ }
     ensures { λ r. ⌜ (from ≤ r) × (r ≤ length (now (s .entry))) ⌝ }
 {
@@ -21,7 +21,7 @@ pub fn find(s: &[u8], from: usize, b: u8) -> usize
 }
 
 // The place after that byte, or the length.
-pub fn past(s: &[u8], from: usize, b: u8) -> usize
+pub(crate) fn past(s: &[u8], from: usize, b: u8) -> usize
     requires { ⌜ from ≤ length (now s) ⌝ }
     ensures { λ r. ⌜ (r ≤ length (now (s .entry))) × (from < length (now (s .entry)) → from < r) ⌝ }
 {
@@ -29,7 +29,7 @@ pub fn past(s: &[u8], from: usize, b: u8) -> usize
     if end < s.len() { end + 1 } else { end }
 }
 
-pub fn same(s: &[u8], t: &[u8]) -> bool {
+pub(crate) fn same(s: &[u8], t: &[u8]) -> bool {
     if s.len() != t.len() {
         return false;
     }
@@ -44,7 +44,7 @@ pub fn same(s: &[u8], t: &[u8]) -> bool {
 }
 
 // Whether a line has only bytes that stand in a list: 32 to 126, and tabs.
-pub fn is_plain(line: &[u8]) -> bool {
+pub(crate) fn is_plain(line: &[u8]) -> bool {
     let mut i = 0;
     while i < line.len() {
         let b = line[i];
@@ -57,7 +57,7 @@ pub fn is_plain(line: &[u8]) -> bool {
 }
 
 // How many tabs a line has: one less than fields.
-pub fn count_tabs(line: &[u8]) -> usize {
+pub(crate) fn count_tabs(line: &[u8]) -> usize {
     let mut count = 0;
     let mut i = 0;
     while i < line.len() {
@@ -70,7 +70,7 @@ pub fn count_tabs(line: &[u8]) -> usize {
 }
 
 // The field after k tabs; empty where the line has fewer.
-pub fn field(line: &[u8], k: usize) -> &[u8] {
+pub(crate) fn field(line: &[u8], k: usize) -> &[u8] {
     let mut from = 0;
     let mut left = k;
     while 0 < left {
@@ -95,7 +95,7 @@ fn no_number() -> Number {
 }
 
 // The number of one to five digits.
-pub fn decimal(field: &[u8]) -> Number {
+pub(crate) fn decimal(field: &[u8]) -> Number {
     let mut value = 0;
     let mut i = 0;
     while i < field.len() {
@@ -180,7 +180,7 @@ fn no_bytes() -> Bytes
     }
 }
 
-pub fn unescape(field: &[u8], out: &mut [u8]) -> Bytes
+pub(crate) fn unescape(field: &[u8], out: &mut [u8]) -> Bytes
     ensures { λ r. ⌜ Counts (r .len) (now (out .exit)) ⌝ }
 {
     let mut at = 0;
@@ -206,7 +206,7 @@ pub struct Listed {
     pub text: Text,
 }
 
-pub fn text(field: &[u8]) -> Listed {
+pub(crate) fn text(field: &[u8]) -> Listed {
     let mut bytes = [0u8; 38];
     let got = unescape(field, &mut bytes);
     Listed {

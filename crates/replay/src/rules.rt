@@ -36,7 +36,7 @@ enum Way {
     Neither,
 }
 
-pub fn expect(question: Question, body: &[u8], rust: Reply) -> Expected {
+pub(crate) fn expect(question: Question, body: &[u8], rust: Reply) -> Expected {
     if !is_letter(question) {
         return by(Rule::NotALetter, refused(14, 0));
     }

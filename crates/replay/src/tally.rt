@@ -35,7 +35,7 @@ fn more(n: u64) -> u64 {
 }
 
 impl Tally {
-    pub fn new() -> Self {
+    pub(crate) fn new() -> Self {
         Tally {
             line: 0,
             cases: 0,
@@ -48,13 +48,13 @@ impl Tally {
         }
     }
 
-    pub fn next_line(mut self) -> Self {
+    pub(crate) fn next_line(mut self) -> Self {
         self.line = more(self.line);
         self
     }
 
     // Counts a case, and prints its line if it differs.
-    pub fn note(mut self, verdict: Verdict) -> Self {
+    pub(crate) fn note(mut self, verdict: Verdict) -> Self {
         self.cases = more(self.cases);
         match verdict {
             Verdict::Agrees(rule) => self.agree(rule),
@@ -81,7 +81,7 @@ impl Tally {
     }
 
     // The last line. A list without a case is an error.
-    pub fn print(self) {
+    pub(crate) fn print(self) {
         if self.cases == 0 {
             print(b"error: no cases\n");
             return;
