@@ -1,5 +1,6 @@
 -- Wrong programs that the definitions rule out (document 01, 'For the auditor's form' and 'Traps for a porter').
 use mathlib.Core.Path.{_≡_, refl, ap}
+use mathlib.Core.Bool.{false}
 use mathlib.Core.List.{List, [], _∷_, _++_}
 use Prim.Native.Nat.{ℕ}
 use native.Mathlib.Omega.{arith}
@@ -18,6 +19,7 @@ use Rattle.field_utils.specs.Names.{parseLine, parseLines, parseNameAndAddress}
 use Rattle.reader.specs.Reading.{Reading, fourTexts, partyOf}
 use Rattle.reader.specs.Options.{accountHead, shortAccountHead, afterHead, read}
 use Rattle.choices.specs.Detection.{anyNumbered, firstLine, lastLine, bicLike, firstThat, pickOf, variantOf}
+use Rattle.promises.specs.Starred.{gives}
 use Rattle.field50.specs.Choices.{instructingParty, orderingCustomerFGH, orderingCustomerAFK, orderingCustomerNCF}
 use Rattle.field59.specs.Choices.{testLine, field59, field59By}
 
@@ -69,7 +71,7 @@ unfolding padded textOf said letter digit alphanumeric signs legal parseSwiftCha
 tested-first = refl
 
 -- every trailing CR dropped: one CR before the LF is, the other stays
-pub one-cr : read Field50NoOption (bytes "A\r\r\n") .party .count ≡ 1
+pub one-cr : read Field50NoOption (bytes "A\r\r\n") ≡ gives Field50NoOption false [] [] (bytes "A\r" ∷ [])
 unfolding padded textOf said letter digit alphanumeric signs legal parseSwiftChars parseAccount bicLength parseBic upto onto starts lines white trimmedStart keep trimmedEnd trimmed isNumbered secondSlash identifierReply parsePartyIdentifier parseLine parseLines parseNameAndAddress fourTexts partyOf accountHead shortAccountHead afterHead read
 one-cr = refl
 
