@@ -1,5 +1,5 @@
 -- Wrong programs that the definitions rule out (document 01, 'For the auditor's form' and 'Traps for a porter').
-use mathlib.Core.Path.{_≡_, refl, ap}
+use mathlib.Core.Path.{_≡_, refl, sym, _∙_, ap}
 use mathlib.Core.Bool.{false}
 use mathlib.Core.List.{List, [], _∷_, _++_}
 use Prim.Native.Nat.{ℕ}
@@ -51,36 +51,40 @@ pub record Reads (o : PartyOption) : Type 0 where
   pub second : read o (bodyOf o (bytes "B")) .reply ≡ accepted
   pub apart : Same (read o (bodyOf o (bytes "A")) .party) (read o (bodyOf o (bytes "B")) .party) → ⊥
 
+-- what shows it: the byte of the text at a place
+shown : (o : PartyOption) (i : ℕ) → read o (bodyOf o (bytes "A")) .reply ≡ accepted → read o (bodyOf o (bytes "B")) .reply ≡ accepted
+    → getD (saidBytes (said (read o (bodyOf o (bytes "A")) .party))) i 0 ≡ 65 → getD (saidBytes (said (read o (bodyOf o (bytes "B")) .party))) i 0 ≡ 66
+    → Reads o
+shown o i a b x y = record {
+  first = a;
+  second = b;
+  apart = λ e. let z : _≡_ {A = ℕ} 65 66 = sym x ∙ ap (λ (s : Said). getD (saidBytes s) i 0) e ∙ y in omega arith;
+}
+
 pub reads : (o : PartyOption) → Reads o
 unfolding padded textOf said letter digit alphanumeric signs legal parseSwiftChars parseAccount bicLength parseBic upto onto starts lines white trimmedStart keep trimmedEnd trimmed isNumbered secondSlash identifierReply parsePartyIdentifier parseLine parseLines parseNameAndAddress fourTexts partyOf accountHead shortAccountHead afterHead read
-reads Field50NoOption = record { first = refl; second = refl; apart = λ e. let z : _≡_ {A = ℕ} 65 66 = ap (λ (s : Said). getD (saidBytes s) 0 0) e in omega arith }
-reads Field50A = record { first = refl; second = refl; apart = λ e. let z : _≡_ {A = ℕ} 65 66 = ap (λ (s : Said). getD (saidBytes s) 0 0) e in omega arith }
-reads Field50F = record { first = refl; second = refl; apart = λ e. let z : _≡_ {A = ℕ} 65 66 = ap (λ (s : Said). getD (saidBytes s) 0 0) e in omega arith }
-reads Field50K = record { first = refl; second = refl; apart = λ e. let z : _≡_ {A = ℕ} 65 66 = ap (λ (s : Said). getD (saidBytes s) 0 0) e in omega arith }
-reads Field50C = record { first = refl; second = refl; apart = λ e. let z : _≡_ {A = ℕ} 65 66 = ap (λ (s : Said). getD (saidBytes s) 0 0) e in omega arith }
-reads Field50L = record { first = refl; second = refl; apart = λ e. let z : _≡_ {A = ℕ} 65 66 = ap (λ (s : Said). getD (saidBytes s) 0 0) e in omega arith }
-reads Field50G = record { first = refl; second = refl; apart = λ e. let z : _≡_ {A = ℕ} 65 66 = ap (λ (s : Said). getD (saidBytes s) 0 0) e in omega arith }
-reads Field50H = record { first = refl; second = refl; apart = λ e. let z : _≡_ {A = ℕ} 65 66 = ap (λ (s : Said). getD (saidBytes s) 0 0) e in omega arith }
-reads Field59NoOption = record { first = refl; second = refl; apart = λ e. let z : _≡_ {A = ℕ} 65 66 = ap (λ (s : Said). getD (saidBytes s) 0 0) e in omega arith }
-reads Field59A = record { first = refl; second = refl; apart = λ e. let z : _≡_ {A = ℕ} 65 66 = ap (λ (s : Said). getD (saidBytes s) 0 0) e in omega arith }
-reads Field59F = record { first = refl; second = refl; apart = λ e. let z : _≡_ {A = ℕ} 65 66 = ap (λ (s : Said). getD (saidBytes s) 2 0) e in omega arith }
-
--- names counted before they are tested: the fifth name of 50K is too long, and that is said first
-pub tested-first : read Field50K (bytes "A\nB\nC\nD\n" ++ replicate 36 65) .reply ≡ refused 4 5
-unfolding padded textOf said letter digit alphanumeric signs legal parseSwiftChars parseAccount bicLength parseBic upto onto starts lines white trimmedStart keep trimmedEnd trimmed isNumbered secondSlash identifierReply parsePartyIdentifier parseLine parseLines parseNameAndAddress fourTexts partyOf accountHead shortAccountHead afterHead read
-tested-first = refl
-
--- every trailing CR dropped: one CR before the LF is, the other stays
-pub one-cr : read Field50NoOption (bytes "A\r\r\n") ≡ gives Field50NoOption false [] [] (bytes "A\r" ∷ [])
-unfolding padded textOf said letter digit alphanumeric signs legal parseSwiftChars parseAccount bicLength parseBic upto onto starts lines white trimmedStart keep trimmedEnd trimmed isNumbered secondSlash identifierReply parsePartyIdentifier parseLine parseLines parseNameAndAddress fourTexts partyOf accountHead shortAccountHead afterHead read
-one-cr = refl
+reads Field50NoOption = shown Field50NoOption 0 refl refl refl refl
+reads Field50A = shown Field50A 0 refl refl refl refl
+reads Field50F = shown Field50F 0 refl refl refl refl
+reads Field50K = shown Field50K 0 refl refl refl refl
+reads Field50C = shown Field50C 0 refl refl refl refl
+reads Field50L = shown Field50L 0 refl refl refl refl
+reads Field50G = shown Field50G 0 refl refl refl refl
+reads Field50H = shown Field50H 0 refl refl refl refl
+reads Field59NoOption = shown Field59NoOption 0 refl refl refl refl
+reads Field59A = shown Field59A 0 refl refl refl refl
+reads Field59F = shown Field59F 2 refl refl refl refl
 
 -- a reading accepted as an option
 abbrev As : Reading → PartyOption → Type 0
 As r o = (r .reply ≡ accepted) × (r .party .option ≡ o)
 
--- detection in another order: each body here is one that a later option would take too
-pub record Orders : Type 0 where
+pub record RuledOut : Type 0 where
+  -- names counted before they are tested: the fifth name of 50K is too long, and that is said first
+  pub tested-first : read Field50K (bytes "A\nB\nC\nD\n" ++ replicate 36 65) .reply ≡ refused 4 5
+  -- every trailing CR dropped: one CR before the LF is, the other stays
+  pub one-cr : read Field50NoOption (bytes "A\r\r\n") ≡ gives Field50NoOption false [] [] (bytes "A\r" ∷ [])
+  -- detection in another order: each body here is one that a later option would take too
   pub c-before-l : As (instructingParty (bytes "ABCDEFGH")) Field50C
   pub f-before-h : As (orderingCustomerFGH (bytes "/X\n1/A")) Field50F
   pub g-before-h : As (orderingCustomerFGH (bytes "/X\nABCDEFGH")) Field50G
@@ -89,10 +93,14 @@ pub record Orders : Type 0 where
   pub f-before-50 : As (orderingCustomerNCF (bytes "X\n1/A")) Field50F
   pub a-before-59 : As (field59 (bytes "ABCDEFGH")) Field59A
   pub f-before-59 : As (field59 (bytes "1/A")) Field59F
+  -- detecting when `Field59` gets no letter: it does not
+  pub no-letter : As (field59By (bytes "ABCDEFGH") 0) Field59NoOption
 
-pub orders : Orders
-unfolding padded textOf said letter digit alphanumeric signs legal parseSwiftChars parseAccount bicLength parseBic upto onto starts lines white trimmedStart keep trimmedEnd trimmed isNumbered secondSlash identifierReply parsePartyIdentifier parseLine parseLines parseNameAndAddress fourTexts partyOf accountHead shortAccountHead afterHead read anyNumbered firstLine lastLine bicLike firstThat pickOf variantOf instructingParty orderingCustomerFGH orderingCustomerAFK orderingCustomerNCF testLine field59
-orders = record {
+pub ruled-out : RuledOut
+unfolding padded textOf said letter digit alphanumeric signs legal parseSwiftChars parseAccount bicLength parseBic upto onto starts lines white trimmedStart keep trimmedEnd trimmed isNumbered secondSlash identifierReply parsePartyIdentifier parseLine parseLines parseNameAndAddress fourTexts partyOf accountHead shortAccountHead afterHead read anyNumbered firstLine lastLine bicLike firstThat pickOf variantOf instructingParty orderingCustomerFGH orderingCustomerAFK orderingCustomerNCF testLine field59 field59By
+ruled-out = record {
+  tested-first = refl;
+  one-cr = refl;
   c-before-l = (refl, refl);
   f-before-h = (refl, refl);
   g-before-h = (refl, refl);
@@ -101,9 +109,5 @@ orders = record {
   f-before-50 = (refl, refl);
   a-before-59 = (refl, refl);
   f-before-59 = (refl, refl);
+  no-letter = (refl, refl);
 }
-
--- detecting when `Field59` gets no letter: it does not
-pub no-letter : As (field59By (bytes "ABCDEFGH") 0) Field59NoOption
-unfolding padded textOf said letter digit alphanumeric signs legal parseSwiftChars parseAccount bicLength parseBic upto onto starts lines white trimmedStart keep trimmedEnd trimmed isNumbered secondSlash identifierReply parsePartyIdentifier parseLine parseLines parseNameAndAddress fourTexts partyOf accountHead shortAccountHead afterHead read anyNumbered firstLine lastLine bicLike firstThat pickOf variantOf testLine field59 field59By
-no-letter = (refl, refl)
