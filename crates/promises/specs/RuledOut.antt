@@ -20,8 +20,8 @@ use Rattle.reader.specs.Reading.{Reading, fourTexts, partyOf}
 use Rattle.reader.specs.Options.{accountHead, shortAccountHead, afterHead, read}
 use Rattle.choices.specs.Detection.{anyNumbered, firstLine, lastLine, bicLike, firstThat, pickOf, variantOf}
 use Rattle.promises.specs.Starred.{gives}
-use Rattle.field50.specs.Choices.{instructingParty, orderingCustomerFGH, orderingCustomerAFK, orderingCustomerNCF}
-use Rattle.field59.specs.Choices.{testLine, field59, field59By}
+use Rattle.field50.specs.Choices.{instructingParty, orderingCustomerFGH, orderingCustomerAFK, orderingCustomerNCF, creditor}
+use Rattle.field59.specs.Choices.{testLine, field59, debtor, field59By}
 
 -- two bodies that an option accepts, one letter apart
 abbrev pub bodyOf : PartyOption → List ℕ → List ℕ
@@ -91,13 +91,15 @@ pub record RuledOut : Type 0 where
   pub f-before-k : As (orderingCustomerAFK (bytes "X\n1/A")) Field50F
   pub a-before-k : As (orderingCustomerAFK (bytes "ABCDEFGH")) Field50A
   pub f-before-50 : As (orderingCustomerNCF (bytes "X\n1/A")) Field50F
+  pub creditor-a-before-k : As (creditor (bytes "ABCDEFGH")) Field50A
   pub a-before-59 : As (field59 (bytes "ABCDEFGH")) Field59A
   pub f-before-59 : As (field59 (bytes "1/A")) Field59F
+  pub debtor-a-before-59 : As (debtor (bytes "ABCDEFGH")) Field59A
   -- detecting when `Field59` gets no letter: it does not
   pub no-letter : As (field59By (bytes "ABCDEFGH") 0) Field59NoOption
 
 pub ruled-out : RuledOut
-unfolding padded textOf said letter digit alphanumeric signs legal parseSwiftChars parseAccount bicLength parseBic upto onto starts lines white trimmedStart keep trimmedEnd trimmed isNumbered secondSlash identifierReply parsePartyIdentifier parseLine parseLines parseNameAndAddress fourTexts partyOf accountHead shortAccountHead afterHead read anyNumbered firstLine lastLine bicLike firstThat pickOf variantOf instructingParty orderingCustomerFGH orderingCustomerAFK orderingCustomerNCF testLine field59 field59By
+unfolding padded textOf said letter digit alphanumeric signs legal parseSwiftChars parseAccount bicLength parseBic upto onto starts lines white trimmedStart keep trimmedEnd trimmed isNumbered secondSlash identifierReply parsePartyIdentifier parseLine parseLines parseNameAndAddress fourTexts partyOf accountHead shortAccountHead afterHead read anyNumbered firstLine lastLine bicLike firstThat pickOf variantOf instructingParty orderingCustomerFGH orderingCustomerAFK orderingCustomerNCF creditor testLine field59 debtor field59By
 ruled-out = record {
   tested-first = refl;
   one-cr = refl;
@@ -107,7 +109,9 @@ ruled-out = record {
   f-before-k = (refl, refl);
   a-before-k = (refl, refl);
   f-before-50 = (refl, refl);
+  creditor-a-before-k = (refl, refl);
   a-before-59 = (refl, refl);
   f-before-59 = (refl, refl);
+  debtor-a-before-59 = (refl, refl);
   no-letter = (refl, refl);
 }
