@@ -17,3 +17,15 @@ must-held false k n e = absurd (refused≢accepted e)
 pub then-first : (r s : Reply) → (r then s) ≡ accepted → r ≡ accepted
 then-first accepted s e = refl
 then-first (refused k n) s e = absurd (refused≢accepted e)
+
+-- and so does the second
+pub then-second : (r s : Reply) → (r then s) ≡ accepted → s ≡ accepted
+then-second accepted s e = e
+then-second (refused k n) s e = absurd (refused≢accepted e)
+
+-- what holds passes; checks that pass pass together
+pub must-passes : (b : Bool) (k n : ℕ) → b ≡ true → must b k n ≡ accepted
+must-passes b k n e = rw e
+
+pub then-passes : (r s : Reply) → r ≡ accepted → s ≡ accepted → (r then s) ≡ accepted
+then-passes r s e f = rw (e, f)

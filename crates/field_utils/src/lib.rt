@@ -68,7 +68,7 @@ pub fn parse_party_identifier(input: &[u8], line: usize, option: PartyOption) ->
 }
 
 // What follows the first slash: a second one at once, a code before it, or none.
-fn parse_remaining(remaining: &[u8], longest: usize, line: usize) -> Outcome
+pub fn parse_remaining(remaining: &[u8], longest: usize, line: usize) -> Outcome
     ensures { λ r. ⌜ told r ≡ identifierReply longest line (now (remaining .entry)) ⌝ }
 {
     let slash = find(remaining, 0, b'/');
@@ -167,7 +167,7 @@ fn parse_turn(input: &[u8], line: usize, turn: usize) -> Outcome
 }
 
 // The count of the names: 7.
-fn parse_count(count: usize, most: usize) -> Outcome
+pub fn parse_count(count: usize, most: usize) -> Outcome
     ensures { λ r. ⌜ told r ≡ parseCount most count ⌝ }
 {
     if count < 1 {

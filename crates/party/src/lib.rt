@@ -198,7 +198,7 @@ const NOTHING: Text = Text {
 };
 
 // The option's place in the table.
-fn index_of(option: PartyOption) -> usize
+pub fn index_of(option: PartyOption) -> usize
     ensures { λ r. ⌜ r ≡ placeOf option ⌝ }
 {
     match option {

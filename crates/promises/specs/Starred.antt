@@ -1,5 +1,5 @@
 -- The starred bodies of document 01 ('Bodies at the edges'), as one list with one theorem over the definitions that the contracts cite.
--- Of reading and detecting.
+-- Of reading, detecting and writing.
 use mathlib.Core.Path.{_≡_, refl}
 use mathlib.Core.Bool.{Bool, true, false}
 use mathlib.Core.List.{List, [], _∷_}
@@ -8,6 +8,7 @@ use Rattle.errors.specs.Refusals.{accepted}
 use Rattle.party.specs.declared.PartyOption.{PartyOption}
 use Rattle.party.specs.declared.PartyOption.the-variants.{Field50NoOption, Field50A, Field50F, Field50K, Field50C, Field50G, Field50H, Field59F}
 use Rattle.party.specs.Text.{padded, textOf}
+use Rattle.party.specs.Party.{said}
 use Rattle.swift_utils.specs.Bytes.{bytes, letter, digit, alphanumeric, signs, legal}
 use Rattle.swift_utils.specs.Checks.{parseSwiftChars, parseAccount, bicLength, parseBic}
 use Rattle.field_utils.specs.Lines.{upto, onto, starts, lines}
@@ -16,13 +17,18 @@ use Rattle.field_utils.specs.Identifier.{isNumbered, secondSlash, identifierRep
 use Rattle.field_utils.specs.Names.{parseLine, parseLines, parseNameAndAddress}
 use Rattle.reader.specs.Reading.{Reading, fourTexts, partyOf}
 use Rattle.reader.specs.Options.{accountHead, shortAccountHead, afterHead, read}
+use Rattle.writer.specs.Writing.{nameLines, writtenLines, joined, writtenBody, writtenField}
 use Rattle.choices.specs.Detection.{anyNumbered, firstLine, lastLine, bicLike, refusing, firstThat}
 use Rattle.field50.specs.Choices.{orderingCustomerAFK, orderingCustomerNCF}
 
--- a reading by the definitions, and what document 01 says of it
-pub record Case : Type 0 where
-  pub reads : Reading
-  pub says : Reading
+-- what the definitions give, and what document 01 says of it: a reading, or a written field
+pub data Case : Type 0 where
+  reads : Reading → Reading → Case
+  writes : List ℕ → List ℕ → Case
+
+-- what is written of the record that a reading gives
+abbrev pub fieldOf : Reading → List ℕ
+fieldOf r = writtenField (said (r .party))
 
 -- accepted, with the record of these texts
 abbrev pub gives : PartyOption → Bool → List ℕ → List ℕ → List (List ℕ) → Reading
@@ -33,33 +39,41 @@ gives o present account bic names = record {
 
 abbrev pub starred : List Case
 starred =
-    -- 50K `a⏎⏎`: lines `a` and empty
-    record { reads = read Field50K (bytes "a\n\n"); says = gives Field50K false [] [] (bytes "a" ∷ [] ∷ []) }
-    -- 59F `/1⏎1/A` is read; the body that it writes is 5, line 2
-    ∷ record { reads = read Field59F (bytes "/1\n1/A"); says = gives Field59F true (bytes "1") [] (bytes "1/A" ∷ []) }
-    ∷ record { reads = read Field59F (bytes "/1\n\n1/A"); says = refusing 5 2 }
-    -- 50F `X⏎7/A⏎7/B`: its digits are not kept
-    ∷ record { reads = read Field50F (bytes "X\n7/A\n7/B"); says = gives Field50F true (bytes "X") [] (bytes "A" ∷ bytes "B" ∷ []) }
+    -- 50K `a⏎⏎`: lines `a` and empty; writes `:50K:a⏎`
+    reads (read Field50K (bytes "a\n\n")) (gives Field50K false [] [] (bytes "a" ∷ [] ∷ []))
+    ∷ writes (fieldOf (read Field50K (bytes "a\n\n"))) (bytes ":50K:a\n")
+    -- 59F `/1⏎1/A`: writes `:59F:/1⏎⏎1/A`, whose body is 5, line 2
+    ∷ reads (read Field59F (bytes "/1\n1/A")) (gives Field59F true (bytes "1") [] (bytes "1/A" ∷ []))
+    ∷ writes (fieldOf (read Field59F (bytes "/1\n1/A"))) (bytes ":59F:/1\n\n1/A")
+    ∷ reads (read Field59F (bytes "/1\n\n1/A")) (refusing 5 2)
+    -- 50F `X⏎7/A⏎7/B`: its digits are not kept; writes `:50F:X⏎1/A⏎2/B`
+    ∷ reads (read Field50F (bytes "X\n7/A\n7/B")) (gives Field50F true (bytes "X") [] (bytes "A" ∷ bytes "B" ∷ []))
+    ∷ writes (fieldOf (read Field50F (bytes "X\n7/A\n7/B"))) (bytes ":50F:X\n1/A\n2/B")
     -- 59F `2/A`: 6, line 1
-    ∷ record { reads = read Field59F (bytes "2/A"); says = refusing 6 1 }
+    ∷ reads (read Field59F (bytes "2/A")) (refusing 6 1)
     -- AFK detected, `JOHNDOES⏎STREETAB`: 50A, BIC JOHNDOES
-    ∷ record { reads = orderingCustomerAFK (bytes "JOHNDOES\nSTREETAB"); says = gives Field50A false [] (bytes "JOHNDOES") [] }
+    ∷ reads (orderingCustomerAFK (bytes "JOHNDOES\nSTREETAB")) (gives Field50A false [] (bytes "JOHNDOES") [])
     -- 50A `/⏎ABCDEFGH`: empty identifier; with `//`: 2, line 1
-    ∷ record { reads = read Field50A (bytes "/\nABCDEFGH"); says = gives Field50A true [] (bytes "ABCDEFGH") [] }
-    ∷ record { reads = read Field50A (bytes "//\nABCDEFGH"); says = refusing 2 1 }
+    ∷ reads (read Field50A (bytes "/\nABCDEFGH")) (gives Field50A true [] (bytes "ABCDEFGH") [])
+    ∷ reads (read Field50A (bytes "//\nABCDEFGH")) (refusing 2 1)
     -- 50H `/~⏎A` accepted; 50G `/~⏎ABCDEFGH`: 3, line 1
-    ∷ record { reads = read Field50H (bytes "/~\nA"); says = gives Field50H true (bytes "~") [] (bytes "A" ∷ []) }
-    ∷ record { reads = read Field50G (bytes "/~\nABCDEFGH"); says = refusing 3 1 }
+    ∷ reads (read Field50H (bytes "/~\nA")) (gives Field50H true (bytes "~") [] (bytes "A" ∷ []))
+    ∷ reads (read Field50G (bytes "/~\nABCDEFGH")) (refusing 3 1)
     -- NCF detected, `ABCDEFGH⏎`: 50, one line; without LF: 50C
-    ∷ record { reads = orderingCustomerNCF (bytes "ABCDEFGH\n"); says = gives Field50NoOption false [] [] (bytes "ABCDEFGH" ∷ []) }
-    ∷ record { reads = orderingCustomerNCF (bytes "ABCDEFGH"); says = gives Field50C false [] (bytes "ABCDEFGH") [] }
+    ∷ reads (orderingCustomerNCF (bytes "ABCDEFGH\n")) (gives Field50NoOption false [] [] (bytes "ABCDEFGH" ∷ []))
+    ∷ reads (orderingCustomerNCF (bytes "ABCDEFGH")) (gives Field50C false [] (bytes "ABCDEFGH") [])
     ∷ []
 
--- each case of a list reads as document 01 says
+-- a case is as document 01 says
+abbrev pub Holds : Case → Type 0
+Holds (reads r s) = r ≡ s
+Holds (writes w s) = w ≡ s
+
+-- each case of a list is
 abbrev pub Hold : List Case → Type 0
 Hold [] = Unit {0}
-Hold (c ∷ cs) = (c .reads ≡ c .says) × Hold cs
+Hold (c ∷ cs) = Holds c × Hold cs
 
 pub starred-hold : Hold starred
-unfolding padded textOf letter digit alphanumeric signs legal parseSwiftChars parseAccount bicLength parseBic upto onto starts lines white trimmedStart keep trimmedEnd trimmed isNumbered secondSlash identifierReply parsePartyIdentifier parseLine parseLines parseNameAndAddress fourTexts partyOf accountHead shortAccountHead afterHead read anyNumbered firstLine lastLine bicLike firstThat orderingCustomerAFK orderingCustomerNCF
-starred-hold = (refl, (refl, (refl, (refl, (refl, (refl, (refl, (refl, (refl, (refl, (refl, (refl, tt))))))))))))
+unfolding padded textOf letter digit alphanumeric signs legal parseSwiftChars parseAccount bicLength parseBic upto onto starts lines white trimmedStart keep trimmedEnd trimmed isNumbered secondSlash identifierReply parsePartyIdentifier parseLine parseLines parseNameAndAddress fourTexts partyOf accountHead shortAccountHead afterHead read anyNumbered firstLine lastLine bicLike firstThat orderingCustomerAFK orderingCustomerNCF said nameLines writtenLines joined writtenBody writtenField
+starred-hold = (refl, (refl, (refl, (refl, (refl, (refl, (refl, (refl, (refl, (refl, (refl, (refl, (refl, (refl, (refl, tt)))))))))))))))

@@ -9,8 +9,8 @@ use lib.ListN.{length, length-map}
 use borrow.Author.Tests.{leb-true, eq-eqb, ne-eqb}
 use Rattle.errors.specs.declared.ParseError.{ParseError}
 use Rattle.errors.specs.declared.Outcome.the-variants.{Accepted, Refused}
-use Rattle.errors.specs.Refusals.{Reply, accepted, refused, toldError, _then_}
-use Rattle.errors.proofs.Replies.{refused≢accepted, must-held}
+use Rattle.errors.specs.Refusals.{Reply, accepted, refused, toldError}
+use Rattle.errors.proofs.Replies.{must-held, then-second}
 use Rattle.party.specs.declared.PartyOption.{PartyOption}
 use Rattle.party.specs.declared.PartyOption.the-variants.{Field50NoOption, Field50A, Field50F, Field50K, Field50C, Field50L, Field50G, Field50H, Field59NoOption, Field59A, Field59F}
 use Rattle.party.specs.declared.Limits.{Limits}
@@ -69,10 +69,6 @@ pub text-line : (o : PartyOption) (body : List ℕ) → among body 10 ≡ false 
 text-line o body e = rw e
 
 -- names that pass are at most four
-then-second : (r s : Reply) → (r then s) ≡ accepted → s ≡ accepted
-then-second accepted s e = e
-then-second (refused k n) s e = absurd (refused≢accepted e)
-
 and-second : (p q : Bool) → (p && q) ≡ true → q ≡ true
 and-second true q e = e
 and-second false q e = absurd (false≢true e)

@@ -42,7 +42,7 @@ pub struct Answer {
 }
 
 // What the first line is to an option: a name, an identifier, or an account, whose forms differ.
-enum First {
+pub enum First {
     Name,
     Identified,
     Account,
@@ -53,13 +53,13 @@ enum First {
 }
 
 // What a body is to an option: a BIC, a text, or lines.
-enum Layout {
+pub enum Layout {
     BicOnly,
     TextOnly,
     ByLines,
 }
 
-fn first_of(option: PartyOption) -> First
+pub fn first_of(option: PartyOption) -> First
     ensures { λ r. ⌜ r ≡ firstOf option ⌝ }
 {
     match option {
@@ -166,7 +166,7 @@ fn identifier_head(line: &[u8], option: PartyOption) -> HeadAt
 }
 
 // A text as an account: its length, then its bytes.
-fn account(text: &[u8], option: PartyOption) -> Outcome
+pub fn account(text: &[u8], option: PartyOption) -> Outcome
     ensures { λ r. ⌜ told r ≡ accountReply option (now (text .entry)) ⌝ }
 {
     let limits = limits_of(option);
@@ -174,7 +174,7 @@ fn account(text: &[u8], option: PartyOption) -> Outcome
 }
 
 // Its length alone.
-fn account_length(text: &[u8], option: PartyOption) -> Outcome
+pub fn account_length(text: &[u8], option: PartyOption) -> Outcome
     ensures { λ r. ⌜ told r ≡ lengthReply option (now (text .entry)) ⌝ }
 {
     let limits = limits_of(option);
@@ -426,7 +426,7 @@ fn read_text_only(option: PartyOption, body: &[u8]) -> Answer
 }
 
 // Whether no byte is above 127: the largest is not. The compiler takes this loop many bytes at a time.
-fn is_ascii(body: &[u8]) -> bool
+pub fn is_ascii(body: &[u8]) -> bool
     ensures { λ r. ⌜ r ≡ all ascii (now (body .entry)) ⌝ }
 {
     let mut most = 0;

@@ -99,7 +99,7 @@ fn given_refusal(line: &[u8]) -> Given {
     }
 }
 
-// The record in a line. What the Rust writes of it, field 13, is not asked of readers.
+// The record in a line. What the Rust writes of it, field 13, is compared in writing.rt.
 fn given_party(line: &[u8]) -> Given {
     let NamedOption::Is(option) = option_named(field(line, 4)) else {
         return malformed();

@@ -17,6 +17,7 @@ pub enum Difference {
     Account,
     Bic,
     Names,
+    Written,
 }
 
 pub(crate) fn compare(a: Reply, b: Reply) -> Difference {

@@ -1,11 +1,13 @@
 // Replays the list of the Rust's answers, from standard input: asks our readers each case, and compares each answer with what is
-// expected. Says which cases differ, and at the end how many there are of each kind.
+// expected; has our writer write each record, and compares it with what the Rust writes. Says which cases differ, and at the end how
+// many there are of each kind.
 mod answer;
 mod asked;
 mod compare;
 mod list;
 mod rules;
 mod tally;
+mod writing;
 
 use answer::Reply;
 use answer::given_reply;
@@ -23,9 +25,13 @@ use list::find;
 use list::is_plain;
 use list::past;
 use list::unescape;
+use rules::Rule;
 use rules::expect;
 use tally::Tally;
 use tally::Verdict;
+use writing::LONGEST;
+use writing::Writing;
+use writing::write;
 
 // The verdict on a case, from its line of the list.
 fn judge(line: &[u8]) -> Verdict {
@@ -35,23 +41,34 @@ fn judge(line: &[u8]) -> Verdict {
     let rust = given_reply(line);
     let mut buffer = [0u8; 4096];
     let body = unescape(field(line, 2), &mut buffer);
-    if !is_plain(line) || !rust.whole || !body.whole {
+    let mut written = [0u8; LONGEST];
+    let text = unescape(field(line, 13), &mut written);
+    if !is_plain(line) || !rust.whole || !body.whole || !text.whole {
         return Verdict::Differs(Difference::Malformed);
     }
     let len = body.len;
+    let text_len = text.len;
     let reply = rust.reply;
-    weigh(question, &buffer[..len], reply)
+    weigh(question, &buffer[..len], reply, &written[..text_len])
 }
 
-// The verdict on our answer, from the question, the body and what the Rust answers.
-fn weigh(question: Question, body: &[u8], rust: Reply) -> Verdict {
+// The verdict on our answer, from the question, the body, what the Rust answers and the text that it writes.
+fn weigh(question: Question, body: &[u8], rust: Reply, text: &[u8]) -> Verdict {
     let wanted = expect(question, body, rust);
     let ours = reply_of(ask(question, body));
     let rule = wanted.rule;
     let reply = wanted.reply;
     match compare(reply, ours) {
-        Difference::Nothing => Verdict::Agrees(rule),
+        Difference::Nothing => settle(rule, write(rust, text)),
         found => Verdict::Differs(found),
+    }
+}
+
+// The verdict where our answer is as expected.
+fn settle(rule: Rule, writing: Writing) -> Verdict {
+    match writing {
+        Writing::Differs => Verdict::Differs(Difference::Written),
+        _ => Verdict::Agrees(rule, writing),
     }
 }
 

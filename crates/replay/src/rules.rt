@@ -63,7 +63,7 @@ fn is_letter(question: Question) -> bool {
     }
 }
 
-fn is_ascii(s: &[u8]) -> bool {
+pub(crate) fn is_ascii(s: &[u8]) -> bool {
     let mut i = 0;
     while i < s.len() {
         if 127 < s[i] {
@@ -126,7 +126,7 @@ fn is_refusal(said: Said, number: u8, line: usize) -> bool {
     }
 }
 
-fn is_accepted(said: Said) -> bool {
+pub(crate) fn is_accepted(said: Said) -> bool {
     match said {
         Said::Accepted => true,
         _ => false,

@@ -1,11 +1,12 @@
 // The count of the cases, and what is printed.
 use crate::compare::Difference;
 use crate::rules::Rule;
+use crate::writing::Writing;
 use libc::STDOUT_FILENO;
 
-// What came of a case: ours is as expected by a rule, or something differs.
+// What came of a case: ours is as expected by a rule, and so is what is written; or something differs.
 pub enum Verdict {
-    Agrees(Rule),
+    Agrees(Rule, Writing),
     Differs(Difference),
 }
 
@@ -23,6 +24,9 @@ pub struct Tally {
     letter: u64,
     account: u64,
     differ: u64,
+    // records written as the Rust, and refused by rule 22
+    written: u64,
+    refused: u64,
 }
 
 // The list has too few lines for these to wrap.
@@ -45,6 +49,8 @@ impl Tally {
             letter: 0,
             account: 0,
             differ: 0,
+            written: 0,
+            refused: 0,
         }
     }
 
@@ -57,7 +63,7 @@ impl Tally {
     pub(crate) fn note(mut self, verdict: Verdict) -> Self {
         self.cases = more(self.cases);
         match verdict {
-            Verdict::Agrees(rule) => self.agree(rule),
+            Verdict::Agrees(rule, writing) => self.agree(rule).wrote(writing),
             Verdict::Differs(difference) => {
                 if self.differ < MOST {
                     print_number(b"line ", self.line);
@@ -80,6 +86,15 @@ impl Tally {
         self
     }
 
+    fn wrote(mut self, writing: Writing) -> Self {
+        match writing {
+            Writing::AsRust => self.written = more(self.written),
+            Writing::ByRule => self.refused = more(self.refused),
+            _ => {}
+        }
+        self
+    }
+
     // The last line. A list without a case is an error.
     pub(crate) fn print(self) {
         if self.cases == 0 {
@@ -95,7 +110,10 @@ impl Tally {
         print_number(b", 14: ", self.letter);
         print_number(b", 50H: ", self.account);
         print_number(b"), ", self.differ);
-        print(b" differ\n");
+        print_number(b" differ; ", sum(self.written, self.refused));
+        print_number(b" records: ", self.written);
+        print_number(b" written as the Rust, ", self.refused);
+        print(b" by rule (22), 3 buffers each\n");
     }
 }
 
@@ -119,5 +137,6 @@ fn print_difference(difference: Difference) {
         Difference::Account => print(b": account\n"),
         Difference::Bic => print(b": BIC\n"),
         Difference::Names => print(b": names\n"),
+        Difference::Written => print(b": written\n"),
     }
 }

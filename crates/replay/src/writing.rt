@@ -1,0 +1,113 @@
+// The record of a case, written by our writer and compared with the text that the Rust writes of it.
+use crate::answer::Reply;
+use crate::rules::is_accepted;
+use crate::rules::is_ascii;
+use errors::Outcome;
+use party::Party;
+use writer::to_swift_string;
+ghost use Prim.Native.Nat.{_≤_};
+ghost use lib.ListN.{length};
+
+// What came of writing: the answer has no record; it is written as the Rust writes it; it is refused by rule; or something differs.
+pub enum Writing {
+    NoRecord,
+    AsRust,
+    ByRule,
+    Differs,
+}
+
+// The longest text that is compared: the room has 8 bytes before it, and some after it.
+pub const LONGEST: usize = 240;
+
+// Writes the record that the Rust reads. One with a byte above 127 no reader of ours gives (13), so it is refused with 22.
+pub(crate) fn write(rust: Reply, text: &[u8]) -> Writing {
+    let said = rust.said;
+    let party = rust.party;
+    if !is_accepted(said) {
+        return Writing::NoRecord;
+    }
+    if text.len() == 0 || LONGEST < text.len() {
+        return Writing::Differs;
+    }
+    if is_ascii(text) {
+        if is_written(party, text) {
+            return Writing::AsRust;
+        }
+        return Writing::Differs;
+    }
+    if is_refused(party, text.len()) {
+        return Writing::ByRule;
+    }
+    Writing::Differs
+}
+
+// Into buffers one byte short, exact and one byte over: the first is refused with 24.
+fn is_written(party: Party, text: &[u8]) -> bool
+    requires { ⌜ (1 ≤ length (now text)) × (length (now text) ≤ 240) ⌝ }
+{
+    let len = text.len();
+    gives(party, len - 1, 24, b"") && gives(party, len, 0, text) && gives(party, len + 1, 0, text)
+}
+
+// Into the same three: each is refused with 22.
+fn is_refused(party: Party, len: usize) -> bool
+    requires { ⌜ (1 ≤ len) × (len ≤ 240) ⌝ }
+{
+    gives(party, len - 1, 22, b"") && gives(party, len, 22, b"") && gives(party, len + 1, 22, b"")
+}
+
+// Whether writing into a buffer of a size, lent from a stale room, gives this number (0: accepted) and this text, and changes no other byte.
+fn gives(party: Party, size: usize, number: u8, text: &[u8]) -> bool
+    requires { ⌜ size ≤ 241 ⌝ }
+{
+    let mut room = stale_room();
+    let end = 8 + size;
+    let written = to_swift_string(party, &mut room[8..end]);
+    let outcome = written.outcome;
+    is_outcome(outcome, number) && written.len == text.len() && has_only(&room, text)
+}
+
+fn is_outcome(outcome: Outcome, number: u8) -> bool {
+    match outcome {
+        Outcome::Accepted => number == 0,
+        Outcome::Refused(e) => {
+            let refusal = e.refusal();
+            refusal.number == number && refusal.line == 0
+        }
+    }
+}
+
+// The stale byte of a place: above 127, as in no text that is written, and not that of a place near it.
+fn stale(at: usize) -> u8 {
+    (128 + at % 127) as u8
+}
+
+fn stale_room() -> [u8; 256] {
+    let mut room = [0u8; 256];
+    let mut i = 0;
+    while i < 256 {
+        room[i] = stale(i);
+        i += 1;
+    }
+    room
+}
+
+// Whether the text stands at 8, and every other byte of the room is stale.
+fn has_only(room: &[u8; 256], text: &[u8]) -> bool {
+    let mut i = 0;
+    while i < 256 {
+        if room[i] != wanted(text, i) {
+            return false;
+        }
+        i += 1;
+    }
+    true
+}
+
+fn wanted(text: &[u8], at: usize) -> u8 {
+    if at < 8 {
+        return stale(at);
+    }
+    let i = at - 8;
+    if i < text.len() { text[i] } else { stale(at) }
+}

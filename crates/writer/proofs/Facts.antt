@@ -1,0 +1,149 @@
+-- What a record that passes the test for 22 has, part by part. Assumes nothing.
+use mathlib.Core.Path.{_≡_, refl, sym, _∙_}
+use mathlib.Core.Bool.{Bool, true, false, not, _&&_}
+use mathlib.Core.List.{List, [], _∷_}
+use Prim.Native.Nat.{ℕ, _≤_}
+use lib.Dec.{leb, eqb}
+use lib.ListN.{length}
+use borrow.Author.Tests.{eqb-true, eq-eqb, leb-true, not-true}
+use Rattle.errors.specs.Refusals.{accepted}
+use Rattle.party.specs.declared.PartyOption.{PartyOption}
+use Rattle.party.specs.declared.PartyOption.the-variants.{Field50NoOption, Field50A, Field50F, Field50K, Field50C, Field50L, Field50G, Field50H, Field59NoOption, Field59A, Field59F}
+use Rattle.party.specs.Limits.{limitsOf}
+use Rattle.party.specs.Text.{Used}
+use Rattle.party.specs.Party.{Said}
+use Rattle.swift_utils.specs.Checks.{parseBic}
+use Rattle.field_utils.specs.Names.{numberingOf, parseNameAndAddress}
+use Rattle.reader.specs.Options.{firstOf}
+use Rattle.writer.specs.Writing.{nameLines}
+use Rattle.writer.specs.Given.{passes, every, isLine, textReply, isAccount, isPresence, isBic, areNames, isTaken, isGiven}
+use Rattle.writer.proofs.Tests.{both-left, both-right, both, is-not, passed, passing}
+use Rattle.writer.proofs.NamePasses.{NamesPass, names-held, names-pass}
+
+-- the parts of the test
+pub record Facts (s : Said) : Type 0 where
+  pub presence : isPresence (s .option) (s .present) ≡ true
+  pub account : every (isAccount (s .option) (s .present)) (s .account) ≡ true
+  pub bic : every isBic (s .bic) ≡ true
+  pub names : areNames (s .option) (s .count) (s .names) ≡ true
+  pub free : (not (s .present) && isTaken (firstOf (s .option)) (s .names)) ≡ false
+
+module _ (s : Said) where
+  abbrev pres : Bool
+  pres = isPresence (s .option) (s .present)
+
+  abbrev acc : Bool
+  acc = every (isAccount (s .option) (s .present)) (s .account)
+
+  abbrev bics : Bool
+  bics = every isBic (s .bic)
+
+  abbrev nams : Bool
+  nams = areNames (s .option) (s .count) (s .names)
+
+  abbrev taken : Bool
+  taken = not (s .present) && isTaken (firstOf (s .option)) (s .names)
+
+  pub facts : isGiven s ≡ true → Facts s
+  unfolding isGiven
+  facts e =
+      let e4 = both-left (((pres && acc) && bics) && nams) (not taken) e in
+      let e3 = both-left ((pres && acc) && bics) nams e4 in
+      let e2 = both-left (pres && acc) bics e3 in
+      record {
+        presence = both-left pres acc e2;
+        account = both-right pres acc e2;
+        bic = both-right (pres && acc) bics e3;
+        names = both-right ((pres && acc) && bics) nams e4;
+        free = not-true taken (both-right (((pres && acc) && bics) && nams) (not taken) e);
+      }
+
+  pub is-given : Facts s → isGiven s ≡ true
+  unfolding isGiven
+  is-given h =
+      both (((pres && acc) && bics) && nams) (not taken)
+      (both ((pres && acc) && bics) nams (both (pres && acc) bics (both pres acc (h .presence) (h .account)) (h .bic)) (h .names))
+      (is-not taken (h .free))
+
+-- the names
+pub record NamesAre (o : PartyOption) (count : ℕ) (us : List Used) : Type 0 where
+  pub counted : length us ≡ count
+  pub lines : every isLine us ≡ true
+  pub pass : eqb (limitsOf o .names) 0 ≡ false → NamesPass o (nameLines (numberingOf o) 1 us)
+
+module _ (o : PartyOption) (count : ℕ) (us : List Used) where
+  abbrev named : Bool
+  named = elim (eqb (limitsOf o .names) 0) [ true ↦ true | false ↦ passes (parseNameAndAddress o 1 (nameLines (numberingOf o) 1 us)) ]
+
+  pub names-are : areNames o count us ≡ true → NamesAre o count us
+  unfolding areNames
+  names-are e =
+      let first = both-left (eqb (length us) count && every isLine us) named e in
+      record {
+        counted = eqb-true _ _ (both-left (eqb (length us) count) (every isLine us) first);
+        lines = both-right (eqb (length us) count) (every isLine us) first;
+        pass = λ z.
+            let n : named ≡ passes (parseNameAndAddress o 1 (nameLines (numberingOf o) 1 us)) = rw (z, named) in
+            names-held o 1 _ (passed _ (sym n ∙ both-right (eqb (length us) count && every isLine us) named e));
+      }
+
+  pub are-names : NamesAre o count us → areNames o count us ≡ true
+  unfolding areNames
+  are-names h =
+      both (eqb (length us) count && every isLine us) named (both (eqb (length us) count) (every isLine us) (eq-eqb _ _ (h .counted)) (h .lines))
+      (go (eqb (limitsOf o .names) 0) refl)
+    where
+      go : (t : Bool) → eqb (limitsOf o .names) 0 ≡ t → named ≡ true
+      go true z = rw (z, named)
+      go false z = let n : named ≡ passes (parseNameAndAddress o 1 (nameLines (numberingOf o) 1 us)) = rw (z, named) in n ∙ passing _ (names-pass o 1 _ (h .pass z))
+
+-- an account or identifier, and a BIC
+pub account-line : (o : PartyOption) (present : Bool) (u : Used) → isAccount o present u ≡ true → isLine u ≡ true
+account-line o true u e = both-left (isLine u) (passes (textReply (firstOf o) o (u .bytes))) e
+account-line o false u e = both-right (eqb (u .len) 0) (isLine u) e
+
+pub account-lines : (o : PartyOption) (present : Bool) (us : List Used) → every (isAccount o present) us ≡ true → every isLine us ≡ true
+account-lines o present [] e = refl
+account-lines o present (u ∷ us) e =
+    both (isLine u) (every isLine us) (account-line o present u (both-left (isAccount o present u) (every (isAccount o present) us) e))
+    (account-lines o present us (both-right (isAccount o present u) (every (isAccount o present) us) e))
+
+pub account-passes : (o : PartyOption) (u : Used) → isAccount o true u ≡ true → textReply (firstOf o) o (u .bytes) ≡ accepted
+account-passes o u e = passed _ (both-right (isLine u) (passes (textReply (firstOf o) o (u .bytes))) e)
+
+pub bic-passes : (u : Used) → isBic u ≡ true → parseBic 1 (u .bytes) ≡ accepted
+bic-passes u e = passed _ (both-right (isLine u) (passes (parseBic 1 (u .bytes))) e)
+
+pub bic-lines : (us : List Used) → every isBic us ≡ true → every isLine us ≡ true
+bic-lines [] e = refl
+bic-lines (u ∷ us) e =
+    both (isLine u) (every isLine us) (both-left (isLine u) (passes (parseBic 1 (u .bytes))) (both-left (isBic u) (every isBic us) e))
+    (bic-lines us (both-right (isBic u) (every isBic us) e))
+
+-- the limits of all options
+pub record Small (o : PartyOption) : Type 0 where
+  pub longest : limitsOf o .longest ≤ 35
+  pub names : limitsOf o .names ≤ 4
+  pub name : limitsOf o .name ≤ 35
+
+small-is : (o : PartyOption) → (leb (limitsOf o .longest) 35 && leb (limitsOf o .names) 4 && leb (limitsOf o .name) 35) ≡ true
+small-is Field50NoOption = refl
+small-is Field50A = refl
+small-is Field50F = refl
+small-is Field50K = refl
+small-is Field50C = refl
+small-is Field50L = refl
+small-is Field50G = refl
+small-is Field50H = refl
+small-is Field59NoOption = refl
+small-is Field59A = refl
+small-is Field59F = refl
+
+pub small : (o : PartyOption) → Small o
+small o =
+    let first = both-left (leb (limitsOf o .longest) 35 && leb (limitsOf o .names) 4) (leb (limitsOf o .name) 35) (small-is o) in
+    record {
+      longest = leb-true _ _ (both-left (leb (limitsOf o .longest) 35) (leb (limitsOf o .names) 4) first);
+      names = leb-true _ _ (both-right (leb (limitsOf o .longest) 35) (leb (limitsOf o .names) 4) first);
+      name = leb-true _ _ (both-right (leb (limitsOf o .longest) 35 && leb (limitsOf o .names) 4) (leb (limitsOf o .name) 35) (small-is o));
+    }

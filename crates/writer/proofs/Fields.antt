@@ -1,0 +1,155 @@
+-- The written field by its parts: tag, account or identifier, and a BIC or names. Assumes nothing.
+use Prim.Native.Nat.{ℕ, _+_, _/_, _%_}
+use mathlib.Core.Path.{_≡_, refl, _∙_, sym, ap}
+use mathlib.Core.Bool.{Bool, true, false}
+use mathlib.Core.List.{List, [], _∷_, _++_, map, append-assoc, append-nil}
+use native.Mathlib.Omega.{arith}
+use lib.Dec.{eqb}
+use lib.ListN.{length, take}
+use borrow.Author.Tests.{lt-ltb, eq-eqb, ne-eqb}
+use Rattle.party.specs.declared.PartyOption.{PartyOption}
+use Rattle.party.specs.declared.PartyOption.the-variants.{Field50NoOption, Field50A, Field50F, Field50K, Field50C, Field50L, Field50G, Field50H, Field59NoOption, Field59A, Field59F}
+use Rattle.party.specs.declared.Party.{Party}
+use Rattle.party.specs.declared.Limits.{Limits}
+use Rattle.party.specs.Limits.{limitsOf}
+use Rattle.party.specs.Text.{Used, used}
+use Rattle.party.specs.Party.{said, where-limit}
+use Rattle.field_utils.specs.Names.{numberingOf}
+use Rattle.writer.specs.Writing.{tagOf, slashOf, headLines, nameLines, writtenLines, joined, writtenBody, writtenField}
+use Rattle.writer.specs.Code.{lead, led, hasHead, headOf, namesOn, restOn}
+
+-- ---- lines with LFs between them are lines with an LF before each but the first
+joined-cons : (l : List ℕ) (ls : List (List ℕ)) → joined (l ∷ ls) ≡ l ++ led true ls
+unfolding joined led
+joined-cons l [] = sym (append-nil l)
+joined-cons l (m ∷ ls) = ap (λ (r : List ℕ). l ++ 10 ∷ r) (joined-cons m ls)
+
+joined-led : (ls : List (List ℕ)) → joined ls ≡ led false ls
+unfolding joined led
+joined-led [] = refl
+joined-led (l ∷ ls) = joined-cons l ls
+
+-- whether a line that follows is not the first
+after : Bool → List (List ℕ) → Bool
+after b [] = b
+after b (l ∷ ls) = true
+
+led-append : (b : Bool) (ls ms : List (List ℕ)) → led b (ls ++ ms) ≡ led b ls ++ led (after b ls) ms
+unfolding led after
+led-append b [] ms = refl
+led-append b (l ∷ []) ms = ap (λ (r : List ℕ). r ++ led true ms) (sym (append-nil (lead b ++ l)))
+led-append b (l ∷ m ∷ ls) ms =
+    ap (λ (r : List ℕ). (lead b ++ l) ++ r) (led-append true (m ∷ ls) ms)
+    ∙ sym (append-assoc (lead b ++ l) (led true (m ∷ ls)) (led true ms))
+
+-- ---- the account or identifier
+abbrev headIn : PartyOption → Bool → Used → List (List ℕ)
+headIn o present u = headLines o present (where-limit (limitsOf o .longest) (u ∷ []))
+
+record Headed (o : PartyOption) (present : Bool) (u : Used) : Type 0 where
+  bytes : led false (headIn o present u) ≡ headOf o (hasHead o present) u
+  later : after false (headIn o present u) ≡ hasHead o present
+
+headed : (o : PartyOption) (present : Bool) (u : Used) → Headed o present u
+unfolding led after
+headed o false u = record { bytes = refl; later = refl }
+headed Field50NoOption true u = record { bytes = refl; later = refl }
+headed Field50A true u = record { bytes = refl; later = refl }
+headed Field50F true u = record { bytes = refl; later = refl }
+headed Field50K true u = record { bytes = refl; later = refl }
+headed Field50C true u = record { bytes = refl; later = refl }
+headed Field50L true u = record { bytes = refl; later = refl }
+headed Field50G true u = record { bytes = refl; later = refl }
+headed Field50H true u = record { bytes = refl; later = refl }
+headed Field59NoOption true u = record { bytes = refl; later = refl }
+headed Field59A true u = record { bytes = refl; later = refl }
+headed Field59F true u = record { bytes = refl; later = refl }
+
+-- ---- the field
+pub field-parts :
+    (p : Party) → let later = hasHead (p .option) (p .present) in
+    writtenField (said p) ≡ tagOf (p .option) ++ (headOf (p .option) later (used (p .account)) ++ restOn later p)
+unfolding said writtenLines writtenBody writtenField
+field-parts p =
+    let o = p .option in
+    let h = headed o (p .present) (used (p .account)) in
+    let head = headIn o (p .present) (used (p .account)) in
+    let bic = map (λ (u : Used). u .bytes) (said p .bic) in
+    let names = nameLines (numberingOf o) 1 (said p .names) in
+    ap (λ (r : List ℕ). tagOf o ++ r)
+    (joined-led ((head ++ bic) ++ names) ∙ ap (led false) (append-assoc head bic names) ∙ led-append false head (bic ++ names)
+    ∙ ap (λ (r : List ℕ). r ++ led (after false head) (bic ++ names)) (h .bytes)
+    ∙ ap (λ (b : Bool). headOf o (hasHead o (p .present)) (used (p .account)) ++ led b (bic ++ names)) (h .later))
+
+-- ---- what follows the account or identifier: an option has no BIC, or no names
+bic-alone : (o : PartyOption) → (limitsOf o .bic ≡ 0 → ⊥) → limitsOf o .names ≡ 0
+bic-alone Field50NoOption h = absurd (h refl)
+bic-alone Field50A h = refl
+bic-alone Field50F h = absurd (h refl)
+bic-alone Field50K h = absurd (h refl)
+bic-alone Field50C h = refl
+bic-alone Field50L h = refl
+bic-alone Field50G h = refl
+bic-alone Field50H h = absurd (h refl)
+bic-alone Field59NoOption h = absurd (h refl)
+bic-alone Field59A h = refl
+bic-alone Field59F h = absurd (h refl)
+
+pub rest-names : (later : Bool) (p : Party) → limitsOf (p .option) .bic ≡ 0 → restOn later p ≡ namesOn later p
+unfolding said
+rest-names later p e = rw e
+
+pub rest-bic : (later : Bool) (p : Party) → (limitsOf (p .option) .bic ≡ 0 → ⊥) → restOn later p ≡ lead later ++ used (p .bic) .bytes
+unfolding said led nameLines
+rest-bic later p h =
+    let bic : said p .bic ≡ used (p .bic) ∷ [] = rw (lt-ltb 0 (limitsOf (p .option) .bic) (omega arith), where-limit) in
+    let names : said p .names ≡ [] = rw (bic-alone (p .option) h) in
+    rw (bic, names) (append-nil (lead later ++ used (p .bic) .bytes))
+
+-- ---- the tag, by the limits
+abbrev pub tagBy : Limits → List ℕ
+tagBy l =
+    elim (eqb (l .letter) 0) [
+      | true ↦ 58 ∷ (48 + l .field / 10) ∷ (48 + l .field % 10) ∷ 58 ∷ []
+      | false ↦ 58 ∷ (48 + l .field / 10) ∷ (48 + l .field % 10) ∷ l .letter ∷ 58 ∷ []
+    ]
+
+pub tag-by : (o : PartyOption) → tagOf o ≡ tagBy (limitsOf o)
+tag-by Field50NoOption = refl
+tag-by Field50A = refl
+tag-by Field50F = refl
+tag-by Field50K = refl
+tag-by Field50C = refl
+tag-by Field50L = refl
+tag-by Field50G = refl
+tag-by Field50H = refl
+tag-by Field59NoOption = refl
+tag-by Field59A = refl
+tag-by Field59F = refl
+
+plain : (l : Limits) → l .letter ≡ 0 → (58 ∷ (48 + l .field / 10) ∷ (48 + l .field % 10) ∷ 58 ∷ []) ≡ tagBy l
+plain l z = rw (eq-eqb (l .letter) 0 z, tagBy)
+
+lettered : (l : Limits) → (l .letter ≡ 0 → ⊥) → (58 ∷ (48 + l .field / 10) ∷ (48 + l .field % 10) ∷ l .letter ∷ 58 ∷ []) ≡ tagBy l
+lettered l h = rw (ne-eqb (l .letter) 0 h, tagBy)
+
+module _ (o : PartyOption) {l : Limits} (e : l ≡ limitsOf o) where
+  pub tag-plain : l .letter ≡ 0 → (58 ∷ (48 + l .field / 10) ∷ (48 + l .field % 10) ∷ 58 ∷ []) ≡ tagOf o
+  tag-plain z = plain l z ∙ ap tagBy e ∙ sym (tag-by o)
+
+  pub tag-lettered : (l .letter ≡ 0 → ⊥) → (58 ∷ (48 + l .field / 10) ∷ (48 + l .field % 10) ∷ l .letter ∷ 58 ∷ []) ≡ tagOf o
+  tag-lettered h = lettered l h ∙ ap tagBy e ∙ sym (tag-by o)
+
+-- ---- the slash as a part of an array
+pub slash-part : (o : PartyOption) → take (length (slashOf o)) (47 ∷ []) ≡ slashOf o
+slash-part Field50NoOption = refl
+slash-part Field50A = refl
+slash-part Field50F = refl
+slash-part Field50K = refl
+slash-part Field50C = refl
+slash-part Field50L = refl
+slash-part Field50G = refl
+slash-part Field50H = refl
+slash-part Field59NoOption = refl
+slash-part Field59A = refl
+slash-part Field59F = refl

@@ -1,0 +1,125 @@
+-- The names that a record uses, one after the other. Assumes nothing.
+use Prim.Native.Nat.{ℕ, suc, _≤_, _<_, _+_, min}
+use mathlib.Core.Path.{_≡_, refl, _∙_, sym, ap}
+use mathlib.Core.Bool.{Bool, true, false, _&&_}
+use mathlib.Core.List.{List, [], _∷_, _++_, map}
+use native.Mathlib.Omega.{arith}
+use lib.Dec.{ltb}
+use borrow.Author.Tests.{lt-ltb}
+use lib.ListN.{length, take, drop, getD, length-map, length-append, length-take, drop-of-length-le, List·getD-map}
+use lib.Seq.{drop-cons, getD-take}
+use Rattle.party.specs.declared.PartyOption.{PartyOption}
+use Rattle.party.specs.declared.Text.{Text}
+use Rattle.party.specs.declared.Party.{Party}
+use Rattle.party.specs.Limits.{limitsOf}
+use Rattle.party.specs.Text.{Used, used}
+use Rattle.party.specs.Party.{said, IsParty, namesOf}
+use Rattle.party.proofs.Laws.{map-take, take-min}
+use Rattle.field_utils.specs.declared.Numbering.{Numbering}
+use Rattle.field_utils.specs.declared.Numbering.the-variants.{Unnumbered, Numbered, InTurn}
+use Rattle.writer.specs.Writing.{numberOf, nameLines}
+use Rattle.writer.specs.Code.{lead, led, marks, nameCount, isName, allNames}
+
+-- the text that stands for one past the end
+abbrev pub none : Text
+none = record { bytes = []; len = 0 }
+
+-- the first n names of a record
+abbrev pub namesIn : ℕ → Party → List Used
+namesIn n p = take n (map used (p .«name_and_address»))
+
+-- how long a name's number is
+pub number-length : (f : Numbering) (k : ℕ) → length (numberOf f k) ≡ marks f
+number-length Unnumbered k = refl
+number-length Numbered k = refl
+number-length InTurn k = refl
+
+pub marks-most : (f : Numbering) → marks f ≤ 2
+marks-most Unnumbered = omega arith
+marks-most Numbered = omega arith
+marks-most InTurn = omega arith
+
+-- a name's number as a part of an array
+pub number-part : (f : Numbering) (i : ℕ) → take (marks f) ((49 + i) ∷ 47 ∷ []) ≡ numberOf f (suc i)
+number-part Unnumbered i = refl
+number-part Numbered i = let e : 49 + i ≡ 48 + suc i = omega arith in rw e
+number-part InTurn i = refl
+
+-- ---- the names that are used
+pub count-none : (o : PartyOption) (count : ℕ) → limitsOf o .names ≡ 0 → nameCount o count ≡ 0
+count-none o count e = rw (e, nameCount)
+
+pub count-some : (o : PartyOption) (count : ℕ) → (limitsOf o .names ≡ 0 → ⊥) → nameCount o count ≡ min count 4
+count-some o count h = rw (lt-ltb 0 (limitsOf o .names) (omega arith), nameCount)
+
+four : (o : PartyOption) (count : ℕ) → nameCount o count ≤ 4
+four o count = go (ltb 0 (limitsOf o .names))
+  where
+    go : (t : Bool) → elim t [ true ↦ min count 4 | false ↦ 0 ] ≤ 4
+    go true = omega arith
+    go false = omega arith
+
+module _ (p : Party) (sizes : IsParty p) where
+  names-size : length (map used (p .«name_and_address»)) ≡ 4
+  names-size = length-map (p .«name_and_address») used ∙ sizes .size
+
+  said-first : said p .names ≡ namesIn (nameCount (p .option) (p .count)) p
+  unfolding said
+  said-first = go (ltb 0 (limitsOf (p .option) .names))
+    where
+      go : (t : Bool) → elim t [ true ↦ namesOf (p .count) p | false ↦ [] ] ≡ namesIn (elim t [ true ↦ min (p .count) 4 | false ↦ 0 ]) p
+      go true =
+          map-take used (p .count) (p .«name_and_address»)
+          ∙ take-min (p .count) (map used (p .«name_and_address»)) (min (p .count) 4) (omega (arith, names-size))
+      go false = refl
+
+  module _ {n : ℕ} (count : n ≡ nameCount (p .option) (p .count)) where
+    pub few : n ≤ 4
+    few = omega (arith, four (p .option) (p .count))
+
+    pub said-names : said p .names ≡ namesIn n p
+    said-names = said-first ∙ ap (λ (m : ℕ). namesIn m p) (sym count)
+
+    pub names-length : length (namesIn n p) ≡ n
+    names-length = omega (arith, length-take n (map used (p .«name_and_address»)), names-size, few)
+
+    names-end : (i : ℕ) → n ≤ i → drop i (namesIn n p) ≡ []
+    names-end i h = drop-of-length-le (namesIn n p) {i = i} (omega (arith, names-length))
+
+    pub names-next : (i : ℕ) → i < n → drop i (namesIn n p) ≡ used (getD (p .«name_and_address») i none) ∷ drop (suc i) (namesIn n p)
+    names-next i h =
+        drop-cons (namesIn n p) i (used none) (omega (arith, names-length))
+        ∙ ap (λ (u : Used). u ∷ drop (suc i) (namesIn n p))
+        (getD-take n (map used (p .«name_and_address»)) i (used none) h ∙ List·getD-map used (p .«name_and_address») i none)
+
+    -- what is left of the names' text, from the i-th on
+    pub left-next :
+        (f : Numbering) (later : Bool) (i : ℕ) → i < n →
+        led later (nameLines f (suc i) (drop i (namesIn n p)))
+        ≡ (lead later ++ (numberOf f (suc i) ++ used (getD (p .«name_and_address») i none) .bytes))
+        ++ led true (nameLines f (suc (suc i)) (drop (suc i) (namesIn n p)))
+    unfolding led nameLines
+    left-next f later i h = rw (names-next i h)
+
+    pub left-length :
+        (f : Numbering) (later : Bool) (i : ℕ) → i < n →
+        length (led later (nameLines f (suc i) (drop i (namesIn n p))))
+        ≡ length (lead later) + marks f + length (used (getD (p .«name_and_address») i none) .bytes)
+        + length (led true (nameLines f (suc (suc i)) (drop (suc i) (namesIn n p))))
+    left-length f later i h = rw (left-next f later i h) (simp (length-append, number-length) (omega arith))
+
+    pub left-end : (f : Numbering) (later : Bool) (i : ℕ) → n ≤ i → led later (nameLines f (suc i) (drop i (namesIn n p))) ≡ []
+    unfolding led nameLines
+    left-end f later i h = rw (names-end i h)
+
+    -- what is left of the names' test
+    pub all-next :
+        (f : Numbering) (longest i : ℕ) → i < n →
+        allNames f longest (suc i) (drop i (namesIn n p))
+        ≡ (isName f longest (suc i) (used (getD (p .«name_and_address») i none)) && allNames f longest (suc (suc i)) (drop (suc i) (namesIn n p)))
+    unfolding allNames
+    all-next f longest i h = rw (names-next i h)
+
+    pub all-end : (f : Numbering) (longest i : ℕ) → n ≤ i → allNames f longest (suc i) (drop i (namesIn n p)) ≡ true
+    unfolding allNames
+    all-end f longest i h = rw (names-end i h)

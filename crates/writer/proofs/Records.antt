@@ -1,0 +1,236 @@
+-- The test of a record by its parts. Assumes nothing.
+use Prim.Native.Nat.{ℕ, zero, suc, _+_, _≤_, _<_}
+use mathlib.Core.Path.{_≡_, refl, sym, _∙_, ap}
+use mathlib.Core.Bool.{Bool, true, false, not, _&&_, and-true, and-false, and-assoc, and-comm, or-true, false≢true}
+use mathlib.Core.List.{List, [], _∷_, _++_}
+use native.Mathlib.Omega.{arith}
+use lib.Dec.{leb, eqb}
+use lib.ListN.{length, take, drop, getD}
+use borrow.Author.Tests.{lt-ltb, le-leb, lt-leb, eqb-true, eq-eqb, ne-eqb}
+use Rattle.errors.specs.Refusals.{Reply, accepted, refused, must, _then_}
+use Rattle.party.specs.declared.PartyOption.{PartyOption}
+use Rattle.party.specs.declared.Text.{Text}
+use Rattle.party.specs.declared.Party.{Party}
+use Rattle.party.specs.Limits.{limitsOf}
+use Rattle.party.specs.Text.{Used, used}
+use Rattle.party.specs.Party.{Said, said, where-limit}
+use Rattle.swift_utils.specs.Bytes.{all, among, letter, digit, alphanumeric, signs, legal}
+use Rattle.swift_utils.specs.Checks.{parseSwiftChars}
+use Rattle.field_utils.specs.declared.Numbering.{Numbering}
+use Rattle.field_utils.specs.declared.Numbering.the-variants.{Unnumbered, Numbered, InTurn}
+use Rattle.field_utils.specs.Identifier.{isNumbered}
+use Rattle.field_utils.specs.Names.{numberingOf, skipOf, parseNumber, parseLine, parseLines, parseCount, parseNameAndAddress}
+use Rattle.field_utils.proofs.NameLines.{number-room}
+use Rattle.reader.specs.declared.First.the-variants.{Account, ShortAccount}
+use Rattle.reader.specs.Options.{firstOf}
+use Rattle.writer.specs.Writing.{numberOf, nameLines, writtenField, put, fits, placed}
+use Rattle.writer.specs.Given.{passes, every, isLine, isAccount, isPresence, isBic, areNames, isTaken, isGiven, written}
+use Rattle.writer.specs.Code.{plain, numberIn, isName, allNames, slashName}
+use Rattle.writer.proofs.Texts.{all-plain}
+
+pub passes-then : (r s : Reply) → passes (r then s) ≡ (passes r && passes s)
+passes-then accepted s = refl
+passes-then (refused k n) s = refl
+
+pub passes-must : (b : Bool) (k n : ℕ) → passes (must b k n) ≡ b
+passes-must true k n = refl
+passes-must false k n = refl
+
+passes-true : (r : Reply) → passes r ≡ true → r ≡ accepted
+passes-true accepted e = refl
+passes-true (refused k n) e = absurd (false≢true e)
+
+-- ---- a test of a text that the option has not, and of one that it has
+module _ (f : Used → Bool) (limit : ℕ) (u : Used) where
+  pub every-none : limit ≡ 0 → every f (where-limit limit (u ∷ [])) ≡ true
+  every-none e = rw (e, where-limit)
+
+  pub every-one : (limit ≡ 0 → ⊥) → every f (where-limit limit (u ∷ [])) ≡ f u
+  every-one h = rw (lt-ltb 0 limit (omega arith), where-limit) (and-true (f u))
+
+-- a text that is empty is a line
+pub empty-line : (t : Text) → (eqb (t .len) 0 && isLine (used t)) ≡ eqb (t .len) 0
+unfolding isLine
+empty-line t = go (t .len)
+  where
+    go : (n : ℕ) → (eqb n 0 && isLine (record { len = n; bytes = take n (t .bytes) })) ≡ eqb n 0
+    go zero = refl
+    go (suc n) = rw (ne-eqb (suc n) 0 (λ e. omega arith))
+
+-- ---- the number of the k-th name x
+abbrev pub inTurn : Numbering → ℕ → List ℕ → Bool
+inTurn f k x = passes (parseNumber f k k (numberOf f k ++ x))
+
+pub turn-kept : (k : ℕ) (x : List ℕ) → inTurn InTurn k x ≡ (isNumbered x && eqb (getD x 0 0) (48 + k))
+turn-kept k x =
+    passes-then (must (isNumbered x) 5 k) (must (eqb (getD x 0 0) (48 + k)) 6 k)
+    ∙ rw (passes-must (isNumbered x) 5 k, passes-must (eqb (getD x 0 0) (48 + k)) 6 k)
+
+pub turn-written : (k : ℕ) (x : List ℕ) → k ≤ 4 → inTurn Numbered k x ≡ true
+unfolding isNumbered digit
+turn-written k x h = rw (le-leb 48 (48 + k) (omega arith), le-leb (48 + k) 57 (omega arith))
+
+pub numbered-room : (x : List ℕ) → isNumbered x ≡ true → 2 ≤ length x
+numbered-room x e = number-room Numbered 0 0 x (rw e)
+
+pub turn-room : (f : Numbering) (k : ℕ) (x : List ℕ) → inTurn f k x ≡ true → numberIn f ≤ length x
+turn-room Unnumbered k x e = omega arith
+turn-room Numbered k x e = omega arith
+turn-room InTurn k x e = number-room InTurn k k x (passes-true (parseNumber InTurn k k x) e)
+
+-- ---- the k-th name
+and-first : (p q : Bool) → (p && q) ≡ true → p ≡ true
+and-first true q e = refl
+and-first false q e = e
+
+and-second : (p q : Bool) → (p && q) ≡ true → q ≡ true
+and-second true q e = e
+and-second false q e = absurd (false≢true e)
+
+digit-legal : (d : ℕ) → digit d ≡ true → legal d ≡ true
+unfolding alphanumeric legal
+digit-legal d e = rw (e, or-true (letter d))
+
+slash-legal : legal 47 ≡ true
+unfolding letter digit alphanumeric signs legal
+slash-legal = refl
+
+-- a kept number is legal
+number-legal : (x : List ℕ) → isNumbered x ≡ true → all legal (drop 2 x) ≡ all legal x
+unfolding isNumbered
+number-legal [] e = refl
+number-legal (d ∷ []) e = absurd (false≢true e)
+number-legal (d ∷ s ∷ l) e =
+    let slash = eqb-true s 47 (and-second (digit d) (eqb s 47) e) in
+    rw (digit-legal d (and-first (digit d) (eqb s 47) e), slash, slash-legal)
+
+kept-legal : (f : Numbering) (k : ℕ) (x : List ℕ) → inTurn f k x ≡ true → all legal (drop (numberIn f) x) ≡ all legal x
+kept-legal Unnumbered k x e = refl
+kept-legal Numbered k x e = refl
+kept-legal InTurn k x e = number-legal x (and-first (isNumbered x) (eqb (getD x 0 0) (48 + k)) (sym (turn-kept k x) ∙ e))
+
+kept-text : (f : Numbering) (k : ℕ) (x : List ℕ) → drop (skipOf f) (numberOf f k ++ x) ≡ drop (numberIn f) x
+kept-text Unnumbered k x = refl
+kept-text Numbered k x = refl
+kept-text InTurn k x = refl
+
+module _ (f : Numbering) (longest k : ℕ) (u : Used) where
+  abbrev text : List ℕ
+  text = drop (numberIn f) (u .bytes)
+
+  name-parts : isName f longest k u ≡ (isLine u && (inTurn f k (u .bytes) && (leb (length text) longest && all legal text)))
+  unfolding isName parseLine parseSwiftChars
+  name-parts =
+      rw (
+        passes-then (parseNumber f k k (numberOf f k ++ u .bytes)),
+        kept-text f k (u .bytes),
+        passes-then (must (leb (length text) longest) 4 k),
+        passes-must (leb (length text) longest) 4 k,
+        passes-must (all legal text) 3 k,
+      )
+
+  pub name-not-line : isLine u ≡ false → isName f longest k u ≡ false
+  name-not-line e = name-parts ∙ rw e
+
+  pub name-not-turn : inTurn f k (u .bytes) ≡ false → isName f longest k u ≡ false
+  name-not-turn e = name-parts ∙ rw e (and-false (isLine u))
+
+  module _ (turn : inTurn f k (u .bytes) ≡ true) where
+    pub name-long : longest < length text → isName f longest k u ≡ false
+    name-long h = name-parts ∙ rw (turn, lt-leb (length text) longest h) (and-false (isLine u))
+
+    pub name-bytes : length text ≤ longest → isLine u ≡ not (among (u .bytes) 10) → isName f longest k u ≡ all plain (u .bytes)
+    name-bytes h line =
+        name-parts
+        ∙ rw (turn, le-leb (length text) longest h, kept-legal f k (u .bytes) turn, line)
+        (and-comm (not (among (u .bytes) 10)) (all legal (u .bytes)) ∙ sym (all-plain (u .bytes)))
+
+-- ---- the names
+lines-length : (f : Numbering) (k : ℕ) (us : List Used) → length (nameLines f k us) ≡ length us
+unfolding nameLines
+lines-length f k [] = refl
+lines-length f k (u ∷ us) = ap suc (lines-length f (suc k) us)
+
+and-pairs : (a b c d : Bool) → ((a && b) && (c && d)) ≡ ((a && c) && (b && d))
+and-pairs false b c d = refl
+and-pairs true b true d = refl
+and-pairs true b false d = and-false b
+
+lines-all :
+    (f : Numbering) (longest k : ℕ) (us : List Used) →
+    (every isLine us && passes (parseLines f longest k k (nameLines f k us))) ≡ allNames f longest k us
+unfolding nameLines parseLines isName allNames
+lines-all f longest k [] = refl
+lines-all f longest k (u ∷ us) =
+    let line = parseLine f longest k k (numberOf f k ++ u .bytes) in
+    let lines = parseLines f longest (suc k) (suc k) (nameLines f (suc k) us) in
+    ap (λ (b : Bool). (isLine u && every isLine us) && b) (passes-then line lines)
+    ∙ and-pairs (isLine u) (every isLine us) (passes line) (passes lines)
+    ∙ ap (λ (b : Bool). (isLine u && passes line) && b) (lines-all f longest (suc k) us)
+
+module _ (o : PartyOption) (count : ℕ) (us : List Used) where
+  pub names-other : (length us ≡ count → ⊥) → areNames o count us ≡ false
+  unfolding areNames
+  names-other h = rw (ne-eqb (length us) count h)
+
+  module _ (e : length us ≡ count) where
+    pub names-unused : limitsOf o .names ≡ 0 → us ≡ [] → areNames o count us ≡ true
+    unfolding areNames
+    names-unused z none = rw (eq-eqb (length us) count e, eq-eqb (limitsOf o .names) 0 z, areNames) (rw none)
+
+    pub names-used :
+        (limitsOf o .names ≡ 0 → ⊥) →
+        areNames o count us ≡ (allNames (numberingOf o) (limitsOf o .name) 1 us && passes (parseCount (limitsOf o .names) (length us)))
+    unfolding areNames parseNameAndAddress
+    names-used h =
+        let f = numberingOf o in
+        let ls = nameLines f 1 us in
+        let lines = parseLines f (limitsOf o .name) 1 1 ls in
+        rw (eq-eqb (length us) count e, ne-eqb (limitsOf o .names) 0 h, areNames)
+        (ap (λ (b : Bool). every isLine us && b) (passes-then lines (parseCount (limitsOf o .names) (length ls)))
+        ∙ sym (and-assoc (every isLine us) (passes lines) (passes (parseCount (limitsOf o .names) (length ls))))
+        ∙ rw (lines-all f (limitsOf o .name) 1 us, lines-length f 1 us))
+
+pub taken-account : (us : List Used) → isTaken Account us ≡ slashName us
+taken-account [] = refl
+taken-account (u ∷ us) = refl
+
+pub taken-short : (us : List Used) → isTaken ShortAccount us ≡ slashName us
+taken-short [] = refl
+taken-short (u ∷ us) = refl
+
+-- ---- the record
+module _ (p : Party) where
+  abbrev pub accountTest : Bool
+  accountTest = every (isAccount (p .option) (p .present)) (where-limit (limitsOf (p .option) .longest) (used (p .account) ∷ []))
+
+  abbrev pub bicTest : Bool
+  bicTest = every isBic (where-limit (limitsOf (p .option) .bic) (used (p .bic) ∷ []))
+
+  abbrev pub namesTest : Bool
+  namesTest = areNames (p .option) (p .count) (said p .names)
+
+  -- by what its parts' tests say
+  pub given-by :
+      {a b c d e : Bool} → isPresence (p .option) (p .present) ≡ a → accountTest ≡ b → bicTest ≡ c → namesTest ≡ d → p .present ≡ e →
+      (a && b && c && d && not (not e && isTaken (firstOf (p .option)) (said p .names))) ≡ isGiven (said p)
+  unfolding isGiven said
+  given-by f g h i j = rw (← f, ← g, ← h, ← i, ← j)
+
+-- ---- what writing gives
+module _ (s : Said) (buffer : List ℕ) where
+  pub written-22 : isGiven s ≡ false → (record { reply = refused 22 0; len = 0; buffer = buffer }) ≡ written s buffer
+  unfolding written
+  written-22 e = rw e
+
+  -- by the buffer that is left
+  module _ (given : isGiven s ≡ true) {left : List ℕ} (l : left ≡ placed buffer 0 (writtenField s)) where
+    pub written-24 : fits buffer 0 (writtenField s) ≡ false → (record { reply = refused 24 0; len = 0; buffer = left }) ≡ written s buffer
+    unfolding written
+    written-24 e = let same : left ≡ buffer = l ∙ rw (e, placed) in rw (given, e, same)
+
+    pub written-all :
+        {n : ℕ} → n ≡ length (writtenField s) → fits buffer 0 (writtenField s) ≡ true →
+        (record { reply = accepted; len = n; buffer = left }) ≡ written s buffer
+    unfolding written
+    written-all k e = let here : left ≡ put buffer 0 (writtenField s) = l ∙ rw (e, placed) in rw (given, e, here, k)

@@ -1,0 +1,250 @@
+-- How long the lines of a record that passes the test for 22 are together. Assumes nothing.
+use mathlib.Core.Path.{_≡_, refl, ap}
+use mathlib.Core.Bool.{Bool, true, false, _&&_, true≢false}
+use mathlib.Core.List.{List, [], _∷_, _++_, map}
+use Prim.Native.Nat.{ℕ, zero, suc, _+_, _≤_, _<_}
+use native.Mathlib.Omega.{arith}
+use lib.Dec.{ltb, leb, eqb}
+use lib.ListN.{length, length-append, length-drop}
+use borrow.Author.Tests.{leb-true, eqb-true}
+use Rattle.party.specs.declared.PartyOption.{PartyOption}
+use Rattle.party.specs.declared.PartyOption.the-variants.{Field50NoOption, Field50A, Field50F, Field50K, Field50C, Field50L, Field50G, Field50H, Field59NoOption, Field59A, Field59F}
+use Rattle.party.specs.Limits.{limitsOf, placeOf}
+use Rattle.party.specs.Text.{Used}
+use Rattle.party.specs.Party.{where-limit, Said}
+use Rattle.party.proofs.Options.{place-one}
+use Rattle.field_utils.specs.declared.Numbering.{Numbering}
+use Rattle.field_utils.specs.Names.{numberingOf, skipOf}
+use Rattle.reader.specs.Options.{firstOf}
+use Rattle.writer.specs.Writing.{tagOf, slashOf, gapOf, nameLines, headLines, writtenLines, joined, writtenBody, writtenField}
+use Rattle.writer.specs.Given.{every, isAccount, isBic, areNames}
+use Rattle.writer.specs.ReadBack.{identified59F}
+use Rattle.writer.proofs.Tests.{both-left}
+use Rattle.writer.proofs.Relined.{weight, closed}
+use Rattle.writer.proofs.Sayings.{saidWith, bytesOf}
+use Rattle.writer.proofs.NamePasses.{AllPass}
+use Rattle.writer.proofs.HeadPasses.{extraOf, text-length}
+use Rattle.writer.proofs.Facts.{Facts, names-are, account-passes, bic-passes}
+use Rattle.writer.proofs.Bare.{bareHead, bare}
+use Rattle.writer.proofs.Witness.{bic-most, names-none}
+
+pub weight-append : (xs ys : List (List ℕ)) → weight (xs ++ ys) ≡ weight xs + weight ys
+weight-append [] ys = omega arith
+weight-append (x ∷ xs) ys = let h = weight-append xs ys in omega arith
+
+-- ---- the most that each part weighs
+abbrev headMost : PartyOption → ℕ
+headMost o = suc (length (slashOf o) + limitsOf o .longest + extraOf (firstOf o))
+
+one-text : (limit : ℕ) (u : Used) → length (where-limit limit (u ∷ [])) ≤ 1
+one-text limit u = go (ltb 0 limit) refl
+  where
+    go : (t : Bool) → ltb 0 limit ≡ t → length (where-limit limit (u ∷ [])) ≤ 1
+    go true e = rw (e, where-limit) (omega arith)
+    go false e = rw (e, where-limit) (omega arith)
+
+head-weight : (o : PartyOption) (present : Bool) (us : List Used) → length us ≤ 1 → every (isAccount o present) us ≡ true → weight (bareHead o present us) ≤ headMost o
+head-weight o true [] n h = omega arith
+head-weight o true (u ∷ []) n h =
+    omega (arith, length-append (slashOf o) (u .bytes), text-length (firstOf o) o (u .bytes) (account-passes o u (both-left (isAccount o true u) true h)))
+head-weight o true (u ∷ v ∷ us) n h = absurd (omega arith)
+head-weight o false us n h = omega arith
+
+abbrev bicMost : PartyOption → ℕ
+bicMost o = elim (ltb 0 (limitsOf o .bic)) [ true ↦ 12 | false ↦ 0 ]
+
+bic-weight : (o : PartyOption) (v : Used) → every isBic (where-limit (limitsOf o .bic) (v ∷ [])) ≡ true → weight (map bytesOf (where-limit (limitsOf o .bic) (v ∷ []))) ≤ bicMost o
+bic-weight o v h = go (ltb 0 (limitsOf o .bic)) refl
+  where
+    go : (t : Bool) → ltb 0 (limitsOf o .bic) ≡ t → weight (map bytesOf (where-limit (limitsOf o .bic) (v ∷ []))) ≤ bicMost o
+    go true e =
+        let b : every isBic (v ∷ []) ≡ true = rw (e, where-limit) at h in
+        rw (e, where-limit, bicMost) (omega (arith, bic-most 1 (v .bytes) (bic-passes v (both-left (isBic v) true b))))
+    go false e = rw (e, where-limit, bicMost) (omega arith)
+
+-- n lines of m
+abbrev times : ℕ → ℕ → ℕ
+times zero m = 0
+times (suc n) m = m + times n m
+
+abbrev namesMost : PartyOption → ℕ
+namesMost o = times (limitsOf o .names) (suc (limitsOf o .name + skipOf (numberingOf o)))
+
+lines-weight : (f : Numbering) (longest k n : ℕ) (ls : List (List ℕ)) → length ls ≤ n → AllPass f longest k ls → weight ls ≤ times n (suc (longest + skipOf f))
+lines-weight f longest k n [] h p = omega arith
+lines-weight f longest k zero (l ∷ ls) h p = absurd (omega arith)
+lines-weight f longest k (suc n) (l ∷ ls) h p =
+    omega (arith, lines-weight f longest (suc k) n ls (omega arith) (p .1), p .0 .long, length-drop (skipOf f) l)
+
+names-weight : (o : PartyOption) (count : ℕ) (us : List Used) → areNames o count (where-limit (limitsOf o .names) us) ≡ true
+    → weight (nameLines (numberingOf o) 1 (where-limit (limitsOf o .names) us)) ≤ namesMost o
+unfolding nameLines
+names-weight o count us h = go (eqb (limitsOf o .names) 0) refl
+  where
+    go : (t : Bool) → eqb (limitsOf o .names) 0 ≡ t → weight (nameLines (numberingOf o) 1 (where-limit (limitsOf o .names) us)) ≤ namesMost o
+    go true e = rw (names-none o us e) (omega arith)
+    go false e =
+        let w = where-limit (limitsOf o .names) us in
+        let p = names-are o count w h .pass e in
+        lines-weight (numberingOf o) (limitsOf o .name) 1 (limitsOf o .names) (nameLines (numberingOf o) 1 w) (p .most) (p .each)
+
+-- ---- together: by the table, 183, and 180 but for 59F
+table-183 : (o : PartyOption) → leb (headMost o + bicMost o + namesMost o) 183 ≡ true
+table-183 Field50NoOption = refl
+table-183 Field50A = refl
+table-183 Field50F = refl
+table-183 Field50K = refl
+table-183 Field50C = refl
+table-183 Field50L = refl
+table-183 Field50G = refl
+table-183 Field50H = refl
+table-183 Field59NoOption = refl
+table-183 Field59A = refl
+table-183 Field59F = refl
+
+-- but for 59F's, which can have an identifier and names, three less
+table-180 : (o : PartyOption) → eqb (placeOf o) (placeOf Field59F) ≡ false → leb (headMost o + bicMost o + namesMost o) 180 ≡ true
+table-180 Field50NoOption e = refl
+table-180 Field50A e = refl
+table-180 Field50F e = refl
+table-180 Field50K e = refl
+table-180 Field50C e = refl
+table-180 Field50L e = refl
+table-180 Field50G e = refl
+table-180 Field50H e = refl
+table-180 Field59NoOption e = refl
+table-180 Field59A e = refl
+table-180 Field59F e = absurd (true≢false e)
+
+tag-most : (o : PartyOption) → leb (length (tagOf o)) 5 ≡ true
+tag-most Field50NoOption = refl
+tag-most Field50A = refl
+tag-most Field50F = refl
+tag-most Field50K = refl
+tag-most Field50C = refl
+tag-most Field50L = refl
+tag-most Field50G = refl
+tag-most Field50H = refl
+tag-most Field59NoOption = refl
+tag-most Field59A = refl
+tag-most Field59F = refl
+
+-- only 59F has an empty line after its identifier
+pub gap-none : (o : PartyOption) → eqb (placeOf o) (placeOf Field59F) ≡ false → gapOf o ≡ []
+gap-none Field50NoOption e = refl
+gap-none Field50A e = refl
+gap-none Field50F e = refl
+gap-none Field50K e = refl
+gap-none Field50C e = refl
+gap-none Field50L e = refl
+gap-none Field50G e = refl
+gap-none Field50H e = refl
+gap-none Field59NoOption e = refl
+gap-none Field59A e = refl
+gap-none Field59F e = absurd (true≢false e)
+
+-- what lines weigh closed, and joined
+pub closed-length : (ls : List (List ℕ)) → length (closed ls) ≤ weight ls + weight ls
+closed-length [] = omega arith
+closed-length (l ∷ ls) =
+    omega (arith, closed-length ls, length-append (l ++ 13 ∷ []) (10 ∷ closed ls), length-append l (13 ∷ []))
+
+pub joined-length : (ls : List (List ℕ)) → 0 < length ls → suc (length (joined ls)) ≡ weight ls
+unfolding joined
+joined-length [] n = absurd (omega arith)
+joined-length (l ∷ []) n = omega arith
+joined-length (l ∷ m ∷ ls) n = omega (arith, joined-length (m ∷ ls) (omega arith), length-append l (10 ∷ joined (m ∷ ls)))
+
+pub joined-most : (ls : List (List ℕ)) (n : ℕ) → weight ls ≤ suc n → length (joined ls) ≤ n
+unfolding joined
+joined-most [] n k = omega arith
+joined-most (l ∷ ls) n k = omega (arith, joined-length (l ∷ ls) (omega arith))
+
+module _ (o : PartyOption) (present : Bool) (count : ℕ) (u v : Used) (us : List Used) (h : Facts (saidWith o present count u v us)) where
+  abbrev S : Said
+  S = saidWith o present count u v us
+
+  parts : weight (bare S) ≤ weight (bareHead o present (S .account)) + bicMost o + namesMost o
+  unfolding bare
+  parts =
+      let b = bic-weight o v (h .bic) in
+      let n = names-weight o count us (h .names) in
+      let x = weight-append (bareHead o present (S .account)) (map bytesOf (S .bic)) in
+      let y = weight-append (bareHead o present (S .account) ++ map bytesOf (S .bic)) (nameLines (numberingOf o) 1 (S .names)) in
+      omega (arith, b, n, x, y)
+
+  head-part : weight (bareHead o present (S .account)) ≤ headMost o
+  head-part = head-weight o present (S .account) (one-text (limitsOf o .longest) u) (h .account)
+
+  pub bare-183 : weight (bare S) ≤ 183
+  bare-183 = omega (arith, parts, head-part, leb-true (headMost o + bicMost o + namesMost o) 183 (table-183 o))
+
+  -- 59F's empty line
+  abbrev gapPart : Bool → ℕ
+  gapPart true = weight (gapOf o)
+  gapPart false = 0
+
+  written-weight : weight (writtenLines S) ≡ weight (bare S) + gapPart present
+  unfolding writtenLines bare
+  written-weight = go present
+    where
+      go : (t : Bool) → weight (headLines o t (S .account) ++ map bytesOf (S .bic) ++ nameLines (numberingOf o) 1 (S .names))
+          ≡ weight (bareHead o t (S .account) ++ map bytesOf (S .bic) ++ nameLines (numberingOf o) 1 (S .names)) + gapPart t
+      go true =
+          let head = bareHead o true (S .account) in
+          let bic = map bytesOf (S .bic) in
+          let names = nameLines (numberingOf o) 1 (S .names) in
+          omega (arith, weight-append (head ++ gapOf o ++ bic) names, weight-append (head ++ gapOf o) bic, weight-append head (gapOf o), weight-append (head ++ bic) names, weight-append head bic)
+      go false = omega arith
+
+  gap-59F : eqb (placeOf o) (placeOf Field59F) ≡ true → weight (gapOf o) ≡ 1
+  gap-59F e = ap (λ (r : PartyOption). weight (gapOf r)) (place-one o Field59F (eqb-true _ _ e))
+
+  gap-other : eqb (placeOf o) (placeOf Field59F) ≡ false → weight (gapOf o) ≡ 0
+  gap-other e = ap weight (gap-none o e)
+
+  gap-one : gapPart present ≤ 1
+  gap-one = go (eqb (placeOf o) (placeOf Field59F)) present refl
+    where
+      go : (t q : Bool) → eqb (placeOf o) (placeOf Field59F) ≡ t → gapPart q ≤ 1
+      go t false e = omega arith
+      go true true e = omega (arith, gap-59F e)
+      go false true e = omega (arith, gap-other e)
+
+  -- a written field has at most 188 bytes
+  pub field-188 : length (writtenField S) ≤ 188
+  unfolding writtenField writtenBody
+  field-188 =
+      omega (
+        arith,
+        joined-most (writtenLines S) 183 (omega (arith, written-weight, gap-one, bare-183)),
+        length-append (tagOf o) (joined (writtenLines S)),
+        leb-true (length (tagOf o)) 5 (tag-most o),
+      )
+
+  written-180 : (t q : Bool) → eqb (placeOf o) (placeOf Field59F) ≡ t → present ≡ q → (t && q) ≡ false → weight (writtenLines S) ≤ 180
+  written-180 true true e p n = absurd (true≢false n)
+  written-180 true false e p n =
+      let f : o ≡ Field59F = place-one o Field59F (eqb-true _ _ e) in
+      let none : weight (bareHead o present (S .account)) ≡ 0 = ap (λ (b : Bool). weight (bareHead o b (S .account))) p in
+      let gap : gapPart present ≡ 0 = ap gapPart p in
+      let names : bicMost o + namesMost o ≡ 144 = ap (λ (r : PartyOption). bicMost r + namesMost r) f in
+      omega (arith, written-weight, parts, none, gap, names)
+  written-180 false q e p n =
+      let gap : gapPart present ≤ 0 = go present in
+      omega (arith, written-weight, parts, head-part, gap, leb-true (headMost o + bicMost o + namesMost o) 180 (table-180 o e))
+    where
+      go : (b : Bool) → gapPart b ≤ 0
+      go true = omega (arith, gap-other e)
+      go false = omega arith
+
+  -- one that is not a 59F with identifier has at most 184
+  pub field-184 : identified59F S ≡ false → length (writtenField S) ≤ 184
+  unfolding writtenField writtenBody identified59F
+  field-184 n =
+      omega (
+        arith,
+        joined-most (writtenLines S) 179 (written-180 (eqb (placeOf o) (placeOf Field59F)) present refl refl n),
+        length-append (tagOf o) (joined (writtenLines S)),
+        leb-true (length (tagOf o)) 5 (tag-most o),
+      )

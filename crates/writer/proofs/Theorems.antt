@@ -1,0 +1,73 @@
+-- What a user of the writer gets: the test for 22 is exact, and when a written body is read back. Assumes nothing.
+use mathlib.Core.Path.{_≡_, sym, _∙_, ap, subst}
+use mathlib.Core.Bool.{true, false, true≢false}
+use mathlib.Core.List.{List}
+use Prim.Native.Nat.{ℕ, _≤_}
+use lib.ListN.{length}
+use Rattle.errors.specs.Refusals.{accepted}
+use Rattle.party.specs.declared.Party.{Party}
+use Rattle.party.specs.Decides.{Decides}
+use Rattle.party.specs.Party.{Said, said, Same}
+use Rattle.reader.specs.Options.{foundBy, layoutOf, read}
+use Rattle.writer.specs.Writing.{writtenBody, writtenField}
+use Rattle.writer.specs.Given.{Given, isGiven}
+use Rattle.writer.specs.ReadBack.{identified59F, isReadBack, ReadsBack}
+use Rattle.writer.proofs.Relined.{weight}
+use Rattle.writer.proofs.Sayings.{said-with, saying}
+use Rattle.writer.proofs.Facts.{Facts, is-given}
+use Rattle.writer.proofs.Bare.{bare}
+use Rattle.writer.proofs.Sizes.{field-188, field-184}
+use Rattle.writer.proofs.Sufficient.{parts, given-facts, same-found, sufficient}
+use Rattle.writer.proofs.Necessary.{readLines}
+use Rattle.writer.proofs.Back.{accepted-is, not-identified, back-fits, back-found, back-no}
+
+pub necessary : (p : Party) → Given p → isGiven (said p) ≡ true
+necessary p g =
+    let a = accepted-is (p .option) (g .body) (g .accepts) in
+    ap isGiven (sym (g .same) ∙ a .says) ∙ is-given _ (a .good .facts)
+
+-- a record passes the test for 22 if and only if a reader can give it, whatever its lengths, count, presence, option and bytes
+pub given-exact : (p : Party) → Decides (isGiven (said p)) (Given p)
+given-exact p = record { yes = sufficient p; no = λ e g. true≢false (sym (necessary p g) ∙ e) }
+
+module _ (p : Party) (g : Given p) where
+  h : Facts (parts p)
+  h = given-facts p (necessary p g)
+
+  body : writtenBody (said p) ≡ writtenBody (parts p)
+  body = ap writtenBody (said-with p)
+
+  -- what reading a body says of the record
+  abbrev Read : List ℕ → Type 0
+  Read b = (read (p .option) b .reply ≡ accepted) × Same (read (p .option) b .party) p
+
+  read-back : isReadBack (said p) ≡ true → ReadsBack p
+  read-back e =
+      let e' : isReadBack (parts p) ≡ true = ap isReadBack (sym (said-with p)) ∙ e in
+      let f : Read (writtenBody (parts p)) =
+      same-found p (writtenBody (parts p)) h (back-fits _ _ _ _ _ _ h (not-identified (parts p) e')) (back-found _ _ _ _ _ _ h e') in
+      let r : Read (writtenBody (said p)) = subst Read (sym body) f in
+      record { accepts = r .0; same = r .1 }
+
+  not-back : isReadBack (said p) ≡ false → ReadsBack p → ⊥
+  not-back e r =
+      let o = p .option in
+      let e' : isReadBack (parts p) ≡ false = ap isReadBack (sym (said-with p)) ∙ e in
+      let q : Read (writtenBody (parts p)) = subst Read body (r .accepts, r .same) in
+      let a = accepted-is o (writtenBody (parts p)) (q .0) in
+      let same : saying o (foundBy (layoutOf o) o (writtenBody (parts p))) ≡ parts p = sym (a .says) ∙ q .1 ∙ said-with p in
+      back-no _ _ _ _ o (p .present) h e'
+      (record { reply = a .good .reply; heavy = subst (λ (s : Said). weight (bare s) ≤ weight (readLines (layoutOf o) (writtenBody (parts p)))) same (a .good .light) })
+
+  -- a record that a reader can give is read back from its written body if and only if its last written line is not empty, no earlier one
+  -- ends in CR, and it is not 59F with an identifier
+  pub reading-back : Decides (isReadBack (said p)) (ReadsBack p)
+  reading-back = record { yes = read-back; no = not-back }
+
+  -- its written field has at most 188 bytes, and at most 184 but for 59F with an identifier
+  pub written-most : length (writtenField (said p)) ≤ 188
+  written-most = subst (λ (s : Said). length (writtenField s) ≤ 188) (sym (said-with p)) (field-188 _ _ _ _ _ _ h)
+
+  pub written-less : identified59F (said p) ≡ false → length (writtenField (said p)) ≤ 184
+  written-less e =
+      subst (λ (s : Said). length (writtenField s) ≤ 184) (sym (said-with p)) (field-184 _ _ _ _ _ _ h (ap identified59F (sym (said-with p)) ∙ e))

@@ -1,0 +1,217 @@
+-- A record that passes the test for 22 is one that a reader can give: a body that gives it. Assumes nothing.
+use mathlib.Core.Path.{_≡_, refl, sym, _∙_, ap, subst}
+use mathlib.Core.Bool.{Bool, true, false, _&&_, _||_, false≢true}
+use mathlib.Core.List.{List, [], _∷_, _++_, map}
+use Prim.Native.Nat.{ℕ, suc, _≤_}
+use native.Mathlib.Omega.{arith}
+use lib.Dec.{ltb, eqb}
+use lib.ListN.{length, drop, length-map}
+use borrow.Author.Tests.{le-ltb, eqb-true}
+use Rattle.errors.specs.Refusals.{accepted}
+use Rattle.errors.proofs.Replies.{must-held, then-first}
+use Rattle.party.specs.declared.PartyOption.{PartyOption}
+use Rattle.party.specs.declared.PartyOption.the-variants.{Field50NoOption, Field50A, Field50F, Field50K, Field50C, Field50L, Field50G, Field50H, Field59NoOption, Field59A, Field59F}
+use Rattle.party.specs.Limits.{limitsOf}
+use Rattle.party.specs.Text.{Used}
+use Rattle.party.specs.Party.{where-limit, Said}
+use Rattle.swift_utils.specs.Bytes.{all, digit, legal}
+use Rattle.swift_utils.specs.Checks.{bicLength, parseBic}
+use Rattle.field_utils.specs.declared.Numbering.{Numbering}
+use Rattle.field_utils.specs.declared.Numbering.the-variants.{Unnumbered, Numbered, InTurn}
+use Rattle.field_utils.specs.Identifier.{isNumbered}
+use Rattle.field_utils.specs.Names.{numberingOf}
+use Rattle.reader.specs.Options.{firstOf, ascii, kept}
+use Rattle.writer.specs.Writing.{slashOf, nameLines}
+use Rattle.writer.specs.Given.{every, isLine, isAccount, isBic, areNames}
+use Rattle.writer.proofs.Tests.{both-left, both-right, both, none-more}
+use Rattle.writer.proofs.Relined.{All, Line}
+use Rattle.writer.proofs.Sayings.{saidWith, usedOf, bytesOf, Short, Fitting, saying, line-used, line-free, lines-used}
+use Rattle.writer.proofs.NamePasses.{Passes, AllPass, kept-short, kept-written, written-length, written-lines}
+use Rattle.writer.proofs.Ascii.{digit-ascii, all-legal, text-ascii, bic-ascii}
+use Rattle.writer.proofs.HeadPasses.{text-length, extra-most}
+use Rattle.writer.proofs.Facts.{Facts, names-are, account-line, account-passes, bic-passes, bic-lines, small}
+use Rattle.writer.proofs.Bare.{bareHead, bare, firstBytes, accountBytes, foundOf}
+
+-- ---- the record of what is found in its lines says what it says
+where-yes : (limit : ℕ) (us : List Used) → ltb 0 limit ≡ true → where-limit limit us ≡ us
+where-yes limit us e = rw (e, where-limit)
+
+where-no : (limit : ℕ) (us : List Used) → ltb 0 limit ≡ false → where-limit limit us ≡ []
+where-no limit us e = rw (e, where-limit)
+
+-- a text that is there, and one that is not
+text-back : (o : PartyOption) (present : Bool) (u : Used) → isAccount o present u ≡ true → usedOf (accountBytes present (u ∷ [])) ≡ u
+text-back o true u e = line-used u (both-left (isLine u) _ e)
+text-back o false u e =
+    let z : u .len ≡ 0 = eqb-true _ _ (both-left (eqb (u .len) 0) (isLine u) e) in
+    let w : usedOf (u .bytes) ≡ u = line-used u (both-right (eqb (u .len) 0) (isLine u) e) in
+    let n : length (u .bytes) ≡ 0 = ap (λ (x : Used). x .len) w ∙ z in
+    ap usedOf (sym (empty (u .bytes) n)) ∙ w
+  where
+    empty : (l : List ℕ) → length l ≡ 0 → l ≡ []
+    empty [] h = refl
+    empty (b ∷ l) h = absurd (omega arith)
+
+account-back : (o : PartyOption) (present : Bool) (limit : ℕ) (u : Used) → every (isAccount o present) (where-limit limit (u ∷ [])) ≡ true
+    → where-limit limit (usedOf (accountBytes present (where-limit limit (u ∷ []))) ∷ []) ≡ where-limit limit (u ∷ [])
+account-back o present limit u h = go (ltb 0 limit) refl
+  where
+    go : (t : Bool) → ltb 0 limit ≡ t → where-limit limit (usedOf (accountBytes present (where-limit limit (u ∷ []))) ∷ []) ≡ where-limit limit (u ∷ [])
+    go true e =
+        let a : every (isAccount o present) (u ∷ []) ≡ true = ap (every (isAccount o present)) (sym (where-yes limit (u ∷ []) e)) ∙ h in
+        rw (where-yes limit (u ∷ []) e) (ap (λ (w : Used). where-limit limit (w ∷ [])) (text-back o present u (both-left _ true a)) ∙ where-yes limit (u ∷ []) e)
+    go false e = where-no limit _ e ∙ sym (where-no limit _ e)
+
+bic-back : (limit : ℕ) (u : Used) → every isLine (where-limit limit (u ∷ [])) ≡ true
+    → where-limit limit (usedOf (firstBytes (where-limit limit (u ∷ []))) ∷ []) ≡ where-limit limit (u ∷ [])
+bic-back limit u h = go (ltb 0 limit) refl
+  where
+    go : (t : Bool) → ltb 0 limit ≡ t → where-limit limit (usedOf (firstBytes (where-limit limit (u ∷ []))) ∷ []) ≡ where-limit limit (u ∷ [])
+    go true e =
+        let a : every isLine (u ∷ []) ≡ true = ap (every isLine) (sym (where-yes limit (u ∷ []) e)) ∙ h in
+        rw (where-yes limit (u ∷ []) e) (ap (λ (w : Used). where-limit limit (w ∷ [])) (line-used u (both-left _ true a)) ∙ where-yes limit (u ∷ []) e)
+    go false e = where-no limit _ e ∙ sym (where-no limit _ e)
+
+where-twice : (limit : ℕ) (us : List Used) → where-limit limit (where-limit limit us) ≡ where-limit limit us
+where-twice limit us = go (ltb 0 limit) refl
+  where
+    go : (t : Bool) → ltb 0 limit ≡ t → where-limit limit (where-limit limit us) ≡ where-limit limit us
+    go true e = where-yes limit _ e
+    go false e = where-no limit _ e ∙ sym (where-no limit _ e)
+
+module _ (o : PartyOption) (present : Bool) (count : ℕ) (u v : Used) (us : List Used) where
+  abbrev S : Said
+  S = saidWith o present count u v us
+
+  pub saying-back : Facts S → saying o (foundOf S) ≡ S
+  saying-back h =
+      let n = names-are o count (S .names) (h .names) in
+      let c : length (map bytesOf (S .names)) ≡ count = length-map (S .names) bytesOf ∙ n .counted in
+      let a = account-back o present (limitsOf o .longest) u (h .account) in
+      let b = bic-back (limitsOf o .bic) v (bic-lines (S .bic) (h .bic)) in
+      let m : where-limit (limitsOf o .names) (map usedOf (map bytesOf (S .names))) ≡ S .names =
+      ap (where-limit (limitsOf o .names)) (lines-used (S .names) (n .lines)) ∙ where-twice (limitsOf o .names) us in
+      λ i. record { option = o; present = present; count = c i; account = a i; bic = b i; names = m i }
+
+-- ---- its texts fit
+account-short : (o : PartyOption) (present : Bool) (us : List Used) → every (isAccount o present) us ≡ true → Short (accountBytes present us)
+account-short o true [] h = omega arith
+account-short o true (u ∷ us) h =
+    omega (arith, text-length (firstOf o) o (u .bytes) (account-passes o u (both-left _ _ h)), extra-most (firstOf o), small o .longest)
+account-short o false us h = omega arith
+
+pub bic-most : (n : ℕ) (x : List ℕ) → parseBic n x ≡ accepted → length x ≤ 11
+unfolding parseBic bicLength
+bic-most n x e = go (eqb (length x) 8) (eqb (length x) 11) refl refl (must-held (bicLength (length x)) 9 n (then-first _ _ e))
+  where
+    go : (p q : Bool) → eqb (length x) 8 ≡ p → eqb (length x) 11 ≡ q → (p || q) ≡ true → length x ≤ 11
+    go true q a b t = omega (arith, eqb-true (length x) 8 a)
+    go false true a b t = omega (arith, eqb-true (length x) 11 b)
+    go false false a b t = absurd (false≢true t)
+
+bic-short : (us : List Used) → every isBic us ≡ true → Short (firstBytes us)
+bic-short [] h = omega arith
+bic-short (u ∷ us) h = omega (arith, bic-most 1 (u .bytes) (bic-passes u (both-left _ _ h)))
+
+-- where an option has no names there are none
+pub names-none : (o : PartyOption) (us : List Used) → eqb (limitsOf o .names) 0 ≡ true → where-limit (limitsOf o .names) us ≡ []
+names-none o us e = where-no (limitsOf o .names) us (le-ltb 0 (limitsOf o .names) (omega (arith, eqb-true (limitsOf o .names) 0 e)))
+
+names-short : (o : PartyOption) (count : ℕ) (us : List Used) → areNames o count (where-limit (limitsOf o .names) us) ≡ true
+    → All Short (map bytesOf (where-limit (limitsOf o .names) us)) × (length (map bytesOf (where-limit (limitsOf o .names) us)) ≤ 4)
+names-short o count us h = go (eqb (limitsOf o .names) 0) refl
+  where
+    go : (t : Bool) → eqb (limitsOf o .names) 0 ≡ t → All Short (map bytesOf (where-limit (limitsOf o .names) us)) × (length (map bytesOf (where-limit (limitsOf o .names) us)) ≤ 4)
+    go true e = rw (names-none o us e) (tt, omega arith)
+    go false e =
+        let w = where-limit (limitsOf o .names) us in
+        let p = names-are o count w h .pass e in
+        let k : All Short (map (kept (numberingOf o)) (nameLines (numberingOf o) 1 w)) =
+        kept-short (numberingOf o) (limitsOf o .name) 1 (nameLines (numberingOf o) 1 w) (omega (arith, small o .name)) (p .each) in (
+          subst (All Short) (kept-written (numberingOf o) 1 w) k,
+          omega (arith, length-map w bytesOf, written-length (numberingOf o) 1 w, p .most, small o .names),
+        )
+
+pub fitting : (o : PartyOption) (present : Bool) (count : ℕ) (u v : Used) (us : List Used) → Facts (saidWith o present count u v us) → Fitting (foundOf (saidWith o present count u v us))
+fitting o present count u v us h =
+    let s = saidWith o present count u v us in
+    let n = names-short o count us (h .names) in
+    record { account = account-short o present (s .account) (h .account); bic = bic-short (s .bic) (h .bic); names = n .0; few = n .1 }
+
+-- ---- its lines have no LF and no byte above 127, and few bytes
+pub record Plain (l : List ℕ) : Type 0 where
+  pub line : Line l
+  pub bytes : all ascii l ≡ true
+
+pub all-append : {A : Type 0} (P : A → Type 0) (xs ys : List A) → All P xs → All P ys → All P (xs ++ ys)
+all-append P [] ys h k = k
+all-append P (x ∷ xs) ys h k = (h .0, all-append P xs ys (h .1) k)
+
+slashed : (x : List ℕ) → Plain x → Plain (47 ∷ x)
+slashed x h = record { line = none-more 47 x refl (h .line); bytes = h .bytes }
+
+slash-plain : (o : PartyOption) (x : List ℕ) → Plain x → Plain (slashOf o ++ x)
+slash-plain Field50NoOption x h = slashed x h
+slash-plain Field50A x h = slashed x h
+slash-plain Field50F x h = h
+slash-plain Field50K x h = slashed x h
+slash-plain Field50C x h = slashed x h
+slash-plain Field50L x h = h
+slash-plain Field50G x h = slashed x h
+slash-plain Field50H x h = slashed x h
+slash-plain Field59NoOption x h = slashed x h
+slash-plain Field59A x h = slashed x h
+slash-plain Field59F x h = slashed x h
+
+head-plain : (o : PartyOption) (present : Bool) (us : List Used) → every (isAccount o present) us ≡ true → All Plain (bareHead o present us)
+head-plain o true [] h = tt
+head-plain o true (u ∷ us) h =
+    let a = both-left (isAccount o true u) (every (isAccount o true) us) h in (
+      slash-plain o (u .bytes) (record { line = line-free u (account-line o true u a); bytes = text-ascii (firstOf o) o (u .bytes) (account-passes o u a) }),
+      head-plain o true us (both-right (isAccount o true u) (every (isAccount o true) us) h),
+    )
+head-plain o false us h = tt
+
+bic-plain : (us : List Used) → every isBic us ≡ true → All Plain (map bytesOf us)
+bic-plain [] h = tt
+bic-plain (u ∷ us) h =
+    let b = both-left (isBic u) (every isBic us) h in
+    (record { line = line-free u (both-left (isLine u) _ b); bytes = bic-ascii 1 (u .bytes) (bic-passes u b) }, bic-plain us (both-right (isBic u) (every isBic us) h))
+
+numbered-ascii : (l : List ℕ) → isNumbered l ≡ true → all legal (drop 2 l) ≡ true → all ascii l ≡ true
+unfolding isNumbered
+numbered-ascii [] e h = refl
+numbered-ascii (d ∷ []) e h = absurd (false≢true e)
+numbered-ascii (d ∷ s ∷ l) e h =
+    both (ascii d) (ascii s && all ascii l) (digit-ascii d (both-left (digit d) (eqb s 47) e))
+    (both (ascii s) (all ascii l) (ap ascii (eqb-true s 47 (both-right (digit d) (eqb s 47) e))) (all-legal l h))
+
+pass-ascii : (f : Numbering) (longest k : ℕ) (l : List ℕ) → Passes f longest k l → all ascii l ≡ true
+pass-ascii Unnumbered longest k l p = all-legal l (p .chars)
+pass-ascii Numbered longest k l p = numbered-ascii l (p .number) (p .chars)
+pass-ascii InTurn longest k l p = numbered-ascii l (both-left (isNumbered l) _ (p .number)) (p .chars)
+
+names-plain : (f : Numbering) (longest k : ℕ) (ls : List (List ℕ)) → All Line ls → AllPass f longest k ls → All Plain ls
+names-plain f longest k [] h p = tt
+names-plain f longest k (l ∷ ls) h p = (record { line = h .0; bytes = pass-ascii f longest k l (p .0) }, names-plain f longest (suc k) ls (h .1) (p .1))
+
+-- names of an option, whether it has some or not
+names-all : (o : PartyOption) (count : ℕ) (us : List Used) → areNames o count (where-limit (limitsOf o .names) us) ≡ true
+    → All Plain (nameLines (numberingOf o) 1 (where-limit (limitsOf o .names) us))
+unfolding nameLines
+names-all o count us h = go (eqb (limitsOf o .names) 0) refl
+  where
+    go : (t : Bool) → eqb (limitsOf o .names) 0 ≡ t → All Plain (nameLines (numberingOf o) 1 (where-limit (limitsOf o .names) us))
+    go true e = rw (names-none o us e) tt
+    go false e =
+        let w = where-limit (limitsOf o .names) us in
+        let n = names-are o count w h in
+        names-plain (numberingOf o) (limitsOf o .name) 1 (nameLines (numberingOf o) 1 w) (written-lines (numberingOf o) 1 w (n .lines)) (n .pass e .each)
+
+pub bare-plain : (o : PartyOption) (present : Bool) (count : ℕ) (u v : Used) (us : List Used) → Facts (saidWith o present count u v us) → All Plain (bare (saidWith o present count u v us))
+unfolding bare
+bare-plain o present count u v us h =
+    let s = saidWith o present count u v us in
+    all-append Plain (bareHead o present (s .account) ++ map bytesOf (s .bic)) _
+    (all-append Plain (bareHead o present (s .account)) _ (head-plain o present (s .account) (h .account)) (bic-plain (s .bic) (h .bic)))
+    (names-all o count us (h .names))

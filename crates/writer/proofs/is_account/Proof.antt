@@ -1,0 +1,90 @@
+-- `writer::is_account` meets its contract. Assumes nothing.
+use mathlib.Core.Path.{_≡_, sym, _∙_, ap}
+use mathlib.Core.Bool.{Bool, _&&_}
+use mathlib.Core.List.{List, [], _∷_}
+use Prim.Native.Nat.{ℕ}
+use borrow.Author.Tests.{not-true, not-false}
+use Rattle.party.specs.Limits.{limitsOf}
+use Rattle.party.specs.Text.{used}
+use Rattle.party.specs.Party.{where-limit}
+use Rattle.reader.specs.Options.{firstOf}
+use Rattle.writer.specs.Given.{passes, every, textReply, isAccount}
+use Rattle.writer.proofs.Texts.{used-part, used-within, used-count}
+use Rattle.writer.proofs.Records.{every-none, every-one, empty-line}
+use borrow.Author.Needs.{needs}
+use Rattle.writer.proofs.is_account.Statement.{statement}
+use Rattle.writer.proofs.is_account.Tie as tie
+
+-- where the option has one, it is tested
+tested :
+    (e : tie.Else1) → let a = e .before .before .before .args in
+    every (isAccount (a .option) (a .present)) (where-limit (limitsOf (a .option) .longest) (used (a .t) ∷ [])) ≡ isAccount (a .option) (a .present) (used (a .t))
+tested e =
+    let a = e .before .before .before .args in
+    every-one (isAccount (a .option) (a .present)) (limitsOf (a .option) .longest) (used (a .t)) (rw (e .before .before .limits-of .ensures) at (e .if1 .left))
+
+-- where it is there, it is a line, and its text passes
+present :
+    (l : tie.After-is-line) {t : Bool} → l .is-line .result ≡ t → let a = l .before .before .before .before .before .args in
+    isAccount (a .option) (a .present) (used (a .t)) ≡ (t && passes (textReply (firstOf (a .option)) (a .option) (used (a .t) .bytes)))
+present l e =
+    let a = l .before .before .before .before .before .args in
+    ap (λ (b : Bool). isAccount (a .option) b (used (a .t))) (not-false (a .present) (l .before .if2 .left))
+    ∙ ap (λ (b : Bool). b && passes (textReply (firstOf (a .option)) (a .option) (used (a .t) .bytes))) (sym (l .is-line .ensures) ∙ e)
+
+limits-of-requires : tie.Need-limits-of-requires
+limits-of-requires c κs = search needs
+
+returns : tie.Need-returns
+returns c =
+    let a = c .before .before .before .args in
+    sym (every-none (isAccount (a .option) (a .present)) (limitsOf (a .option) .longest) (used (a .t)) (rw (c .before .before .limits-of .ensures) at (c .if1 .taken)))
+
+returns-2 : tie.Need-returns-2
+returns-2 c =
+    let a = c .before .before .before .before .before .args in
+    sym (tested (c .before .before) ∙ ap (λ (b : Bool). isAccount (a .option) b (used (a .t))) (not-true (a .present) (c .before .if2 .taken)) ∙ empty-line (a .t))
+
+is-line-requires : tie.Need-is-line-requires
+is-line-requires c κs = search needs
+
+returns-3 : tie.Need-returns-3
+returns-3 c = sym (tested (c .before .before .before) ∙ present (c .before) (not-true _ (c .if3 .taken)))
+
+used-length-requires : tie.Need-used-length-requires
+used-length-requires c κs = search needs
+
+array-share-prefix-bytes : tie.Need-array-share-prefix-bytes
+array-share-prefix-bytes c =
+    let u = c .before in
+    used-within (c .before .before .before .before .before .before .before .before .args .t) (u .used-length .result) (u .used-length .ensures .is)
+
+slice-aggregate-is-account-text : tie.Need-slice-aggregate-is-account-text
+slice-aggregate-is-account-text c =
+    let u = c .before .before in
+    used-count (c .before .before .before .before .before .before .before .before .before .args .t) (u .used-length .result) (u .used-length .ensures .is)
+
+is-account-text-requires : tie.Need-is-account-text-requires
+is-account-text-requires c κs = search needs
+
+returns-4 : tie.Need-returns-4
+returns-4 c =
+    let a = c .before .before .before .before .before .before .before .before .before .before .args in
+    let part = used-part (a .t) (c .before .before .before .used-length .result) (c .before .before .before .used-length .ensures .is) in
+    c .is-account-text .ensures ∙ ap (λ (x : List ℕ). passes (textReply (firstOf (a .option)) (a .option) x)) part
+    ∙ sym (tested (c .before .before .before .before .before .before .before) ∙ present (c .before .before .before .before .before) (not-false _ (c .before .before .before .before .if3 .left)))
+
+pub is-account-spec : {M : Type 1} → statement M
+is-account-spec =
+    tie.close
+    (tie.spec
+    limits-of-requires
+    returns
+    returns-2
+    is-line-requires
+    returns-3
+    used-length-requires
+    array-share-prefix-bytes
+    slice-aggregate-is-account-text
+    is-account-text-requires
+    returns-4)

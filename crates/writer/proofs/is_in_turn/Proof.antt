@@ -1,0 +1,81 @@
+-- `writer::is_in_turn` meets its contract, by the numbering. Assumes nothing.
+use Prim.Native.Nat.{ℕ, _+_, _≤_}
+use mathlib.Core.Path.{_≡_, sym, _∙_, ap}
+use mathlib.Core.Bool.{Bool, _&&_}
+use mathlib.Core.List.{List}
+use native.Mathlib.Omega.{arith}
+use denote.Ref.{now}
+use lib.Dec.{eqb}
+use lib.ListN.{length, getD}
+use borrow.Author.Tests.{not-true, not-false}
+use Rattle.field_utils.specs.declared.Numbering.{Numbering}
+use Rattle.writer.proofs.Records.{inTurn, turn-kept, turn-written, numbered-room}
+use borrow.Author.Needs.{needs}
+use Rattle.writer.proofs.is_in_turn.Statement.{statement}
+use Rattle.writer.proofs.is_in_turn.Tie as tie
+
+by : {f g : Numbering} (k : ℕ) (x : List ℕ) → f ≡ g → inTurn g k x ≡ inTurn f k x
+by k x e = ap (λ (h : Numbering). inTurn h k x) (sym e)
+
+-- 59F: the number, then the turn
+kept : (c : tie.After-is-numbered-line) {t : Bool} → c .is-numbered-line .result ≡ t → let a = c .before .before .before .before .args in
+    (t && eqb (getD (now (a .text)) 0 0) (48 + a .turn)) ≡ inTurn (a .numbering) (a .turn) (now (a .text))
+kept c e =
+    let a = c .before .before .before .before .args in
+    let x = now (a .text) in
+    ap (λ (t : Bool). t && eqb (getD x 0 0) (48 + a .turn)) (sym e ∙ c .is-numbered-line .ensures) ∙ sym (turn-kept (a .turn) x)
+    ∙ by (a .turn) x (c .before .enum-told3 .given .1)
+
+room : (c : tie.Else1) → 2 ≤ length (now (c .before .before .before .before .before .args .text))
+room c = numbered-room (now (c .before .before .before .before .before .args .text)) (sym (c .before .is-numbered-line .ensures) ∙ not-false _ (c .if1 .left))
+
+enum-told : tie.Need-enum-told
+enum-told c = search needs
+
+enum-told-2 : tie.Need-enum-told-2
+enum-told-2 c = search needs
+
+enum-told-3 : tie.Need-enum-told-3
+enum-told-3 c = search needs
+
+is-numbered-line-requires : tie.Need-is-numbered-line-requires
+is-numbered-line-requires c κs = search needs
+
+returns : tie.Need-returns
+returns c = kept (c .before) (not-true _ (c .if1 .taken))
+
+shared-slice-read-result : tie.Need-shared-slice-read-result
+shared-slice-read-result c = omega (arith, room (c .before))
+
+cast-result : tie.Need-cast-result
+cast-result c = omega (arith, c .shared-slice-known2 .given 0)
+
+add-result : tie.Need-add-result
+add-result c = search needs
+
+returns-2 : tie.Need-returns-2
+returns-2 c = search needs
+
+returns-3 : tie.Need-returns-3
+returns-3 c =
+    let a = c .before .before .before .args in
+    sym (turn-written (a .turn) (now (a .text)) (c .before .before .before .pre)) ∙ by (a .turn) (now (a .text)) (c .enum-told2 .given .1)
+
+returns-4 : tie.Need-returns-4
+returns-4 c = kept (c .before .before) (not-false _ (c .before .if1 .left))
+
+pub is-in-turn-spec : {M : Type 1} → statement M
+is-in-turn-spec =
+    tie.close
+    (tie.spec
+    enum-told
+    enum-told-2
+    enum-told-3
+    is-numbered-line-requires
+    returns
+    shared-slice-read-result
+    cast-result
+    add-result
+    returns-2
+    returns-3
+    returns-4)

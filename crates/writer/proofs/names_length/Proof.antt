@@ -1,0 +1,121 @@
+-- `writer::names_length` meets its contract. The loop's invariant: the total so far and the length of what is left make the length of all
+-- names. Assumes nothing.
+use Prim.Native.Nat.{suc, _+_, _*_, _-_, _≤_}
+use mathlib.Core.Path.{_≡_, _∙_, ap}
+use native.Mathlib.Numerals.{add-one}
+use native.Mathlib.Omega.{arith}
+use lib.ListN.{length, drop}
+use Rattle.party.specs.declared.Party.{Party}
+use Rattle.party.specs.Party.{IsParty}
+use Rattle.party.proofs.Values.{is-party}
+use Rattle.field_utils.specs.Names.{numberingOf}
+use Rattle.writer.specs.Writing.{nameLines}
+use Rattle.writer.specs.Code.{led, marks}
+use Rattle.writer.proofs.Names.{namesIn, few as names-few, marks-most, said-names, left-length, left-end}
+use borrow.Author.Needs.{needs}
+use Rattle.writer.proofs.names_length.Statement.{statement}
+use Rattle.writer.proofs.names_length.Tie as tie
+
+abbrev Inv-loop : tie.InvT-loop
+Inv-loop later p n mark after₀ total₀ i₀ after total i =
+    (i ≤ n) × (total ≤ 41 * i)
+    × (total + length (led after (nameLines (numberingOf (p .option)) (suc i) (drop i (namesIn n p)))) ≡ length (led later (nameLines (numberingOf (p .option)) 1 (namesIn n p))))
+
+abbrev μ-loop : tie.MeasureT-loop
+μ-loop later p n mark after₀ total₀ i₀ after total i = n - i
+
+module _ (k : tie.At-loop Inv-loop μ-loop) where
+  abbrev p : Party
+  p = k .before .before .before .before .args .t1
+
+  sizes : IsParty p
+  sizes = is-party p _ (k .before .before .before .before .good .0)
+
+  few : k .before .before .before .name-count .result ≤ 4
+  few = names-few p sizes (k .before .before .before .name-count .ensures)
+
+  marked : k .before .mark-count .result ≡ marks (numberingOf (p .option))
+  marked = k .before .mark-count .ensures ∙ ap marks (k .before .before .numbering-of .ensures)
+
+  narrow : k .before .mark-count .result ≤ 2
+  narrow = rw marked (marks-most (numberingOf (p .option)))
+
+name-count-requires : tie.Need-name-count-requires Inv-loop μ-loop
+name-count-requires c κs = search needs
+
+numbering-of-requires : tie.Need-numbering-of-requires Inv-loop μ-loop
+numbering-of-requires c κs = search needs
+
+mark-count-requires : tie.Need-mark-count-requires Inv-loop μ-loop
+mark-count-requires c κs = search needs
+
+loop-holds : tie.Need-loop-holds Inv-loop μ-loop
+loop-holds c = (omega arith, omega arith, omega arith)
+
+mul-t : tie.Need-mul-t Inv-loop μ-loop
+mul-t c = omega (arith, few (c .before))
+
+element-copy-out-t : tie.Need-element-copy-out-t Inv-loop μ-loop
+element-copy-out-t c = omega (arith, few (c .before))
+
+lf-count-requires : tie.Need-lf-count-requires Inv-loop μ-loop
+lf-count-requires c κs = search needs
+
+add-total : tie.Need-add-total Inv-loop μ-loop
+add-total c = omega (arith, narrow (c .before .before .before))
+
+used-length-requires : tie.Need-used-length-requires Inv-loop μ-loop
+used-length-requires c κs = search needs
+
+add-total-2 : tie.Need-add-total-2 Inv-loop μ-loop
+add-total-2 c = omega (arith, narrow (c .before .before .before .before))
+
+add-total-3 : tie.Need-add-total-3 Inv-loop μ-loop
+add-total-3 c = omega (arith, narrow (c .before .before .before .before), few (c .before .before .before .before))
+
+add-i : tie.Need-add-i Inv-loop μ-loop
+add-i c = omega arith
+
+loop-less : tie.Need-loop-less Inv-loop μ-loop
+loop-less c = omega arith
+
+loop-again : tie.Need-loop-again Inv-loop μ-loop
+loop-again c =
+    let k = c .before .before .before .before in
+    let n = k .before .before .before .name-count .result in
+    let i = k .loop .i in
+    let f = numberingOf (p k .option) in
+    let inside = c .before .before .before .loop-test .taken in
+    let turn = left-length (p k) (sizes k) (k .before .before .before .name-count .ensures) f (k .loop .after) i inside in
+    (omega arith, omega (arith, narrow k), rw (add-one i) (omega (arith, k .loop .inv .2, turn, marked k, c .before .lf-count .ensures .is, c .used-length .ensures .is)))
+
+returns : tie.Need-returns Inv-loop μ-loop
+returns c =
+    let k = c .before in
+    let n = k .before .before .before .name-count .result in
+    let f = numberingOf (p k .option) in
+    let end = ap length (left-end (p k) (sizes k) (k .before .before .before .name-count .ensures) f (k .loop .after) (k .loop .i) (c .loop-test .left)) in
+    let names = said-names (p k) (sizes k) (k .before .before .before .name-count .ensures) in
+    rw names (record { is = omega (arith, k .loop .inv .2, end); most = omega (arith, few k) })
+
+pub names-length-spec : {M : Type 1} → statement M
+names-length-spec =
+    tie.close
+    (tie.spec
+    Inv-loop
+    μ-loop
+    name-count-requires
+    numbering-of-requires
+    mark-count-requires
+    loop-holds
+    mul-t
+    element-copy-out-t
+    lf-count-requires
+    add-total
+    used-length-requires
+    add-total-2
+    add-total-3
+    add-i
+    loop-less
+    loop-again
+    returns)

@@ -1,0 +1,154 @@
+-- `writer::put_names` meets its contract. The loop's invariant: the names passed are put, and the others are left. Assumes nothing.
+use Prim.Native.Nat.{suc, _+_, _-_, _≤_, _<_}
+use mathlib.Core.Path.{_≡_, _∙_, sym, ap}
+use mathlib.Core.Bool.{true}
+use mathlib.Core.List.{List, [], _∷_, _++_}
+use Prim.Native.Nat.{ℕ}
+use native.Mathlib.Numerals.{add-one}
+use native.Mathlib.Omega.{arith}
+use denote.Ref.{now}
+use lib.ListN.{length, take, drop, getD, length-append}
+use lib.Seq.{length-take-le}
+use Rattle.party.specs.declared.Party.{Party}
+use Rattle.party.specs.Text.{used}
+use Rattle.party.specs.Party.{IsParty}
+use Rattle.party.proofs.Values.{is-party}
+use Rattle.field_utils.specs.declared.Numbering.{Numbering}
+use Rattle.field_utils.specs.Names.{numberingOf}
+use Rattle.writer.specs.Writing.{numberOf, nameLines}
+use Rattle.writer.specs.Code.{lead, led, marks}
+use Rattle.writer.proofs.Names.{none, namesIn, few as names-few, marks-most, number-part, number-length, said-names, left-next, left-end}
+use Rattle.writer.proofs.Puts.{puts-as, Partway, begun, finished, kept, next, next-space}
+use borrow.Author.Needs.{needs}
+use Rattle.writer.proofs.put_names.Statement.{statement}
+use Rattle.writer.proofs.put_names.Tie as tie
+
+abbrev Inv-loop : tie.InvT-loop
+Inv-loop buf₀ at later p n marks after₀ end₀ i₀ buf after end i =
+    (i ≤ n)
+    × Partway buf₀ at (led later (nameLines (numberingOf (p .option)) 1 (namesIn n p))) buf end
+    (led after (nameLines (numberingOf (p .option)) (suc i) (drop i (namesIn n p))))
+
+abbrev μ-loop : tie.MeasureT-loop
+μ-loop buf₀ at later p n marks after₀ end₀ i₀ buf after end i = n - i
+
+module _ (k : tie.At-loop Inv-loop μ-loop) where
+  abbrev p : Party
+  p = k .before .before .before .before .before .args .t4
+
+  abbrev f : Numbering
+  f = numberingOf (p .option)
+
+  abbrev n : ℕ
+  n = k .before .before .before .name-count .result
+
+  sizes : IsParty p
+  sizes = is-party p _ (k .before .before .before .before .before .good .1 .1 .1 .0)
+
+  few : n ≤ 4
+  few = names-few p sizes (k .before .before .before .name-count .ensures)
+
+  marked : k .before .mark-count .result ≡ marks f
+  marked = k .before .mark-count .ensures ∙ ap marks (k .before .before .numbering-of .ensures)
+
+  -- the part of the array is the name's number, or nothing
+  mark : take (k .before .mark-count .result) ((49 + k .loop .i) ∷ 47 ∷ []) ≡ numberOf f (suc (k .loop .i))
+  mark = ap (λ (m : ℕ). take m ((49 + k .loop .i) ∷ 47 ∷ [])) marked ∙ number-part f (k .loop .i)
+
+  room : k .before .before .before .before .before .args .at + length (led (k .before .before .before .before .before .args .later) (nameLines f 1 (namesIn n p))) ≤ length (now (k .before .before .before .before .before .args .buf))
+  room = rw (said-names p sizes (k .before .before .before .name-count .ensures)) at (k .before .before .before .before .before .pre)
+
+  -- the next line, and those after it
+  abbrev line : List ℕ
+  line = lead (k .loop .after) ++ (numberOf f (suc (k .loop .i)) ++ used (getD (p .«name_and_address») (k .loop .i) none) .bytes)
+
+  abbrev later : List ℕ
+  later = led true (nameLines f (suc (suc (k .loop .i))) (drop (suc (k .loop .i)) (namesIn n p)))
+
+  turn : k .loop .i < n → Partway (now (k .before .before .before .before .before .args .buf)) (k .before .before .before .before .before .args .at) (led (k .before .before .before .before .before .args .later) (nameLines f 1 (namesIn n p))) (k .loop .buf) (k .loop .end) (line ++ later)
+  turn inside = rw (left-next p sizes (k .before .before .before .name-count .ensures) f (k .loop .after) (k .loop .i) inside) at (k .loop .inv .1)
+
+name-count-requires : tie.Need-name-count-requires Inv-loop μ-loop
+name-count-requires c κs = search needs
+
+numbering-of-requires : tie.Need-numbering-of-requires Inv-loop μ-loop
+numbering-of-requires c κs = search needs
+
+mark-count-requires : tie.Need-mark-count-requires Inv-loop μ-loop
+mark-count-requires c κs = search needs
+
+loop-holds : tie.Need-loop-holds Inv-loop μ-loop
+loop-holds c =
+    let s = c .before .before .before .before in
+    (omega arith, begun (now (s .args .buf)) (s .args .at) (led (s .args .later) (nameLines (numberingOf (s .args .t4 .option)) 1 (namesIn (c .before .before .name-count .result) (s .args .t4)))))
+
+cast-t17 : tie.Need-cast-t17 Inv-loop μ-loop
+cast-t17 c = omega (arith, few (c .before))
+
+add-t18 : tie.Need-add-t18 Inv-loop μ-loop
+add-t18 c = omega (arith, few (c .before))
+
+mul-t : tie.Need-mul-t Inv-loop μ-loop
+mul-t c = omega (arith, few (c .before))
+
+element-copy-out-t : tie.Need-element-copy-out-t Inv-loop μ-loop
+element-copy-out-t c = omega (arith, few (c .before))
+
+array-share-prefix-mark : tie.Need-array-share-prefix-mark Inv-loop μ-loop
+array-share-prefix-mark c = rw (marked (c .before .before .before)) (marks-most (f (c .before .before .before)))
+
+slice-aggregate-put-line : tie.Need-slice-aggregate-put-line Inv-loop μ-loop
+slice-aggregate-put-line c =
+    let k = c .before .before .before .before in
+    sym (length-take-le _ _ (rw (marked k) (marks-most (f k))))
+
+put-line-requires : tie.Need-put-line-requires Inv-loop μ-loop
+put-line-requires c κs =
+    let k = c .before .before .before .before in
+    let fits = simp length-append at (next-space (line k) (later k) (turn k (c .before .before .before .loop-test .taken)) (room k)) in
+    simp length-append (omega (arith, fits, slice-aggregate-put-line c, marked k, number-length (f k) (suc (k .loop .i))))
+
+add-i : tie.Need-add-i Inv-loop μ-loop
+add-i c = omega arith
+
+loop-less : tie.Need-loop-less Inv-loop μ-loop
+loop-less c = omega arith
+
+loop-again : tie.Need-loop-again Inv-loop μ-loop
+loop-again c =
+    let k = c .before .before .before .before .before .before .before in
+    let text = used (getD (p k .«name_and_address») (k .loop .i) none) .bytes in
+    let piece = puts-as (ap (λ (m : List ℕ). lead (k .loop .after) ++ (m ++ text)) (mark k)) (c .before .before .put-line .ensures) in
+    (omega arith, rw (add-one (k .loop .i)) (next (line k) (later k) (turn k (c .before .before .before .before .before .before .loop-test .taken)) (room k) piece))
+
+same-length : tie.Need-same-length Inv-loop μ-loop
+same-length c = kept (c .before .loop .inv .1) (room (c .before))
+
+returns : tie.Need-returns Inv-loop μ-loop
+returns c =
+    let k = c .before in
+    let all = rw (left-end (p k) (sizes k) (k .before .before .before .name-count .ensures) (f k) (k .loop .after) (k .loop .i) (c .loop-test .left)) at (k .loop .inv .1) in
+    rw (said-names (p k) (sizes k) (k .before .before .before .name-count .ensures)) (finished all)
+
+pub put-names-spec : {M : Type 1} → statement M
+put-names-spec =
+    tie.close
+    (tie.spec
+    Inv-loop
+    μ-loop
+    name-count-requires
+    numbering-of-requires
+    mark-count-requires
+    loop-holds
+    cast-t17
+    add-t18
+    mul-t
+    element-copy-out-t
+    array-share-prefix-mark
+    slice-aggregate-put-line
+    put-line-requires
+    add-i
+    loop-less
+    loop-again
+    same-length
+    returns)

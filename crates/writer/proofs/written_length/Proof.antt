@@ -1,0 +1,44 @@
+-- `writer::written_length` meets its contract. Assumes nothing.
+use native.Mathlib.Omega.{arith}
+use lib.ListN.{length-append}
+use Rattle.writer.proofs.Fields.{field-parts}
+use borrow.Author.Needs.{needs}
+use Rattle.writer.proofs.written_length.Statement.{statement}
+use Rattle.writer.proofs.written_length.Tie as tie
+
+has-head-requires : tie.Need-has-head-requires
+has-head-requires c κs = search needs
+
+tag-length-requires : tie.Need-tag-length-requires
+tag-length-requires c κs = search needs
+
+head-length-requires : tie.Need-head-length-requires
+head-length-requires c κs = search needs
+
+add-result : tie.Need-add-result
+add-result c = search needs
+
+rest-length-requires : tie.Need-rest-length-requires
+rest-length-requires c κs = search needs
+
+add-result-2 : tie.Need-add-result-2
+add-result-2 c = search needs
+
+returns : tie.Need-returns
+returns c =
+    let t = c .before .before in
+    let h = t .before in
+    let a = h .before .before .args in
+    rw (field-parts (a .p), ← h .has-head .ensures) (simp length-append (omega (arith, t .tag-length .ensures .is, c .before .head-length .ensures .is, c .rest-length .ensures .is)))
+
+pub written-length-spec : {M : Type 1} → statement M
+written-length-spec =
+    tie.close
+    (tie.spec
+    has-head-requires
+    tag-length-requires
+    head-length-requires
+    add-result
+    rest-length-requires
+    add-result-2
+    returns)

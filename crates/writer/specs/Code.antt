@@ -1,0 +1,105 @@
+-- What the answers of the writer's functions mean, and the parts that they write.
+use Prim.Native.Nat.{ℕ, suc, _+_, _≤_, min}
+use mathlib.Core.Path.{_≡_}
+use mathlib.Core.Bool.{Bool, true, false, not, _&&_}
+use mathlib.Core.List.{List, [], _∷_, _++_, map}
+use lib.Dec.{ltb, eqb}
+use lib.ListN.{length}
+use Rattle.errors.specs.Refusals.{told}
+use Rattle.party.specs.declared.PartyOption.{PartyOption}
+use Rattle.party.specs.declared.Party.{Party}
+use Rattle.party.specs.Limits.{limitsOf}
+use Rattle.party.specs.Text.{Used}
+use Rattle.party.specs.Party.{said}
+use Rattle.swift_utils.specs.Bytes.{legal}
+use Rattle.field_utils.specs.declared.Numbering.{Numbering}
+use Rattle.field_utils.specs.declared.Numbering.the-variants.{Unnumbered, Numbered, InTurn}
+use Rattle.field_utils.specs.Lines.{starts}
+use Rattle.field_utils.specs.Names.{numberingOf, parseLine}
+use Rattle.writer.specs.declared.Written.{Written}
+use Rattle.writer.specs.Writing.{Writing, slashOf, gapOf, numberOf, nameLines, put}
+use Rattle.writer.specs.Given.{passes, isLine}
+
+-- an answer, with the buffer that it left
+abbrev pub toldWritten : Written → List ℕ → Writing
+toldWritten r buffer = record { reply = told (r .outcome); len = r .len; buffer = buffer }
+
+-- the length of a text, which is at most a bound
+pub record Counted (bound : ℕ) (text : List ℕ) (n : ℕ) : Type 0 where
+  pub is : n ≡ length text
+  pub most : n ≤ bound
+
+-- e is the buffer d with a text put at a place, and end is the place after the text
+pub record Puts (d : List ℕ) (at : ℕ) (text : List ℕ) (e : List ℕ) (end : ℕ) : Type 0 where
+  pub bytes : e ≡ put d at text
+  pub ends : end ≡ at + length text
+
+-- the LF before a line, which the first line has not
+abbrev pub lead : Bool → List ℕ
+lead true = 10 ∷ []
+lead false = []
+
+-- lines, each with its LF; whether the first of them has one is said
+unfoldable pub led : Bool → List (List ℕ) → List ℕ
+led later [] = []
+led later (l ∷ ls) = (lead later ++ l) ++ led true ls
+
+-- whether a list has a line
+abbrev pub some : List (List ℕ) → Bool
+some [] = false
+some (l ∷ ls) = true
+
+-- whether an empty line follows an account or identifier
+abbrev pub hasGap : PartyOption → Bool
+hasGap o = some (gapOf o)
+
+-- whether an account or identifier is written
+abbrev pub hasHead : PartyOption → Bool → Bool
+hasHead o present = present && ltb 0 (limitsOf o .longest)
+
+-- how many bytes of a name's number are written before it
+abbrev pub marks : Numbering → ℕ
+marks Unnumbered = 0
+marks Numbered = 2
+marks InTurn = 0
+
+-- how many names are used
+abbrev pub nameCount : PartyOption → ℕ → ℕ
+nameCount o count = elim (ltb 0 (limitsOf o .names)) [ true ↦ min count 4 | false ↦ 0 ]
+
+-- an account or identifier, where it is written, and the LF of its gap
+abbrev pub headOf : PartyOption → Bool → Used → List ℕ
+headOf o true u = (slashOf o ++ u .bytes) ++ lead (hasGap o)
+headOf o false u = []
+
+-- a record's names as they are written
+abbrev pub namesOn : Bool → Party → List ℕ
+namesOn later p = led later (nameLines (numberingOf (p .option)) 1 (said p .names))
+
+-- its BIC and its names; an option has at most one of the two
+abbrev pub restOn : Bool → Party → List ℕ
+restOn later p = led later (map (λ (u : Used). u .bytes) (said p .bic) ++ nameLines (numberingOf (p .option)) 1 (said p .names))
+
+-- a legal byte that is no LF
+abbrev pub plain : ℕ → Bool
+plain b = legal b && not (eqb 10 b)
+
+-- how many bytes of a name's text are its number: 59F's names are kept with it
+abbrev pub numberIn : Numbering → ℕ
+numberIn Unnumbered = 0
+numberIn Numbered = 0
+numberIn InTurn = 2
+
+-- whether a text passes as the k-th name
+unfoldable pub isName : Numbering → ℕ → ℕ → Used → Bool
+isName f longest k u = isLine u && passes (parseLine f longest k k (numberOf f k ++ u .bytes))
+
+-- whether texts pass as the names from the k-th on
+unfoldable pub allNames : Numbering → ℕ → ℕ → List Used → Bool
+allNames f longest k [] = true
+allNames f longest k (u ∷ us) = isName f longest k u && allNames f longest (suc k) us
+
+-- whether there is a first name, and it starts with `/`
+abbrev pub slashName : List Used → Bool
+slashName [] = false
+slashName (u ∷ us) = starts 47 (u .bytes)

@@ -1,0 +1,102 @@
+-- Records that a reader can give, and 22 (document 01, 'From the state' and 'A whole page').
+use Prim.Native.Nat.{ℕ}
+use mathlib.Core.Path.{_≡_}
+use mathlib.Core.Bool.{Bool, true, false, not, _&&_}
+use mathlib.Core.List.{List, [], _∷_}
+use lib.Dec.{ltb, eqb}
+use lib.ListN.{length}
+use Rattle.errors.specs.Refusals.{Reply, accepted, refused, must, _then_}
+use Rattle.party.specs.declared.PartyOption.{PartyOption}
+use Rattle.party.specs.declared.Party.{Party}
+use Rattle.party.specs.Limits.{limitsOf}
+use Rattle.party.specs.Text.{Used}
+use Rattle.party.specs.Party.{Said, Same}
+use Rattle.swift_utils.specs.Bytes.{all, among}
+use Rattle.swift_utils.specs.Checks.{parseBic}
+use Rattle.field_utils.specs.Lines.{starts}
+use Rattle.field_utils.specs.Identifier.{identifierReply}
+use Rattle.field_utils.specs.Names.{numberingOf, parseNameAndAddress}
+use Rattle.reader.specs.declared.First.{First}
+use Rattle.reader.specs.declared.First.the-variants.{Name, Identified, Account, ShortAccount, SlashAccount, AnyAccount, WholeLine}
+use Rattle.reader.specs.Options.{firstOf, accountReply, lengthReply, ascii, read}
+use Rattle.writer.specs.Writing.{Writing, writing, writtenField, nameLines, fits}
+
+-- a record that a reader can give: the same as one that an accepted body gives ('A whole page')
+pub record Given (p : Party) : Type 0 where
+  pub body : List ℕ
+  pub accepts : read (p .option) body .reply ≡ accepted
+  pub same : Same (read (p .option) body .party) p
+
+-- the checks pass
+abbrev pub passes : Reply → Bool
+passes accepted = true
+passes (refused k n) = false
+
+-- a test passes at every text
+abbrev pub every : (Used → Bool) → List Used → Bool
+every f [] = true
+every f (u ∷ us) = f u && every f us
+
+-- a text has as many bytes as its length says, which is at most 38, and no LF
+unfoldable pub isLine : Used → Bool
+isLine u = eqb (u .len) (length (u .bytes)) && not (among (u .bytes) 10)
+
+-- what the option's reader asks of an account or identifier; of 50H's bytes, that they are at most 127
+abbrev pub textReply : First → PartyOption → List ℕ → Reply
+textReply Name o x = accountReply o x
+textReply Identified o x = identifierReply (limitsOf o .longest) 1 x
+textReply Account o x = accountReply o x
+textReply ShortAccount o x = accountReply o x
+textReply SlashAccount o x = accountReply o x
+textReply AnyAccount o x = lengthReply o x then must (all ascii x) 13 0
+textReply WholeLine o x = accountReply o x
+
+-- an account or identifier that is there passes; one that is not there is empty
+abbrev pub isAccount : PartyOption → Bool → Used → Bool
+isAccount o true u = isLine u && passes (textReply (firstOf o) o (u .bytes))
+isAccount o false u = eqb (u .len) 0 && isLine u
+
+-- there is one only where the option has one, and always in 50F, 50G, 50H and 50L, whose shortest has a byte
+abbrev pub isPresence : PartyOption → Bool → Bool
+isPresence o true = ltb 0 (limitsOf o .longest)
+isPresence o false = eqb (limitsOf o .shortest) 0
+
+-- a BIC
+abbrev pub isBic : Used → Bool
+isBic u = isLine u && passes (parseBic 1 (u .bytes))
+
+-- as many names as the count says, each a line; where the option has names, they pass as those
+unfoldable pub areNames : PartyOption → ℕ → List Used → Bool
+areNames o count us =
+    eqb (length us) count
+    && every isLine us
+    && elim (eqb (limitsOf o .names) 0) [ true ↦ true | false ↦ passes (parseNameAndAddress o 1 (nameLines (numberingOf o) 1 us)) ]
+
+-- 50K and 59 without an account: a first name with `/` would be taken for one
+abbrev pub isTaken : First → List Used → Bool
+isTaken Name us = false
+isTaken Identified us = false
+isTaken Account [] = false
+isTaken Account (u ∷ us) = starts 47 (u .bytes)
+isTaken ShortAccount [] = false
+isTaken ShortAccount (u ∷ us) = starts 47 (u .bytes)
+isTaken SlashAccount us = false
+isTaken AnyAccount us = false
+isTaken WholeLine us = false
+
+-- the test for 22, of what a record says
+unfoldable pub isGiven : Said → Bool
+isGiven s =
+    isPresence (s .option) (s .present)
+    && every (isAccount (s .option) (s .present)) (s .account)
+    && every isBic (s .bic)
+    && areNames (s .option) (s .count) (s .names)
+    && not (not (s .present) && isTaken (firstOf (s .option)) (s .names))
+
+-- 22 a record the same as none that an accepted body gives, then 24
+abbrev pub writeReply : Said → List ℕ → Reply
+writeReply s buffer = must (isGiven s) 22 0 then must (fits buffer 0 (writtenField s)) 24 0
+
+-- writing a field into a buffer
+unfoldable pub written : Said → List ℕ → Writing
+written s buffer = writing (writeReply s buffer) (writtenField s) buffer

@@ -1,0 +1,4 @@
+pub mod Writing
+pub mod Given
+pub mod ReadBack
+pub mod Code

@@ -1,0 +1,50 @@
+-- When a written body is read back (document 01, 23: its clauses on lines, and 59F).
+use Prim.Native.Nat.{ℕ}
+use mathlib.Core.Path.{_≡_}
+use mathlib.Core.Bool.{Bool, true, false, not, _&&_, _||_}
+use mathlib.Core.List.{List, [], _∷_}
+use lib.Dec.{eqb}
+use Rattle.errors.specs.Refusals.{accepted}
+use Rattle.party.specs.declared.PartyOption.the-variants.{Field59F}
+use Rattle.party.specs.declared.Party.{Party}
+use Rattle.party.specs.Limits.{placeOf}
+use Rattle.party.specs.Party.{Said, said, Same}
+use Rattle.reader.specs.Options.{read}
+use Rattle.writer.specs.Writing.{writtenBody, pieces}
+
+-- a line is empty
+abbrev pub isEmpty : List ℕ → Bool
+isEmpty [] = true
+isEmpty (b ∷ l) = false
+
+-- a line ends in CR
+unfoldable pub endsCr : List ℕ → Bool
+endsCr [] = false
+endsCr (b ∷ []) = eqb b 13
+endsCr (b ∷ a ∷ l) = endsCr (a ∷ l)
+
+-- its last written line is empty
+unfoldable pub lastEmpty : List (List ℕ) → Bool
+lastEmpty [] = true
+lastEmpty (l ∷ []) = isEmpty l
+lastEmpty (l ∷ m ∷ ls) = lastEmpty (m ∷ ls)
+
+-- an earlier one ends in CR
+unfoldable pub earlierCr : List (List ℕ) → Bool
+earlierCr [] = false
+earlierCr (l ∷ []) = false
+earlierCr (l ∷ m ∷ ls) = endsCr l || earlierCr (m ∷ ls)
+
+-- 59F with identifier
+unfoldable pub identified59F : Said → Bool
+identified59F s = eqb (placeOf (s .option)) (placeOf Field59F) && s .present
+
+-- none of the three
+unfoldable pub isReadBack : Said → Bool
+isReadBack s =
+    not (lastEmpty (pieces (writtenBody s))) && not (earlierCr (pieces (writtenBody s))) && not (identified59F s)
+
+-- its written body is read as the same record
+pub record ReadsBack (p : Party) : Type 0 where
+  pub accepts : read (p .option) (writtenBody (said p)) .reply ≡ accepted
+  pub same : Same (read (p .option) (writtenBody (said p)) .party) p

@@ -1,0 +1,123 @@
+-- The written field (document 01, field50.rs, field59.rs and 'Rust forms': bytes into a lent buffer).
+use Prim.Native.Nat.{ℕ, suc, _+_}
+use mathlib.Core.Bool.{Bool, true, false}
+use mathlib.Core.List.{List, [], _∷_, _++_, map}
+use lib.Dec.{leb, eqb}
+use lib.ListN.{length}
+use lib.Seq.{paste}
+use Rattle.errors.specs.Refusals.{Reply, accepted, refused}
+use Rattle.party.specs.declared.PartyOption.{PartyOption}
+use Rattle.party.specs.declared.PartyOption.the-variants.{Field50NoOption, Field50A, Field50F, Field50K, Field50C, Field50L, Field50G, Field50H, Field59NoOption, Field59A, Field59F}
+use Rattle.party.specs.Text.{Used}
+use Rattle.party.specs.Party.{Said}
+use Rattle.swift_utils.specs.Bytes.{bytes}
+use Rattle.field_utils.specs.declared.Numbering.{Numbering}
+use Rattle.field_utils.specs.declared.Numbering.the-variants.{Unnumbered, Numbered, InTurn}
+use Rattle.field_utils.specs.Lines.{onto}
+use Rattle.field_utils.specs.Names.{numberingOf}
+
+-- an option's tag ('Its tag is `:50` or `:59`, an optional capital, `:`')
+abbrev pub tagOf : PartyOption → List ℕ
+tagOf Field50NoOption = bytes ":50:"
+tagOf Field50A = bytes ":50A:"
+tagOf Field50F = bytes ":50F:"
+tagOf Field50K = bytes ":50K:"
+tagOf Field50C = bytes ":50C:"
+tagOf Field50L = bytes ":50L:"
+tagOf Field50G = bytes ":50G:"
+tagOf Field50H = bytes ":50H:"
+tagOf Field59NoOption = bytes ":59:"
+tagOf Field59A = bytes ":59A:"
+tagOf Field59F = bytes ":59F:"
+
+-- what stands before an account or identifier: `/`, but for 50F and 50L (field50.rs)
+abbrev pub slashOf : PartyOption → List ℕ
+slashOf Field50NoOption = bytes "/"
+slashOf Field50A = bytes "/"
+slashOf Field50F = []
+slashOf Field50K = bytes "/"
+slashOf Field50C = bytes "/"
+slashOf Field50L = []
+slashOf Field50G = bytes "/"
+slashOf Field50H = bytes "/"
+slashOf Field59NoOption = bytes "/"
+slashOf Field59A = bytes "/"
+slashOf Field59F = bytes "/"
+
+-- the lines after an account or identifier line: 59F's has an empty one (field59.rs)
+abbrev pub gapOf : PartyOption → List (List ℕ)
+gapOf Field50NoOption = []
+gapOf Field50A = []
+gapOf Field50F = []
+gapOf Field50K = []
+gapOf Field50C = []
+gapOf Field50L = []
+gapOf Field50G = []
+gapOf Field50H = []
+gapOf Field59NoOption = []
+gapOf Field59A = []
+gapOf Field59F = [] ∷ []
+
+-- what is written before the k-th name: 50F's lines are numbered 1, 2, 3, 4; 59F's names have their numbers
+abbrev pub numberOf : Numbering → ℕ → List ℕ
+numberOf Unnumbered k = []
+numberOf Numbered k = (48 + k) ∷ bytes "/"
+numberOf InTurn k = []
+
+-- the lines of names, from the k-th on
+unfoldable pub nameLines : Numbering → ℕ → List Used → List (List ℕ)
+nameLines f k [] = []
+nameLines f k (u ∷ us) = (numberOf f k ++ u .bytes) ∷ nameLines f (suc k) us
+
+-- the lines of an account or identifier, where it is there
+abbrev pub headLines : PartyOption → Bool → List Used → List (List ℕ)
+headLines o true us = map (λ (u : Used). slashOf o ++ u .bytes) us ++ gapOf o
+headLines o false us = []
+
+-- the written lines: account or identifier, BIC, names
+unfoldable pub writtenLines : Said → List (List ℕ)
+writtenLines s =
+    headLines (s .option) (s .present) (s .account)
+    ++ map (λ (u : Used). u .bytes) (s .bic)
+    ++ nameLines (numberingOf (s .option)) 1 (s .names)
+
+-- lines with an LF between them
+unfoldable pub joined : List (List ℕ) → List ℕ
+joined [] = []
+joined (l ∷ []) = l
+joined (l ∷ m ∷ ls) = l ++ 10 ∷ joined (m ∷ ls)
+
+-- the written body, and the written field: tag and body
+unfoldable pub writtenBody : Said → List ℕ
+writtenBody s = joined (writtenLines s)
+
+unfoldable pub writtenField : Said → List ℕ
+writtenField s = tagOf (s .option) ++ writtenBody s
+
+-- the pieces of a text between LFs ('written lines being the pieces of its written body between LFs')
+unfoldable pub pieces : List ℕ → List (List ℕ)
+pieces [] = [] ∷ []
+pieces (b ∷ l) = elim (eqb b 10) [ true ↦ [] ∷ pieces l | false ↦ onto b (pieces l) ]
+
+-- a buffer with a text put at a place
+abbrev pub put : List ℕ → ℕ → List ℕ → List ℕ
+put buffer at text = paste buffer at text (length text)
+
+-- 24: the text from a place on passes the buffer
+abbrev pub fits : List ℕ → ℕ → List ℕ → Bool
+fits buffer at text = leb (at + length text) (length buffer)
+
+-- a buffer after a text was put at a place, where it fits; else it is as it was
+abbrev pub placed : List ℕ → ℕ → List ℕ → List ℕ
+placed buffer at text = elim (fits buffer at text) [ true ↦ put buffer at text | false ↦ buffer ]
+
+-- what writing gives: the reply, the length written, and the buffer
+pub record Writing : Type 0 where
+  pub reply : Reply
+  pub len : ℕ
+  pub buffer : List ℕ
+
+-- an accepted text is put at the start and nothing else changes; a refusal changes no byte
+abbrev pub writing : Reply → List ℕ → List ℕ → Writing
+writing accepted text buffer = record { reply = accepted; len = length text; buffer = put buffer 0 text }
+writing (refused k n) text buffer = record { reply = refused k n; len = 0; buffer = buffer }

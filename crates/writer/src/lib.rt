@@ -1,0 +1,608 @@
+// Writing a party as a field, ported from the `to_swift_string` of field50.rs and field59.rs of swift-mt-message. The Rust writes it out
+// for each option; here the parts are a tag, an account or identifier, a BIC and names, as the option has them.
+use errors::Outcome;
+use errors::ParseError;
+use field_utils::Numbering;
+use field_utils::is_numbered_line;
+use field_utils::lines::find_lf;
+use field_utils::numbering_of;
+use field_utils::parse_count;
+use field_utils::parse_remaining;
+use field_utils::starts_with_slash;
+use party::Party;
+use party::PartyOption;
+use party::Text;
+use party::limits_of;
+use reader::First;
+use reader::account;
+use reader::account_length;
+use reader::first_of;
+use reader::is_ascii;
+use swift_utils::class_table;
+use swift_utils::parse_bic;
+ghost use mathlib.Core.Path.{_≡_};
+ghost use mathlib.Core.List.{[], _∷_, _++_};
+ghost use Prim.Native.Nat.{_+_, _≤_};
+ghost use lib.ListN.{length};
+ghost use Rattle.errors.specs.declared.Outcome.the-variants.{Refused};
+ghost use Rattle.errors.specs.Refusals.{told};
+ghost use Rattle.party.specs.Limits.{limitsOf};
+ghost use Rattle.party.specs.Text.{used};
+ghost use Rattle.party.specs.Party.{said, where-limit};
+ghost use Rattle.swift_utils.specs.Bytes.{all};
+ghost use Rattle.swift_utils.specs.Classes.{classTable};
+ghost use Rattle.field_utils.specs.Names.{numberingOf, parseNumber};
+ghost use Rattle.reader.specs.Options.{firstOf};
+ghost use Rattle.writer.specs.Writing.{tagOf, slashOf, numberOf, writtenField, fits, placed};
+ghost use Rattle.writer.specs.Given.{passes, every, isLine, textReply, isAccount, isPresence, isBic, areNames, isTaken, isGiven, written};
+ghost use Rattle.writer.specs.Code.{toldWritten, Counted, Puts, lead, hasGap, hasHead, headOf, marks, nameCount, namesOn, restOn, plain, numberIn, isName, allNames, slashName};
+
+// What writing gives: accepted with the length written, or refused with 0.
+pub struct Written {
+    pub outcome: Outcome,
+    pub len: usize,
+}
+
+// How many bytes a text uses: its length, or all 38 where that passes them.
+fn used_length(t: Text) -> usize
+    ensures { λ r. ⌜ Counted 38 (used t .bytes) r ⌝ }
+{
+    let n = t.len;
+    if n < 38 { n } else { 38 }
+}
+
+// How many names are used: as many as the count says, at most four, and none where the option has none.
+fn name_count(option: PartyOption, count: usize) -> usize
+    ensures { λ r. ⌜ r ≡ nameCount option count ⌝ }
+{
+    let limits = limits_of(option);
+    if limits.names == 0 {
+        return 0;
+    }
+    if count < 4 { count } else { 4 }
+}
+
+// How many slashes stand before an account or identifier: one, but for 50F and 50L.
+fn slash_count(option: PartyOption) -> usize
+    ensures { λ r. ⌜ Counted 1 (slashOf option) r ⌝ }
+{
+    match option {
+        PartyOption::Field50NoOption => 1,
+        PartyOption::Field50A => 1,
+        PartyOption::Field50F => 0,
+        PartyOption::Field50K => 1,
+        PartyOption::Field50C => 1,
+        PartyOption::Field50L => 0,
+        PartyOption::Field50G => 1,
+        PartyOption::Field50H => 1,
+        PartyOption::Field59NoOption => 1,
+        PartyOption::Field59A => 1,
+        PartyOption::Field59F => 1,
+    }
+}
+
+// Whether an empty line follows an account or identifier: in 59F.
+fn has_gap(option: PartyOption) -> bool
+    ensures { λ r. ⌜ r ≡ hasGap option ⌝ }
+{
+    match option {
+        PartyOption::Field50NoOption => false,
+        PartyOption::Field50A => false,
+        PartyOption::Field50F => false,
+        PartyOption::Field50K => false,
+        PartyOption::Field50C => false,
+        PartyOption::Field50L => false,
+        PartyOption::Field50G => false,
+        PartyOption::Field50H => false,
+        PartyOption::Field59NoOption => false,
+        PartyOption::Field59A => false,
+        PartyOption::Field59F => true,
+    }
+}
+
+// How many bytes of number stand before a name: 50F's digit and slash. 59F's are in the text.
+fn mark_count(numbering: Numbering) -> usize
+    ensures { λ r. ⌜ r ≡ marks numbering ⌝ }
+{
+    match numbering {
+        Numbering::Unnumbered => 0,
+        Numbering::Numbered => 2,
+        Numbering::InTurn => 0,
+    }
+}
+
+// Whether an account or identifier is written.
+fn has_head(option: PartyOption, present: bool) -> bool
+    ensures { λ r. ⌜ r ≡ hasHead option present ⌝ }
+{
+    let limits = limits_of(option);
+    if limits.longest == 0 {
+        return false;
+    }
+    present
+}
+
+// How many LFs stand before a line: one, unless it is the first.
+fn lf_count(later: bool) -> usize
+    ensures { λ r. ⌜ Counted 1 (lead later) r ⌝ }
+{
+    if later { 1 } else { 0 }
+}
+
+fn tag_length(option: PartyOption) -> usize
+    ensures { λ r. ⌜ Counted 5 (tagOf option) r ⌝ }
+{
+    let limits = limits_of(option);
+    if limits.letter == 0 { 4 } else { 5 }
+}
+
+// The length of an account or identifier, where it is written.
+fn head_length(option: PartyOption, written: bool, account: Text) -> usize
+    ensures { λ r. ⌜ Counted 40 (headOf option written (used account)) r ⌝ }
+{
+    if !written {
+        return 0;
+    }
+    slash_count(option) + used_length(account) + lf_count(has_gap(option))
+}
+
+// The length of the names.
+fn names_length(p: Party, later: bool) -> usize
+    ensures { λ r. ⌜ Counted 164 (namesOn later p) r ⌝ }
+{
+    let option = p.option;
+    let n = name_count(option, p.count);
+    let mark = mark_count(numbering_of(option));
+    let mut after = later;
+    let mut total = 0;
+    let mut i = 0;
+    while i < n {
+        let t = p.name_and_address[i];
+        total += lf_count(after) + mark + used_length(t);
+        after = true;
+        i += 1;
+    }
+    total
+}
+
+// The length of the BIC, or of the names.
+fn rest_length(p: Party, later: bool) -> usize
+    ensures { λ r. ⌜ Counted 164 (restOn later p) r ⌝ }
+{
+    let option = p.option;
+    let limits = limits_of(option);
+    if limits.bic == 0 {
+        return names_length(p, later);
+    }
+    let bic = p.bic;
+    lf_count(later) + used_length(bic)
+}
+
+// The length of the written field.
+pub fn written_length(p: Party) -> usize
+    ensures { λ r. ⌜ r ≡ length (writtenField (said p)) ⌝ }
+{
+    let option = p.option;
+    let account = p.account;
+    let later = has_head(option, p.present);
+    tag_length(option) + head_length(option, later, account) + rest_length(p, later)
+}
+
+// Puts a slice into the buffer at a place, and gives the place after it, as each of the functions below does.
+fn put_bytes(buf: &mut [u8], at: usize, s: &[u8]) -> usize
+    requires { ⌜ at + length (now s) ≤ length (now buf) ⌝ }
+    ensures { λ r. ⌜ Puts (now (buf .entry)) at (now (s .entry)) (now (buf .exit)) r ⌝ }
+{
+    let mut i = 0;
+    while i < s.len() {
+        buf[at + i] = s[i];
+        i += 1;
+    }
+    at + i
+}
+
+// Puts an LF, where it is asked for.
+fn put_lf(buf: &mut [u8], at: usize, later: bool) -> usize
+    requires { ⌜ at + length (lead later) ≤ length (now buf) ⌝ }
+    ensures { λ r. ⌜ Puts (now (buf .entry)) at (lead later) (now (buf .exit)) r ⌝ }
+{
+    if later {
+        buf[at] = b'\n';
+        return at + 1;
+    }
+    at
+}
+
+// Puts a line: an LF unless it is the first line, a mark, and a text.
+fn put_line(buf: &mut [u8], at: usize, later: bool, mark: &[u8], t: Text) -> usize
+    requires { ⌜ at + length (lead later ++ (now mark ++ used t .bytes)) ≤ length (now buf) ⌝ }
+    ensures { λ r. ⌜ Puts (now (buf .entry)) at (lead later ++ (now (mark .entry) ++ used t .bytes)) (now (buf .exit)) r ⌝ }
+{
+    let start = put_lf(buf, at, later);
+    let text = put_bytes(buf, start, mark);
+    let n = used_length(t);
+    let bytes = t.bytes;
+    put_bytes(buf, text, &bytes[..n])
+}
+
+// Puts the option's tag.
+fn put_tag(buf: &mut [u8], at: usize, option: PartyOption) -> usize
+    requires { ⌜ at + length (tagOf option) ≤ length (now buf) ⌝ }
+    ensures { λ r. ⌜ Puts (now (buf .entry)) at (tagOf option) (now (buf .exit)) r ⌝ }
+{
+    let limits = limits_of(option);
+    let tens = b'0' + limits.field / 10;
+    let ones = b'0' + limits.field % 10;
+    let letter = limits.letter;
+    if letter == 0 {
+        let tag = [b':', tens, ones, b':'];
+        return put_bytes(buf, at, &tag);
+    }
+    let tag = [b':', tens, ones, letter, b':'];
+    put_bytes(buf, at, &tag)
+}
+
+// Puts an account or identifier, where it is written.
+fn put_head(buf: &mut [u8], at: usize, option: PartyOption, written: bool, account: Text) -> usize
+    requires { ⌜ at + length (headOf option written (used account)) ≤ length (now buf) ⌝ }
+    ensures { λ r. ⌜ Puts (now (buf .entry)) at (headOf option written (used account)) (now (buf .exit)) r ⌝ }
+{
+    if !written {
+        return at;
+    }
+    let slash = [b'/'];
+    let n = slash_count(option);
+    let end = put_line(buf, at, false, &slash[..n], account);
+    let gap = has_gap(option);
+    put_lf(buf, end, gap)
+}
+
+// Puts the names, each with its number where the option's names are written so.
+fn put_names(buf: &mut [u8], at: usize, later: bool, p: Party) -> usize
+    requires { ⌜ at + length (namesOn later p) ≤ length (now buf) ⌝ }
+    ensures { λ r. ⌜ Puts (now (buf .entry)) at (namesOn later p) (now (buf .exit)) r ⌝ }
+{
+    let option = p.option;
+    let n = name_count(option, p.count);
+    let marks = mark_count(numbering_of(option));
+    let mut after = later;
+    let mut end = at;
+    let mut i = 0;
+    while i < n {
+        let mark = [b'1' + i as u8, b'/'];
+        let t = p.name_and_address[i];
+        end = put_line(buf, end, after, &mark[..marks], t);
+        after = true;
+        i += 1;
+    }
+    end
+}
+
+// Puts the BIC, or the names.
+fn put_rest(buf: &mut [u8], at: usize, later: bool, p: Party) -> usize
+    requires { ⌜ at + length (restOn later p) ≤ length (now buf) ⌝ }
+    ensures { λ r. ⌜ Puts (now (buf .entry)) at (restOn later p) (now (buf .exit)) r ⌝ }
+{
+    let option = p.option;
+    let limits = limits_of(option);
+    if limits.bic == 0 {
+        return put_names(buf, at, later, p);
+    }
+    let bic = p.bic;
+    put_line(buf, at, later, b"", bic)
+}
+
+// Puts the whole field.
+fn put_parts(buf: &mut [u8], at: usize, p: Party) -> usize
+    requires { ⌜ at + length (writtenField (said p)) ≤ length (now buf) ⌝ }
+    ensures { λ r. ⌜ Puts (now (buf .entry)) at (writtenField (said p)) (now (buf .exit)) r ⌝ }
+{
+    let option = p.option;
+    let account = p.account;
+    let later = has_head(option, p.present);
+    let head = put_tag(buf, at, option);
+    let rest = put_head(buf, head, option, later, account);
+    put_rest(buf, rest, later, p)
+}
+
+// Writes the field, whose length is n, at a place, if it fits; if not, no byte changes.
+fn put_sized(p: Party, buf: &mut [u8], at: usize, n: usize) -> bool
+    requires { ⌜ n ≡ length (writtenField (said p)) ⌝ }
+    ensures { λ r. ⌜ r ≡ fits (now (buf .entry)) at (writtenField (said p)) ⌝ }
+    ensures { λ _. ⌜ now (buf .exit) ≡ placed (now (buf .entry)) at (writtenField (said p)) ⌝ }
+{
+    if buf.len() < at {
+        return false;
+    }
+    if buf.len() - at < n {
+        return false;
+    }
+    put_parts(buf, at, p);
+    true
+}
+
+// Writes the field at a place, if it fits; if not, no byte changes.
+pub fn put_field(p: Party, buf: &mut [u8], at: usize) -> bool
+    ensures { λ r. ⌜ r ≡ fits (now (buf .entry)) at (writtenField (said p)) ⌝ }
+    ensures { λ _. ⌜ now (buf .exit) ≡ placed (now (buf .entry)) at (writtenField (said p)) ⌝ }
+{
+    put_sized(p, buf, at, written_length(p))
+}
+
+// Whether the checks passed.
+fn is_accepted(outcome: Outcome) -> bool
+    ensures { λ r. ⌜ r ≡ passes (told outcome) ⌝ }
+{
+    match outcome {
+        Outcome::Accepted => true,
+        Outcome::Refused(_) => false,
+    }
+}
+
+// Whether a text's length is at most 38, and no byte is an LF.
+fn is_line(t: Text) -> bool
+    ensures { λ r. ⌜ r ≡ isLine (used t) ⌝ }
+{
+    let n = used_length(t);
+    if n != t.len {
+        return false;
+    }
+    let bytes = t.bytes;
+    n <= find_lf(&bytes[..n], 0)
+}
+
+// Whether an account or identifier may be there, or may not be.
+fn is_presence(option: PartyOption, present: bool) -> bool
+    ensures { λ r. ⌜ r ≡ isPresence option present ⌝ }
+{
+    let limits = limits_of(option);
+    if present {
+        return 0 < limits.longest;
+    }
+    limits.shortest == 0
+}
+
+// Whether the option's reader takes a text for an account or identifier.
+fn is_account_text(option: PartyOption, text: &[u8]) -> bool
+    ensures { λ r. ⌜ r ≡ passes (textReply (firstOf option) option (now (text .entry))) ⌝ }
+{
+    let limits = limits_of(option);
+    let first = first_of(option);
+    match first {
+        First::Name => is_accepted(account(text, option)),
+        First::Identified => is_accepted(parse_remaining(text, limits.longest, 1)),
+        First::Account => is_accepted(account(text, option)),
+        First::ShortAccount => is_accepted(account(text, option)),
+        First::SlashAccount => is_accepted(account(text, option)),
+        First::AnyAccount => {
+            if !is_accepted(account_length(text, option)) {
+                return false;
+            }
+            is_ascii(text)
+        }
+        First::WholeLine => is_accepted(account(text, option)),
+    }
+}
+
+// Whether the account or identifier, where the option has one, is one that its reader gives.
+fn is_account(option: PartyOption, present: bool, t: Text) -> bool
+    ensures { λ r. ⌜ r ≡ every (isAccount option present) (where-limit (limitsOf option .longest) (used t ∷ [])) ⌝ }
+{
+    let limits = limits_of(option);
+    if limits.longest == 0 {
+        return true;
+    }
+    if !present {
+        return t.len == 0;
+    }
+    if !is_line(t) {
+        return false;
+    }
+    let n = used_length(t);
+    let bytes = t.bytes;
+    is_account_text(option, &bytes[..n])
+}
+
+// Whether the BIC, where the option has one, is one.
+fn is_bic(option: PartyOption, t: Text) -> bool
+    ensures { λ r. ⌜ r ≡ every isBic (where-limit (limitsOf option .bic) (used t ∷ [])) ⌝ }
+{
+    let limits = limits_of(option);
+    if limits.bic == 0 {
+        return true;
+    }
+    if !is_line(t) {
+        return false;
+    }
+    let n = used_length(t);
+    let bytes = t.bytes;
+    is_accepted(parse_bic(&bytes[..n], 1))
+}
+
+// Whether every byte is legal and none is an LF.
+fn is_plain(s: &[u8], classes: &[u8; 256]) -> bool
+    requires { ⌜ now classes ≡ classTable ⌝ }
+    ensures { λ r. ⌜ r ≡ all plain (now (s .entry)) ⌝ }
+{
+    let mut i = 0;
+    while i < s.len() {
+        let b = s[i] as usize;
+        if b == 10 {
+            return false;
+        }
+        if classes[b] < 1 {
+            return false;
+        }
+        i += 1;
+    }
+    true
+}
+
+// Whether a name has the number of its turn, where it is kept with its number.
+fn is_in_turn(text: &[u8], turn: usize, numbering: Numbering) -> bool
+    requires { ⌜ turn ≤ 4 ⌝ }
+    ensures { λ r. ⌜ r ≡ passes (parseNumber numbering turn turn (numberOf numbering turn ++ now (text .entry))) ⌝ }
+{
+    match numbering {
+        Numbering::Unnumbered => true,
+        Numbering::Numbered => true,
+        Numbering::InTurn => {
+            if !is_numbered_line(text) {
+                return false;
+            }
+            text[0] as usize == 48 + turn
+        }
+    }
+}
+
+// How many bytes of a name are its number: 59F's digit and slash.
+fn number_length(numbering: Numbering) -> usize
+    ensures { λ r. ⌜ r ≡ numberIn numbering ⌝ }
+{
+    match numbering {
+        Numbering::Unnumbered => 0,
+        Numbering::Numbered => 0,
+        Numbering::InTurn => 2,
+    }
+}
+
+// Whether a text is the turn-th name of an option with such names, as its reader gives them.
+fn is_name(t: Text, turn: usize, numbering: Numbering, longest: usize, classes: &[u8; 256]) -> bool
+    requires { ⌜ (turn ≤ 4) × (now classes ≡ classTable) ⌝ }
+    ensures { λ r. ⌜ r ≡ isName numbering longest turn (used t) ⌝ }
+{
+    let n = used_length(t);
+    if n != t.len {
+        return false;
+    }
+    let bytes = t.bytes;
+    if !is_in_turn(&bytes[..n], turn, numbering) {
+        return false;
+    }
+    if longest < n - number_length(numbering) {
+        return false;
+    }
+    is_plain(&bytes[..n], classes)
+}
+
+// Whether each name is one that the option's reader gives.
+fn all_names(p: Party) -> bool
+    ensures { λ r. ⌜ r ≡ allNames (numberingOf (p .option)) (limitsOf (p .option) .name) 1 (said p .names) ⌝ }
+{
+    let option = p.option;
+    let limits = limits_of(option);
+    let numbering = numbering_of(option);
+    let n = name_count(option, p.count);
+    let classes = class_table();
+    let mut i = 0;
+    while i < n {
+        let t = p.name_and_address[i];
+        if !is_name(t, i + 1, numbering, limits.name, &classes) {
+            return false;
+        }
+        i += 1;
+    }
+    true
+}
+
+// Whether the names are as many as the count says, and are names that the option's reader gives.
+fn are_names(p: Party) -> bool
+    ensures { λ r. ⌜ r ≡ areNames (p .option) (p .count) (said p .names) ⌝ }
+{
+    let option = p.option;
+    let limits = limits_of(option);
+    let n = name_count(option, p.count);
+    if n != p.count {
+        return false;
+    }
+    if limits.names == 0 {
+        return true;
+    }
+    if !all_names(p) {
+        return false;
+    }
+    is_accepted(parse_count(n, limits.names))
+}
+
+// Whether there is a first name, and it starts with a slash.
+fn has_slash_name(p: Party) -> bool
+    ensures { λ r. ⌜ r ≡ slashName (said p .names) ⌝ }
+{
+    let option = p.option;
+    if name_count(option, p.count) == 0 {
+        return false;
+    }
+    let t = p.name_and_address[0];
+    let n = used_length(t);
+    let bytes = t.bytes;
+    starts_with_slash(&bytes[..n])
+}
+
+// Whether the first name would be taken for an account.
+fn is_taken(p: Party) -> bool
+    ensures { λ r. ⌜ r ≡ isTaken (firstOf (p .option)) (said p .names) ⌝ }
+{
+    let option = p.option;
+    let first = first_of(option);
+    match first {
+        First::Name => false,
+        First::Identified => false,
+        First::Account => has_slash_name(p),
+        First::ShortAccount => has_slash_name(p),
+        First::SlashAccount => false,
+        First::AnyAccount => false,
+        First::WholeLine => false,
+    }
+}
+
+// Whether a record is the same as one that an accepted body gives.
+pub fn is_given(p: Party) -> bool
+    ensures { λ r. ⌜ r ≡ isGiven (said p) ⌝ }
+{
+    let option = p.option;
+    let present = p.present;
+    if !is_presence(option, present) {
+        return false;
+    }
+    let account = p.account;
+    if !is_account(option, present, account) {
+        return false;
+    }
+    let bic = p.bic;
+    if !is_bic(option, bic) {
+        return false;
+    }
+    if !are_names(p) {
+        return false;
+    }
+    if present {
+        return true;
+    }
+    !is_taken(p)
+}
+
+fn refuse(e: ParseError) -> Written
+    ensures { λ r. ⌜ r ≡ record { outcome = Refused e; len = 0 } ⌝ }
+{
+    Written {
+        outcome: Outcome::Refused(e),
+        len: 0,
+    }
+}
+
+// Writes the field at the start of the buffer: 22 for a record that no reader gives, 24 where it does not fit.
+pub fn to_swift_string(p: Party, buf: &mut [u8]) -> Written
+    ensures { λ r. ⌜ toldWritten r (now (buf .exit)) ≡ written (said p) (now (buf .entry)) ⌝ }
+{
+    if !is_given(p) {
+        return refuse(ParseError::NoSuchRecord);
+    }
+    let len = written_length(p);
+    if !put_sized(p, buf, 0, len) {
+        return refuse(ParseError::NoSpace);
+    }
+    Written {
+        outcome: Outcome::Accepted,
+        len,
+    }
+}
