@@ -1,0 +1,16 @@
+pub mod Results
+pub mod Std
+pub mod Lines
+pub mod SwiftUtils
+pub mod FieldUtils
+pub mod Names
+pub mod Bodies
+pub mod Field50
+pub mod Field59
+pub mod Choices
+pub mod Choices59
+pub mod Choices50
+pub mod Accounts
+pub mod ChoiceFGH
+pub mod Equal
+pub mod Writing

@@ -1,0 +1,170 @@
+-- The Rust writes of a record that a reader can give what ours writes. Assumes nothing.
+use mathlib.Core.Path.{_≡_, refl, sym, _∙_, ap}
+use mathlib.Core.Bool.{Bool, true, false, _&&_, _||_, false≢true, or-true}
+use mathlib.Core.List.{List, [], _∷_, _++_, map, append-assoc, append-nil}
+use mathlib.Core.Option.{Option, none, some, Option·getD}
+use Prim.Native.Nat.{ℕ, zero, suc, _+_, _≤_, _<_}
+use native.Mathlib.Omega.{arith}
+use lib.Dec.{ltb, eqb}
+use lib.ListN.{length, length-map}
+use borrow.Author.Tests.{lt-ltb, ne-eqb}
+use Rattle.party.specs.declared.PartyOption.{PartyOption}
+use Rattle.party.specs.declared.PartyOption.the-variants.{Field50NoOption, Field50A, Field50F, Field50K, Field50C, Field50L, Field50G, Field50H, Field59NoOption, Field59A, Field59F}
+use Rattle.party.specs.declared.Party.{Party}
+use Rattle.party.specs.Limits.{limitsOf}
+use Rattle.party.specs.Text.{Used, used}
+use Rattle.party.specs.Party.{namesOf, said, Said, Same}
+use Rattle.swift_utils.specs.Bytes.{bytes}
+use Rattle.field_utils.specs.declared.Numbering.{Numbering}
+use Rattle.field_utils.specs.declared.Numbering.the-variants.{Unnumbered, Numbered, InTurn}
+use Rattle.field_utils.specs.Names.{numberingOf}
+use Rattle.reader.specs.Reading.{partyOf}
+use Rattle.writer.specs.Writing.{numberOf, nameLines, writtenLines, joined, writtenBody, writtenField}
+use Rattle.writer.specs.Given.{Given, areNames}
+use Rattle.writer.proofs.Sayings.{saidWith, said-with, bytesOf, said-party}
+use Rattle.writer.proofs.NamePasses.{written-length}
+use Rattle.writer.proofs.Facts.{Facts, names-are, small}
+use Rattle.writer.proofs.Bare.{foundOf}
+use Rattle.writer.proofs.Witness.{saying-back, fitting}
+use Rattle.writer.proofs.Sufficient.{parts, given-facts}
+use Rattle.writer.proofs.Theorems.{necessary}
+use Rattle.swift_mt_message.specs.Std.{Str, join, digits, number, is-some}
+use Rattle.swift_mt_message.specs.Field50 as rust50
+use Rattle.swift_mt_message.specs.Field59 as rust59
+use Rattle.swift_mt_message.specs.Writing.{to-swift-string, recordOf, optional, structOf, structIn, Writes}
+
+-- ---- lines joined
+join-is : (ls : List Str) → join ls ≡ joined ls
+unfolding joined
+join-is [] = refl
+join-is (l ∷ []) = refl
+join-is (l ∷ m ∷ ls) = ap (λ (x : Str). l ++ 10 ∷ x) (join-is (m ∷ ls))
+
+-- names that are written as they are
+names-plain : (k : ℕ) (us : List Used) → nameLines Unnumbered k us ≡ map bytesOf us
+unfolding nameLines
+names-plain k [] = refl
+names-plain k (u ∷ us) = ap (_∷_ (u .bytes)) (names-plain (suc k) us)
+
+names-turn : (k : ℕ) (us : List Used) → nameLines InTurn k us ≡ map bytesOf us
+unfolding nameLines
+names-turn k [] = refl
+names-turn k (u ∷ us) = ap (_∷_ (u .bytes)) (names-turn (suc k) us)
+
+-- 50F's numbers
+digit-of : (n : ℕ) → n < 10 → number n ≡ (48 + n) ∷ []
+unfolding digits
+digit-of n h = rw (lt-ltb n 10 h, digits)
+
+names-numbered : (i : ℕ) (us : List Used) → i + length us < 10 → rust50.Field50F·numbered i (map bytesOf us) ≡ nameLines Numbered (suc i) us
+unfolding nameLines rust50.Field50F·numbered
+names-numbered i [] h = refl
+names-numbered i (u ∷ us) h =
+    let e : i + 1 ≡ suc i = omega arith in
+    ap (λ (x : Str). (x ++ 47 ∷ u .bytes) ∷ rust50.Field50F·numbered (i + 1) (map bytesOf us)) (digit-of (i + 1) (omega arith) ∙ ap (λ (k : ℕ). (48 + k) ∷ []) e)
+    ∙ ap (_∷_ ((48 + suc i) ∷ 47 ∷ u .bytes)) (ap (λ (k : ℕ). rust50.Field50F·numbered k (map bytesOf us)) e ∙ names-numbered (suc i) us (omega arith))
+
+-- 59's and 59F's loop: a newline before each line, or before each but the first
+all-parted : (f : ℕ → Bool) (i : ℕ) (l : Str) (ls : List Str) → ((k : ℕ) → i ≤ k → f k ≡ true) → rust59.written f i (l ∷ ls) ≡ 10 ∷ joined (l ∷ ls)
+unfolding rust59.written joined
+all-parted f i l [] h = rw (h i (omega arith), rust59.written) (ap (_∷_ 10) (append-nil l))
+all-parted f i l (m ∷ ls) h =
+    rw (h i (omega arith), rust59.written) (ap (λ (x : Str). 10 ∷ l ++ x) (all-parted f (i + 1) m ls (λ k g. h k (omega arith))))
+
+then-parted : (f : ℕ → Bool) (l : Str) (ls : List Str) → f 0 ≡ false → ((k : ℕ) → 1 ≤ k → f k ≡ true) → rust59.written f 0 (l ∷ ls) ≡ joined (l ∷ ls)
+unfolding rust59.written joined
+then-parted f l [] z h = rw (z, rust59.written) (append-nil l)
+then-parted f l (m ∷ ls) z h = rw (z, rust59.written) (ap (λ (x : Str). l ++ x) (all-parted f (0 + 1) m ls (λ k g. h k (omega arith))))
+
+-- ---- how many names there are
+module _ (o : PartyOption) (z : eqb (limitsOf o .names) 0 ≡ false) (count : ℕ) (us : List Used) (h : areNames o count us ≡ true) where
+  few : length us ≤ 4
+  few = omega (arith, names-are o count us h .pass z .most, written-length (numberingOf o) 1 us, small o .names)
+
+  some-names : 1 ≤ length us
+  some-names = omega (arith, names-are o count us h .pass z .least, written-length (numberingOf o) 1 us)
+
+-- the tests of the index
+parted : (b : Bool) (k : ℕ) → 1 ≤ k → (ltb 0 k || b) ≡ true
+parted b k h = rw (lt-ltb 0 k (omega arith))
+
+parted-all : (k : ℕ) → (ltb 0 k || eqb k 0 && true) ≡ true
+parted-all zero = refl
+parted-all (suc k) = parted (eqb (suc k) 0 && true) (suc k) (omega arith)
+
+-- ---- by the option
+module _ (count : ℕ) (u v : Used) where
+  abbrev S : PartyOption → Bool → List Used → Said
+  S o present us = saidWith o present count u v us
+
+  abbrev Text : PartyOption → Bool → List Used → Type 0
+  Text o present us = to-swift-string o (structOf o present (u .bytes) (v .bytes) (map bytesOf us)) ≡ writtenField (S o present us)
+
+  text-is : (o : PartyOption) (present : Bool) (us : List Used) → Facts (S o present us) → Text o present us
+  unfolding writtenField writtenBody writtenLines nameLines joined rust50.Field50NoOption·to-swift-string rust50.Field50A·to-swift-string rust50.Field50F·to-swift-string rust50.Field50K·to-swift-string rust50.Field50C·to-swift-string rust50.Field50L·to-swift-string rust50.Field50G·to-swift-string rust50.Field50H·to-swift-string rust59.Field59NoOption·to-swift-string rust59.Field59A·to-swift-string rust59.Field59F·to-swift-string
+  text-is Field50NoOption true us h = absurd (false≢true (h .presence))
+  text-is Field50NoOption false us h = ap (_++_ (bytes ":50:")) (join-is (map bytesOf us) ∙ ap joined (sym (names-plain 1 us)))
+  text-is Field50A true us h = refl
+  text-is Field50A false us h = refl
+  text-is Field50F true us h =
+      ap (_++_ (bytes ":50F:")) (join-is (u .bytes ∷ rust50.Field50F·numbered 0 (map bytesOf us)) ∙ ap (λ (ls : List Str). joined (u .bytes ∷ ls)) (names-numbered 0 us (omega (arith, few Field50F refl count us (h .names)))))
+  text-is Field50F false us h = absurd (false≢true (h .presence))
+  text-is Field50K true us h = ap (_++_ (bytes ":50K:")) (join-is ((47 ∷ u .bytes) ∷ map bytesOf us) ∙ ap (λ (ls : List Str). joined ((47 ∷ u .bytes) ∷ ls)) (sym (names-plain 1 us)))
+  text-is Field50K false us h = ap (_++_ (bytes ":50K:")) (join-is (map bytesOf us) ∙ ap joined (sym (names-plain 1 us)))
+  text-is Field50C true us h = absurd (false≢true (h .presence))
+  text-is Field50C false us h = refl
+  text-is Field50L true us h = refl
+  text-is Field50L false us h = absurd (false≢true (h .presence))
+  text-is Field50G true us h = refl
+  text-is Field50G false us h = absurd (false≢true (h .presence))
+  text-is Field50H true us h = ap (_++_ (bytes ":50H:")) (join-is ((47 ∷ u .bytes) ∷ map bytesOf us) ∙ ap (λ (ls : List Str). joined ((47 ∷ u .bytes) ∷ ls)) (sym (names-plain 1 us)))
+  text-is Field50H false us h = absurd (false≢true (h .presence))
+  text-is Field59NoOption present [] h = absurd (omega (arith, some-names Field59NoOption refl count [] (h .names)))
+  text-is Field59NoOption true (w ∷ us) h =
+      ap (_++_ (bytes ":59:" ++ 47 ∷ u .bytes)) (all-parted _ 0 (w .bytes) (map bytesOf us) (λ k g. parted-all k) ∙ ap (λ (ls : List Str). 10 ∷ joined (w .bytes ∷ ls)) (sym (names-plain 2 us)))
+  text-is Field59NoOption false (w ∷ us) h =
+      ap (_++_ (bytes ":59:")) (then-parted _ (w .bytes) (map bytesOf us) refl (λ k g. parted (eqb k 0 && false) k g) ∙ ap (λ (ls : List Str). joined (w .bytes ∷ ls)) (sym (names-plain 2 us)))
+  text-is Field59A true us h = ap (λ (x : Str). bytes ":59A:/" ++ x) (append-assoc (u .bytes) (10 ∷ []) (v .bytes))
+  text-is Field59A false us h = refl
+  text-is Field59F present [] h = absurd (omega (arith, some-names Field59F refl count [] (h .names)))
+  text-is Field59F true (w ∷ us) h =
+      ap (λ (x : Str). bytes ":59F:/" ++ x) (append-assoc (u .bytes) (10 ∷ []) _)
+      ∙ ap (λ (x : Str). bytes ":59F:/" ++ (u .bytes ++ 10 ∷ x))
+      (all-parted _ 0 (w .bytes) (map bytesOf us) (λ k g. or-true (ltb 0 k)) ∙ ap (λ (ls : List Str). 10 ∷ joined (w .bytes ∷ ls)) (sym (names-turn 2 us)))
+  text-is Field59F false (w ∷ us) h =
+      ap (_++_ (bytes ":59F:")) (then-parted _ (w .bytes) (map bytesOf us) refl (λ k g. parted false k g) ∙ ap (λ (ls : List Str). joined (w .bytes ∷ ls)) (sym (names-turn 2 us)))
+
+  -- the struct's record is that of what is found in the record's lines
+  found-is : (o : PartyOption) (present : Bool) (us : List Used) → Facts (S o present us) → recordOf o (structOf o present (u .bytes) (v .bytes) (map bytesOf us)) ≡ partyOf o (foundOf (S o present us))
+  found-is Field50NoOption true us h = absurd (false≢true (h .presence))
+  found-is Field50NoOption false us h = refl
+  found-is Field50A true us h = refl
+  found-is Field50A false us h = refl
+  found-is Field50F true us h = refl
+  found-is Field50F false us h = absurd (false≢true (h .presence))
+  found-is Field50K true us h = refl
+  found-is Field50K false us h = refl
+  found-is Field50C true us h = absurd (false≢true (h .presence))
+  found-is Field50C false us h = refl
+  found-is Field50L true us h = refl
+  found-is Field50L false us h = absurd (false≢true (h .presence))
+  found-is Field50G true us h = refl
+  found-is Field50G false us h = absurd (false≢true (h .presence))
+  found-is Field50H true us h = refl
+  found-is Field50H false us h = absurd (false≢true (h .presence))
+  found-is Field59NoOption true us h = refl
+  found-is Field59NoOption false us h = refl
+  found-is Field59A true us h = refl
+  found-is Field59A false us h = refl
+  found-is Field59F true us h = refl
+  found-is Field59F false us h = refl
+
+-- for every record that a reader can give
+pub writes : (p : Party) → Given p → Writes p
+writes p g =
+    let h = given-facts p (necessary p g) in
+    let o = p .option in
+    record {
+      same = ap said (found-is _ _ _ o (p .present) _ h) ∙ said-party o (foundOf (parts p)) (fitting o _ _ _ _ _ h) ∙ saying-back o _ _ _ _ _ h ∙ sym (said-with p);
+      text = text-is _ _ _ o (p .present) _ h ∙ ap writtenField (sym (said-with p));
+    }
