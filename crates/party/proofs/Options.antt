@@ -6,12 +6,7 @@ use mathlib.Core.List.{List, [], _∷_}
 use lib.ListN.{getD}
 use Rattle.party.specs.declared.PartyOption.{PartyOption}
 use Rattle.party.specs.declared.PartyOption.the-variants.{Field50NoOption, Field50A, Field50F, Field50K, Field50C, Field50L, Field50G, Field50H, Field59NoOption, Field59A, Field59F}
-use Rattle.party.specs.Limits.{placeOf}
-
-abbrev options : List PartyOption
-options =
-    Field50NoOption ∷ Field50A ∷ Field50F ∷ Field50K ∷ Field50C ∷ Field50L ∷ Field50G ∷ Field50H ∷ Field59NoOption ∷ Field59A ∷
-    Field59F ∷ []
+use Rattle.party.specs.Limits.{options, placeOf}
 
 placed : (o : PartyOption) → getD options (placeOf o) Field50NoOption ≡ o
 placed Field50NoOption = refl

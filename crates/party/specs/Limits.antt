@@ -1,5 +1,6 @@
 -- The limits of the eleven options (document 01, field50.rs and field59.rs), in the order of document 01.
 use Prim.Native.Nat.{ℕ}
+use mathlib.Core.List.{List, [], _∷_}
 use Rattle.party.specs.declared.PartyOption.{PartyOption}
 use Rattle.party.specs.declared.PartyOption.the-variants.{Field50NoOption, Field50A, Field50F, Field50K, Field50C, Field50L, Field50G, Field50H, Field59NoOption, Field59A, Field59F}
 use Rattle.party.specs.declared.Limits.{Limits}
@@ -35,7 +36,13 @@ limitsOf Field59NoOption = row 59 0 1 2048 0 34 0 4 35
 limitsOf Field59A = row 59 65 1 2048 0 34 11 0 0
 limitsOf Field59F = row 59 70 1 2048 0 34 0 4 33
 
--- the option's place in the table, whose order is that of document 01
+-- the eleven options, in the order of the table and of document 01
+abbrev pub options : List PartyOption
+options =
+    Field50NoOption ∷ Field50A ∷ Field50F ∷ Field50K ∷ Field50C ∷ Field50L ∷ Field50G ∷ Field50H ∷ Field59NoOption ∷ Field59A ∷
+    Field59F ∷ []
+
+-- an option's place in the table
 abbrev pub placeOf : PartyOption → ℕ
 placeOf Field50NoOption = 0
 placeOf Field50A = 1

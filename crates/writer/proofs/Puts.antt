@@ -12,7 +12,7 @@ use lib.Seq.{set-split, append-snoc, take-length, take-paste, drop-paste, drop-d
 use Rattle.writer.specs.Writing.{put, fits, placed}
 use Rattle.writer.specs.Code.{Puts}
 
-put-put : (d : List ℕ) (at : ℕ) (s t : List ℕ) → at ≤ length d → put (put d at s) (at + length s) t ≡ put d at (s ++ t)
+pub put-put : (d : List ℕ) (at : ℕ) (s t : List ℕ) → at ≤ length d → put (put d at s) (at + length s) t ≡ put d at (s ++ t)
 put-put d at s t h =
     let n = at + length s in
     let head : take n (put d at s) ≡ take at d ++ take (length s) s = take-paste d at s (length s) h (le-refl (length s)) in
@@ -20,7 +20,20 @@ put-put d at s t h =
     sym (drop-drop (length t) n (put d at s)) ∙ ap (drop (length t)) (drop-paste d at s (length s) h (le-refl (length s))) ∙ drop-drop (length t) n d in
     rw (head, tail, take-length (s ++ t)) (simp (take-length, length-append, append-assoc, add-assoc))
 
+module _ (d : List ℕ) (at : ℕ) (s : List ℕ) (h : at + length s ≤ length d) where
+  pub put-length : length (put d at s) ≡ length d
+  put-length = length-paste d at s (length s) h (le-refl (length s))
+
+  pub put-take : take (at + length s) (put d at s) ≡ take at d ++ s
+  put-take = take-paste d at s (length s) (omega arith) (le-refl (length s)) ∙ ap (_++_ (take at d)) (take-length s)
+
+  pub put-drop : drop (at + length s) (put d at s) ≡ drop (at + length s) d
+  put-drop = drop-paste d at s (length s) (omega arith) (le-refl (length s))
+
 -- nothing is put
+pub put-nil : (d : List ℕ) (at : ℕ) → put d at [] ≡ d
+put-nil d at = sym (paste-zero d at [])
+
 pub puts-none : (d : List ℕ) (at : ℕ) → Puts d at [] d at
 puts-none d at = record { bytes = paste-zero d at []; ends = omega arith }
 
@@ -29,7 +42,7 @@ pub puts-byte : (d : List ℕ) (at b : ℕ) → at < length d → Puts d at (b �
 puts-byte d at b h = record { bytes = set-split d at b h ∙ rw (add-one at) (sym (append-snoc (take at d) b (drop (suc at) d))); ends = refl }
 
 pub same-length : {d e s : List ℕ} {at m : ℕ} → Puts d at s e m → at + length s ≤ length d → length e ≡ length d
-same-length {d} {e} {s} {at} p room = ap length (p .bytes) ∙ length-paste d at s (length s) room (le-refl (length s))
+same-length {d} {e} {s} {at} p room = ap length (p .bytes) ∙ put-length d at s room
 
 module _ {d e : List ℕ} {at m : ℕ} (s t : List ℕ) (first : Puts d at s e m) (room : at + length (s ++ t) ≤ length d) where
   -- what is left after the first text has space

@@ -1,0 +1,5 @@
+pub mod LineBounds
+pub mod Choices
+pub mod Answers
+pub mod Writes
+pub mod Theorems

@@ -1,0 +1,111 @@
+-- `exports::parse` meets its contract: each arm calls its choice.
+-- Assumes nothing.
+use mathlib.Core.Path.{_∙_, sym, ap}
+use borrow.Author.Needs.{needs}
+use Rattle.exports.specs.declared.Choice.{Choice}
+use Rattle.exports.specs.Exports.{parse}
+use Rattle.exports.proofs.parse.Statement.{statement}
+use Rattle.exports.proofs.parse.Tie as tie
+
+enum-told : tie.Need-enum-told
+enum-told c = search needs
+
+parse-requires : tie.Need-parse-requires
+parse-requires c κs = search needs
+
+enum-told-2 : tie.Need-enum-told-2
+enum-told-2 c = search needs
+
+parse-requires-2 : tie.Need-parse-requires-2
+parse-requires-2 c κs = search needs
+
+enum-told-3 : tie.Need-enum-told-3
+enum-told-3 c = search needs
+
+parse-requires-3 : tie.Need-parse-requires-3
+parse-requires-3 c κs = search needs
+
+enum-told-4 : tie.Need-enum-told-4
+enum-told-4 c = search needs
+
+parse-requires-4 : tie.Need-parse-requires-4
+parse-requires-4 c κs = search needs
+
+enum-told-5 : tie.Need-enum-told-5
+enum-told-5 c = search needs
+
+parse-requires-5 : tie.Need-parse-requires-5
+parse-requires-5 c κs = search needs
+
+enum-told-6 : tie.Need-enum-told-6
+enum-told-6 c = search needs
+
+parse-requires-6 : tie.Need-parse-requires-6
+parse-requires-6 c κs = search needs
+
+enum-told-7 : tie.Need-enum-told-7
+enum-told-7 c = search needs
+
+parse-requires-7 : tie.Need-parse-requires-7
+parse-requires-7 c κs = search needs
+
+returns : tie.Need-returns
+returns c =
+    let a = c .before .before .before .before .args in
+    c .parse .ensures ∙ ap (λ (choice : Choice). parse choice (a .body .now)) (sym (c .before .enum-told .given .1))
+
+returns-2 : tie.Need-returns-2
+returns-2 c =
+    let a = c .before .before .before .before .args in
+    c .parse2 .ensures ∙ ap (λ (choice : Choice). parse choice (a .body .now)) (sym (c .before .enum-told2 .given .1))
+
+returns-3 : tie.Need-returns-3
+returns-3 c =
+    let a = c .before .before .before .before .args in
+    c .parse3 .ensures ∙ ap (λ (choice : Choice). parse choice (a .body .now)) (sym (c .before .enum-told3 .given .1))
+
+returns-4 : tie.Need-returns-4
+returns-4 c =
+    let a = c .before .before .before .before .args in
+    c .parse4 .ensures ∙ ap (λ (choice : Choice). parse choice (a .body .now)) (sym (c .before .enum-told4 .given .1))
+
+returns-5 : tie.Need-returns-5
+returns-5 c =
+    let a = c .before .before .before .before .args in
+    c .parse5 .ensures ∙ ap (λ (choice : Choice). parse choice (a .body .now)) (sym (c .before .enum-told5 .given .1))
+
+returns-6 : tie.Need-returns-6
+returns-6 c =
+    let a = c .before .before .before .before .args in
+    c .parse6 .ensures ∙ ap (λ (choice : Choice). parse choice (a .body .now)) (sym (c .before .enum-told6 .given .1))
+
+returns-7 : tie.Need-returns-7
+returns-7 c =
+    let a = c .before .before .before .before .args in
+    c .parse7 .ensures ∙ ap (λ (choice : Choice). parse choice (a .body .now)) (sym (c .before .enum-told7 .given .1))
+
+pub parse-spec : {M : Type 1} → statement M
+parse-spec =
+    tie.close
+    (tie.spec
+    enum-told
+    parse-requires
+    enum-told-2
+    parse-requires-2
+    enum-told-3
+    parse-requires-3
+    enum-told-4
+    parse-requires-4
+    enum-told-5
+    parse-requires-5
+    enum-told-6
+    parse-requires-6
+    enum-told-7
+    parse-requires-7
+    returns
+    returns-2
+    returns-3
+    returns-4
+    returns-5
+    returns-6
+    returns-7)

@@ -1,0 +1,40 @@
+-- `exports::party_read` meets its contract: what the reader gave is given.
+-- Assumes nothing.
+use mathlib.Core.Path.{_∙_, sym, ap, subst}
+use borrow.Author.Needs.{needs}
+use lib.Dec.{leb}
+use Rattle.party.specs.declared.PartyOption.{PartyOption}
+use Rattle.reader.specs.Reading.{Reading, toldAnswer}
+use Rattle.reader.specs.Options.{read}
+use Rattle.exports.specs.Exports.{given}
+use Rattle.exports.proofs.LineBounds.{read-line}
+use Rattle.exports.proofs.Answers.{Lined, lined}
+use Rattle.exports.proofs.party_read.Statement.{statement}
+use Rattle.exports.proofs.party_read.Tie as tie
+
+option-at-requires : tie.Need-option-at-requires
+option-at-requires c κs = search needs
+
+read-requires : tie.Need-read-requires
+read-requires c κs = search needs
+
+give-requires : tie.Need-give-requires
+give-requires c κs =
+    let found = c .before in
+    let a = found .before .before .before .before .args in
+    lined (toldAnswer (found .read .result)) (subst Lined (sym (found .read .ensures)) (read-line (found .before .option-at .result) (a .body .now)))
+
+same-length : tie.Need-same-length
+same-length c = search needs
+
+returns : tie.Need-returns
+returns c =
+    let gave = c .before .before in
+    let found = gave .before .before in
+    let a = found .before .before .before .before .args in
+    let by = ap (λ (option : PartyOption). read option (a .body .now)) (found .before .option-at .ensures) in
+    gave .give .ensures ∙ ap (λ (r : Reading). given (leb (a .option) 10) r (a .«record» .now)) (found .read .ensures ∙ by)
+
+pub party-read-spec : {M : Type 1} → statement M
+party-read-spec =
+    tie.close (tie.spec option-at-requires read-requires give-requires same-length returns)

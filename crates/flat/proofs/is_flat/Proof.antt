@@ -1,0 +1,45 @@
+-- `flat::is_flat` meets its contract: each test is one of the definition's.
+-- Assumes nothing.
+use Prim.Native.Nat.{ℕ, _≤_, _<_}
+use mathlib.Core.Path.{_≡_}
+use mathlib.Core.Bool.{false}
+use mathlib.Core.List.{List}
+use borrow.Author.Needs.{needs}
+use borrow.Author.Tests.{ne-eqb, le-leb, lt-leb}
+use lib.Dec.{leb}
+use lib.ListN.{length, getD}
+use Rattle.flat.specs.Flat.{isFlat}
+use Rattle.flat.proofs.is_flat.Statement.{statement}
+use Rattle.flat.proofs.is_flat.Tie as tie
+
+module _ (s : List ℕ) where
+  no-size : (length s ≡ 237 → ⊥) → false ≡ isFlat s
+  unfolding isFlat
+  no-size h = rw (ne-eqb (length s) 237 h)
+
+  no-place : length s ≡ 237 → 10 < getD s 0 0 → false ≡ isFlat s
+  unfolding isFlat
+  no-place e h = rw (e, lt-leb (getD s 0 0) 10 h)
+
+  by-presence : length s ≡ 237 → getD s 0 0 ≤ 10 → leb (getD s 1 0) 1 ≡ isFlat s
+  unfolding isFlat
+  by-presence e h = rw (e, le-leb (getD s 0 0) 10 h)
+
+returns : tie.Need-returns
+returns c = no-size _ (c .if1 .taken)
+
+shared-slice-read-if2 : tie.Need-shared-slice-read-if2
+shared-slice-read-if2 c = search needs
+
+returns-2 : tie.Need-returns-2
+returns-2 c = no-place _ (c .before .before .if1 .left) (c .if2 .taken)
+
+shared-slice-read-result : tie.Need-shared-slice-read-result
+shared-slice-read-result c = search needs
+
+returns-3 : tie.Need-returns-3
+returns-3 c = by-presence _ (c .before .before .before .if1 .left) (c .before .if2 .left)
+
+pub is-flat-spec : {M : Type 1} → statement M
+is-flat-spec =
+    tie.close (tie.spec returns shared-slice-read-if2 returns-2 shared-slice-read-result returns-3)

@@ -1,0 +1,82 @@
+-- `flat::put_texts` meets its contract. The loop's invariant: the first texts stand from 3 on.
+-- Assumes nothing.
+use Prim.Native.Nat.{_≤_, _<_, _+_, _-_, _*_}
+use mathlib.Core.Path.{_≡_, refl, _∙_, sym, ap}
+use native.Mathlib.Omega.{arith}
+use lib.ListN.{length, take}
+use lib.Seq.{paste, paste-zero, take-all}
+use Rattle.party.specs.declared.Text.{Text}
+use Rattle.party.proofs.Values.{is-party}
+use Rattle.flat.specs.Flat.{flatText, flatTexts, textsOf}
+use Rattle.flat.proofs.Laws.{paste-more, text-in, sizes, six}
+use Rattle.flat.proofs.put_texts.Statement.{statement}
+use Rattle.flat.proofs.put_texts.Tie as tie
+
+abbrev Inv-loop : tie.InvT-loop
+Inv-loop p out₀ n₀ at₀ out n at =
+    (n ≤ 6) × (at ≡ 3 + 39 * n) × (length out ≡ length out₀) × (out ≡ paste out₀ 3 (flatTexts (textsOf p)) (39 * n))
+
+abbrev μ-loop : tie.MeasureT-loop
+μ-loop p out₀ n₀ at₀ out n at = 6 - n
+
+loop-holds : tie.Need-loop-holds Inv-loop μ-loop
+loop-holds c = (omega arith, refl, refl, paste-zero (c .before .args .out .now) 3 (flatTexts (textsOf (c .before .args .p))))
+
+nth-text-requires : tie.Need-nth-text-requires Inv-loop μ-loop
+nth-text-requires c κs = omega arith
+
+put-text-requires : tie.Need-put-text-requires Inv-loop μ-loop
+put-text-requires c κs = omega arith
+
+add-at : tie.Need-add-at Inv-loop μ-loop
+add-at c = omega arith
+
+add-n : tie.Need-add-n Inv-loop μ-loop
+add-n c = omega arith
+
+loop-less : tie.Need-loop-less Inv-loop μ-loop
+loop-less c = omega arith
+
+loop-again : tie.Need-loop-again Inv-loop μ-loop
+loop-again c =
+    let put = c .before .before in
+    let at = put .before .before .before .before in
+    let start = at .before .before in
+    let p = start .args .p in
+    let d = start .args .out .now in
+    let n = at .loop .n in
+    let whole = is-party p _ (start .good .0) in
+    let inside : n < length (textsOf p) = omega (arith, whole .size) in
+    let next : 39 * (n + 1) ≡ 39 * n + 39 = omega arith in
+    let text = put .before .before .nth-text .ensures in
+    let same = ap (λ (t : Text). take 39 (flatText t)) text ∙ (take-all 39 _ (omega (arith, sizes p whole n inside)) ∙ sym (text-in (textsOf p) n (sizes p whole) inside)) in
+    let more = paste-more d (flatTexts (textsOf p)) (flatText (put .before .before .nth-text .result)) 3 (39 * n) 39 (omega arith) (omega (arith, six p (whole .size) (sizes p whole))) same in (
+      omega arith,
+      omega arith,
+      put .put-text .kept .1 .0 ∙ at .loop .inv .2,
+      put .put-text .ensures ∙ rw (at .loop .inv .3, at .loop .inv .1, next) more,
+    )
+
+same-length : tie.Need-same-length Inv-loop μ-loop
+same-length c = c .before .loop .inv .2
+
+returns : tie.Need-returns Inv-loop μ-loop
+returns c =
+    let all : 39 * c .before .loop .n ≡ 234 = omega arith in
+    rw all at (c .before .loop .inv .3)
+
+pub put-texts-spec : {M : Type 1} → statement M
+put-texts-spec =
+    tie.close
+    (tie.spec
+    Inv-loop
+    μ-loop
+    loop-holds
+    nth-text-requires
+    put-text-requires
+    add-at
+    add-n
+    loop-less
+    loop-again
+    same-length
+    returns)

@@ -1,0 +1,75 @@
+-- `flat::store` meets its contract: the three stores and the texts are the flat record.
+-- Assumes nothing.
+use mathlib.Core.Path.{_∙_, sym}
+use native.Mathlib.Omega.{arith}
+use borrow.Author.Needs.{needs}
+use borrow.Author.Tests.{le-leb, lt-leb}
+use lib.ListN.{length, length-set}
+use Rattle.party.proofs.Values.{is-party}
+use Rattle.flat.proofs.Laws.{place-small, stored-whole, stored-none, store-all}
+use Rattle.flat.proofs.store.Statement.{statement}
+use Rattle.flat.proofs.store.Tie as tie
+
+returns : tie.Need-returns
+returns c =
+    let d = c .before .before .args .out .now in
+    (sym (lt-leb 237 (length d) (c .if1 .taken)), sym (stored-none (c .before .before .args .p) d (c .if1 .taken)))
+
+index-of-requires : tie.Need-index-of-requires
+index-of-requires c κs = search needs
+
+cast-out : tie.Need-cast-out
+cast-out c = omega (arith, c .index-of .ensures, place-small (c .before .before .before .args .p .option))
+
+slice-write-out : tie.Need-slice-write-out
+slice-write-out c = omega arith
+
+bit-requires : tie.Need-bit-requires
+bit-requires c κs = search needs
+
+slice-write-out-2 : tie.Need-slice-write-out-2
+slice-write-out-2 c = simp length-set (omega arith)
+
+byte-of-requires : tie.Need-byte-of-requires
+byte-of-requires c κs = search needs
+
+slice-write-out-3 : tie.Need-slice-write-out-3
+slice-write-out-3 c = simp length-set (omega arith)
+
+put-texts-requires : tie.Need-put-texts-requires
+put-texts-requires c κs = simp length-set (omega arith)
+
+same-length : tie.Need-same-length
+same-length c = c .before .before .put-texts .kept .1 .0 ∙ simp length-set
+
+returns-2 : tie.Need-returns-2
+returns-2 c =
+    let put = c .before .before in
+    let count = put .before .before in
+    let present = count .before in
+    let option = present .before in
+    let start = option .before .before .before in
+    let p = start .args .p in
+    let d = start .args .out .now in
+    let room = option .before .if1 .left in (
+      sym (le-leb 237 (length d) room),
+      put .put-texts .ensures
+          ∙ rw (option .index-of .ensures, present .bit .ensures, count .byte-of .ensures) (store-all p d (is-party p _ (start .good .0)) room)
+          ∙ sym (stored-whole p d room),
+    )
+
+pub store-spec : {M : Type 1} → statement M
+store-spec =
+    tie.close
+    (tie.spec
+    returns
+    index-of-requires
+    cast-out
+    slice-write-out
+    bit-requires
+    slice-write-out-2
+    byte-of-requires
+    slice-write-out-3
+    put-texts-requires
+    same-length
+    returns-2)
