@@ -1,3 +1,5 @@
 pub mod Starred
 pub mod RuledOut
 pub mod Writes
+pub mod Pages
+pub mod Filing

@@ -1,10 +1,9 @@
 -- The starred bodies of document 01 ('Bodies at the edges'), as one list with one theorem over the definitions that the contracts cite.
--- Of reading, detecting and writing.
 use mathlib.Core.Path.{_≡_, refl}
 use mathlib.Core.Bool.{Bool, true, false}
 use mathlib.Core.List.{List, [], _∷_}
 use Prim.Native.Nat.{ℕ}
-use Rattle.errors.specs.Refusals.{accepted}
+use Rattle.errors.specs.Refusals.{Reply, accepted, refused}
 use Rattle.party.specs.declared.PartyOption.{PartyOption}
 use Rattle.party.specs.declared.PartyOption.the-variants.{Field50NoOption, Field50A, Field50F, Field50K, Field50C, Field50G, Field50H, Field59F}
 use Rattle.party.specs.Text.{padded, textOf}
@@ -17,18 +16,27 @@ use Rattle.field_utils.specs.Identifier.{isNumbered, secondSlash, identifierRep
 use Rattle.field_utils.specs.Names.{parseLine, parseLines, parseNameAndAddress}
 use Rattle.reader.specs.Reading.{Reading, fourTexts, partyOf}
 use Rattle.reader.specs.Options.{accountHead, shortAccountHead, afterHead, read}
-use Rattle.writer.specs.Writing.{nameLines, writtenLines, joined, writtenBody, writtenField}
+use Rattle.writer.specs.Writing.{nameLines, writtenLines, joined, writtenBody, writtenField, pieces}
+use Rattle.writer.specs.Given.{isLine, areNames, isGiven}
+use Rattle.writer.specs.ReadBack.{endsCr, lastEmpty, earlierCr, identified59F}
+use Rattle.pages.specs.Pages.{endsPage}
+use Rattle.pages.specs.Filing.{anyMark, laterMark, isCarried, recordReply}
 use Rattle.choices.specs.Detection.{anyNumbered, firstLine, lastLine, bicLike, refusing, firstThat}
 use Rattle.field50.specs.Choices.{orderingCustomerAFK, orderingCustomerNCF}
 
--- what the definitions give, and what document 01 says of it: a reading, or a written field
+-- what the definitions give, and what document 01 says of it: a reading, a written field, or the refusal of a page
 pub data Case : Type 0 where
   reads : Reading → Reading → Case
   writes : List ℕ → List ℕ → Case
+  files : Reply → Reply → Case
 
 -- what is written of the record that a reading gives
 abbrev pub fieldOf : Reading → List ℕ
 fieldOf r = writtenField (said (r .party))
+
+-- what an empty page of 100 bytes answers to the record that a reading gives
+abbrev pub filingOf : Reading → Reply
+filingOf r = recordReply 100 0 (said (r .party))
 
 -- accepted, with the record of these texts
 abbrev pub gives : PartyOption → Bool → List ℕ → List ℕ → List (List ℕ) → Reading
@@ -39,9 +47,10 @@ gives o present account bic names = record {
 
 abbrev pub starred : List Case
 starred =
-    -- 50K `a⏎⏎`: lines `a` and empty; writes `:50K:a⏎`
+    -- 50K `a⏎⏎`: lines `a` and empty; writes `:50K:a⏎`; page 23
     reads (read Field50K (bytes "a\n\n")) (gives Field50K false [] [] (bytes "a" ∷ [] ∷ []))
     ∷ writes (fieldOf (read Field50K (bytes "a\n\n"))) (bytes ":50K:a\n")
+    ∷ files (filingOf (read Field50K (bytes "a\n\n"))) (refused 23 0)
     -- 59F `/1⏎1/A`: writes `:59F:/1⏎⏎1/A`, whose body is 5, line 2
     ∷ reads (read Field59F (bytes "/1\n1/A")) (gives Field59F true (bytes "1") [] (bytes "1/A" ∷ []))
     ∷ writes (fieldOf (read Field59F (bytes "/1\n1/A"))) (bytes ":59F:/1\n\n1/A")
@@ -68,6 +77,7 @@ starred =
 abbrev pub Holds : Case → Type 0
 Holds (reads r s) = r ≡ s
 Holds (writes w s) = w ≡ s
+Holds (files r s) = r ≡ s
 
 -- each case of a list is
 abbrev pub Hold : List Case → Type 0
@@ -75,5 +85,5 @@ Hold [] = Unit {0}
 Hold (c ∷ cs) = Holds c × Hold cs
 
 pub starred-hold : Hold starred
-unfolding padded textOf letter digit alphanumeric signs legal parseSwiftChars parseAccount bicLength parseBic upto onto starts lines white trimmedStart keep trimmedEnd trimmed isNumbered secondSlash identifierReply parsePartyIdentifier parseLine parseLines parseNameAndAddress fourTexts partyOf accountHead shortAccountHead afterHead read anyNumbered firstLine lastLine bicLike firstThat orderingCustomerAFK orderingCustomerNCF said nameLines writtenLines joined writtenBody writtenField
-starred-hold = (refl, (refl, (refl, (refl, (refl, (refl, (refl, (refl, (refl, (refl, (refl, (refl, (refl, (refl, (refl, tt)))))))))))))))
+unfolding padded textOf letter digit alphanumeric signs legal parseSwiftChars parseAccount bicLength parseBic upto onto starts lines white trimmedStart keep trimmedEnd trimmed isNumbered secondSlash identifierReply parsePartyIdentifier parseLine parseLines parseNameAndAddress fourTexts partyOf accountHead shortAccountHead afterHead read anyNumbered firstLine lastLine bicLike firstThat orderingCustomerAFK orderingCustomerNCF said nameLines writtenLines joined writtenBody writtenField isLine areNames isGiven pieces endsCr lastEmpty earlierCr identified59F endsPage anyMark laterMark isCarried recordReply
+starred-hold = (refl, (refl, (refl, (refl, (refl, (refl, (refl, (refl, (refl, (refl, (refl, (refl, (refl, (refl, (refl, (refl, tt))))))))))))))))

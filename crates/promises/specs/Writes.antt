@@ -1,15 +1,14 @@
 -- What writing a field promises of every buffer, and records at the edge of 22 (document 01, 'From the state').
 use mathlib.Core.Path.{_≡_, refl, sym, _∙_, ap}
 use mathlib.Core.Bool.{true, false}
-use mathlib.Core.List.{List, [], _∷_, _++_}
+use mathlib.Core.List.{List, [], _∷_}
 use Prim.Native.Nat.{ℕ, _+_, _≤_, _<_}
 use native.Mathlib.Nat.{zero-add}
 use native.Mathlib.Omega.{arith}
-use lib.Dec.{leb}
 use lib.ListN.{length, take, drop, replicate}
 use lib.Seq.{take-at, drop-at, take-length}
 use borrow.Author.Tests.{le-leb, lt-leb}
-use Rattle.errors.specs.Refusals.{Reply, accepted, refused, must, _then_}
+use Rattle.errors.specs.Refusals.{Reply, accepted, refused}
 use Rattle.party.specs.declared.PartyOption.the-variants.{Field50K}
 use Rattle.party.specs.declared.Party.{Party}
 use Rattle.party.specs.declared.Text.{Text}
@@ -19,7 +18,7 @@ use Rattle.swift_utils.specs.Bytes.{bytes, letter, digit, alphanumeric, signs, 
 use Rattle.swift_utils.specs.Checks.{parseSwiftChars, parseAccount}
 use Rattle.field_utils.specs.Lines.{starts}
 use Rattle.field_utils.specs.Names.{parseLine, parseLines, parseNameAndAddress}
-use Rattle.writer.specs.Writing.{Writing, writing, nameLines, writtenField, put, fits}
+use Rattle.writer.specs.Writing.{Writing, writing, nameLines, writtenField, put}
 use Rattle.writer.specs.Given.{isLine, areNames, isGiven, writeReply, written}
 
 -- writing what s says into a buffer

@@ -2,24 +2,22 @@
 use mathlib.Core.Path.{_≡_, refl, sym, _∙_, ap}
 use mathlib.Core.Bool.{Bool, true, false, _&&_, _||_, false≢true, or-true}
 use mathlib.Core.List.{List, [], _∷_, _++_, map, append-assoc, append-nil}
-use mathlib.Core.Option.{Option, none, some, Option·getD}
 use Prim.Native.Nat.{ℕ, zero, suc, _+_, _≤_, _<_}
 use native.Mathlib.Omega.{arith}
 use lib.Dec.{ltb, eqb}
-use lib.ListN.{length, length-map}
-use borrow.Author.Tests.{lt-ltb, ne-eqb}
+use lib.ListN.{length}
+use borrow.Author.Tests.{lt-ltb}
 use Rattle.party.specs.declared.PartyOption.{PartyOption}
 use Rattle.party.specs.declared.PartyOption.the-variants.{Field50NoOption, Field50A, Field50F, Field50K, Field50C, Field50L, Field50G, Field50H, Field59NoOption, Field59A, Field59F}
 use Rattle.party.specs.declared.Party.{Party}
 use Rattle.party.specs.Limits.{limitsOf}
-use Rattle.party.specs.Text.{Used, used}
-use Rattle.party.specs.Party.{namesOf, said, Said, Same}
+use Rattle.party.specs.Text.{Used}
+use Rattle.party.specs.Party.{said, Said}
 use Rattle.swift_utils.specs.Bytes.{bytes}
-use Rattle.field_utils.specs.declared.Numbering.{Numbering}
 use Rattle.field_utils.specs.declared.Numbering.the-variants.{Unnumbered, Numbered, InTurn}
 use Rattle.field_utils.specs.Names.{numberingOf}
 use Rattle.reader.specs.Reading.{partyOf}
-use Rattle.writer.specs.Writing.{numberOf, nameLines, writtenLines, joined, writtenBody, writtenField}
+use Rattle.writer.specs.Writing.{nameLines, writtenLines, joined, writtenBody, writtenField}
 use Rattle.writer.specs.Given.{Given, areNames}
 use Rattle.writer.proofs.Sayings.{saidWith, said-with, bytesOf, said-party}
 use Rattle.writer.proofs.NamePasses.{written-length}
@@ -28,10 +26,10 @@ use Rattle.writer.proofs.Bare.{foundOf}
 use Rattle.writer.proofs.Witness.{saying-back, fitting}
 use Rattle.writer.proofs.Sufficient.{parts, given-facts}
 use Rattle.writer.proofs.Theorems.{necessary}
-use Rattle.swift_mt_message.specs.Std.{Str, join, digits, number, is-some}
+use Rattle.swift_mt_message.specs.Std.{Str, join, digits, number}
 use Rattle.swift_mt_message.specs.Field50 as rust50
 use Rattle.swift_mt_message.specs.Field59 as rust59
-use Rattle.swift_mt_message.specs.Writing.{to-swift-string, recordOf, optional, structOf, structIn, Writes}
+use Rattle.swift_mt_message.specs.Writing.{to-swift-string, recordOf, structOf, Writes}
 
 -- ---- lines joined
 join-is : (ls : List Str) → join ls ≡ joined ls

@@ -1,5 +1,4 @@
 -- What the Rust writes of a record: for every record that a reader can give, the text that ours writes. proofs/Writing.antt has the proof.
-use Prim.Native.Nat.{ℕ}
 use mathlib.Core.Path.{_≡_}
 use mathlib.Core.Bool.{Bool, true, false}
 use mathlib.Core.List.{List, map}

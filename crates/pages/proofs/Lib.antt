@@ -1,0 +1,10 @@
+pub mod Runs
+pub mod Places
+pub mod Tags
+pub mod Carried
+pub mod Structure
+pub mod Records
+pub mod Alone
+pub mod Fold
+pub mod Filings
+pub mod Theorems

@@ -1,0 +1,283 @@
+-- The tag of a field's text, byte by byte. Assumes nothing.
+use mathlib.Core.Path.{_≡_, refl, sym, _∙_, ap, subst}
+use mathlib.Core.Bool.{Bool, true, false, _&&_, and-false, and-true}
+use mathlib.Core.List.{List, [], _∷_}
+use Prim.Native.Nat.{ℕ, _+_, _≤_, _<_}
+use native.Mathlib.Omega.{arith}
+use lib.Dec.{eqb}
+use lib.ListN.{length, drop, getD, drop-of-length-le}
+use lib.Seq.{drop-cons}
+use borrow.Author.Tests.{eqb-true, eq-eqb, ne-eqb}
+use Rattle.party.specs.declared.PartyOption.{PartyOption}
+use Rattle.party.specs.declared.PartyOption.the-variants.{Field50NoOption, Field50A, Field50F, Field50K, Field50C, Field50L, Field50G, Field50H, Field59NoOption, Field59A, Field59F}
+use Rattle.party.specs.Limits.{limitsOf}
+use Rattle.writer.specs.Writing.{tagOf}
+use Rattle.writer.proofs.Tests.{both-right}
+use Rattle.pages.specs.declared.Tag.the-variants.{Unknown}
+use Rattle.pages.specs.Pages.{begins, untagged, tagged, tagIn}
+use Rattle.party.specs.Limits.{options}
+use Rattle.pages.specs.Code.{toldTag, knownIn}
+
+-- ---- the form of a tag: `:5`, a digit, a letter or none, `:`
+abbrev digitOf : PartyOption → ℕ
+digitOf o = getD (tagOf o) 2 0
+
+abbrev letterOf : PartyOption → ℕ
+letterOf o = limitsOf o .letter
+
+abbrev tailOf : ℕ → List ℕ
+tailOf letter = elim (eqb letter 0) [ true ↦ 58 ∷ [] | false ↦ letter ∷ 58 ∷ [] ]
+
+tag-form : (o : PartyOption) → tagOf o ≡ 58 ∷ 53 ∷ digitOf o ∷ tailOf (letterOf o)
+tag-form Field50NoOption = refl
+tag-form Field50A = refl
+tag-form Field50F = refl
+tag-form Field50K = refl
+tag-form Field50C = refl
+tag-form Field50L = refl
+tag-form Field50G = refl
+tag-form Field50H = refl
+tag-form Field59NoOption = refl
+tag-form Field59A = refl
+tag-form Field59F = refl
+
+no-colon : (o : PartyOption) → eqb (letterOf o) 58 ≡ false
+no-colon Field50NoOption = refl
+no-colon Field50A = refl
+no-colon Field50F = refl
+no-colon Field50K = refl
+no-colon Field50C = refl
+no-colon Field50L = refl
+no-colon Field50G = refl
+no-colon Field50H = refl
+no-colon Field59NoOption = refl
+no-colon Field59A = refl
+no-colon Field59F = refl
+
+-- ---- a text that begins with no tag
+none-in : (os : List PartyOption) (text : List ℕ) → ((o : PartyOption) → begins (tagOf o) text ≡ false) → tagIn os text ≡ untagged
+unfolding tagIn
+none-in [] text h = refl
+none-in (o ∷ os) text h = rw (h o, tagIn) (none-in os text h)
+
+begins-short : (l s : List ℕ) → length s < length l → begins l s ≡ false
+unfolding begins
+begins-short [] s h = absurd (omega arith)
+begins-short (a ∷ l) [] h = refl
+begins-short (a ∷ l) (b ∷ s) h = rw (begins-short l s (omega arith)) (and-false (eqb a b))
+
+tail-some : (letter : ℕ) → 1 ≤ length (tailOf letter)
+tail-some letter = go (eqb letter 0) refl
+  where
+    go : (t : Bool) → eqb letter 0 ≡ t → 1 ≤ length (tailOf letter)
+    go true e = rw (e, tailOf) (omega arith)
+    go false e = rw (e, tailOf) (omega arith)
+
+pub tag-short : (text : List ℕ) → length text < 4 → tagIn options text ≡ untagged
+tag-short text h =
+    none-in options text
+    (λ o. begins-short (tagOf o) text (let k = ap length (tag-form o) in let n = tail-some (letterOf o) in omega (arith, h, k, n)))
+
+-- the first bytes
+module _ (text : List ℕ) where
+  by-form : (o : PartyOption) {r : Bool} → begins (58 ∷ 53 ∷ digitOf o ∷ tailOf (letterOf o)) text ≡ r → begins (tagOf o) text ≡ r
+  by-form o e = ap (λ (t : List ℕ). begins t text) (tag-form o) ∙ e
+
+pub tag-first : (a : ℕ) (s : List ℕ) → (a ≡ 58 → ⊥) → tagIn options (a ∷ s) ≡ untagged
+unfolding begins
+tag-first a s n = none-in options (a ∷ s) (λ o. by-form (a ∷ s) o (rw (ne-eqb 58 a (λ e. n (sym e)))))
+
+pub tag-second : (a b : ℕ) (s : List ℕ) → (b ≡ 53 → ⊥) → tagIn options (a ∷ b ∷ s) ≡ untagged
+unfolding begins
+tag-second a b s n = none-in options (a ∷ b ∷ s) (λ o. by-form (a ∷ b ∷ s) o (rw (ne-eqb 53 b (λ e. n (sym e)), and-false (eqb 58 a))))
+
+-- ---- after `:5` and a digit
+module _ (d : ℕ) (s : List ℕ) where
+  abbrev text : List ℕ
+  text = 58 ∷ 53 ∷ d ∷ s
+
+  after-digit : (o : PartyOption) {r : Bool} → begins (tailOf (letterOf o)) s ≡ r → begins (tagOf o) text ≡ (eqb (digitOf o) d && r)
+  unfolding begins
+  after-digit o e = by-form text o (ap (λ (t : Bool). eqb (digitOf o) d && t) e)
+
+  pub tag-none : ((o : PartyOption) → begins (tailOf (letterOf o)) s ≡ false) → tagIn options text ≡ untagged
+  tag-none h = none-in options text (λ o. after-digit o (h o) ∙ and-false (eqb (digitOf o) d))
+
+  known-in : (letter skip : ℕ) (os : List PartyOption) → ((o : PartyOption) → begins (tailOf (letterOf o)) s ≡ eqb (letterOf o) letter)
+      → ((o : PartyOption) → eqb (letterOf o) letter ≡ true → length (tagOf o) ≡ skip)
+      → toldTag text (knownIn os d letter skip) ≡ tagIn os text
+  unfolding tagIn knownIn
+  known-in letter skip [] h k = refl
+  known-in letter skip (o ∷ os) h k = go (eqb (digitOf o) d && eqb (letterOf o) letter) refl (known-in letter skip os h k)
+    where
+      go : (t : Bool) → (eqb (digitOf o) d && eqb (letterOf o) letter) ≡ t → toldTag text (knownIn os d letter skip) ≡ tagIn os text
+          → toldTag text (knownIn (o ∷ os) d letter skip) ≡ tagIn (o ∷ os) text
+      go true e ih =
+          let b : begins (tagOf o) text ≡ true = after-digit o (h o) ∙ e in
+          rw (e, b, knownIn, tagIn) (ap (λ (n : ℕ). tagged o (drop n text)) (sym (k o (both-right (eqb (digitOf o) d) (eqb (letterOf o) letter) e))))
+      go false e ih = let b : begins (tagOf o) text ≡ false = after-digit o (h o) ∙ e in rw (e, b, knownIn, tagIn) ih
+
+  tag-length : (o : PartyOption) → length (tagOf o) ≡ 3 + length (tailOf (letterOf o))
+  tag-length o = let k = ap length (tag-form o) in omega (arith, k)
+
+-- without a letter
+pub tag-plain : (d : ℕ) (s : List ℕ) → toldTag (58 ∷ 53 ∷ d ∷ 58 ∷ s) (knownIn options d 0 4) ≡ tagIn options (58 ∷ 53 ∷ d ∷ 58 ∷ s)
+unfolding begins
+tag-plain d s = known-in d (58 ∷ s) 0 4 options tail size
+  where
+    tail : (o : PartyOption) → begins (tailOf (letterOf o)) (58 ∷ s) ≡ eqb (letterOf o) 0
+    tail o = go (eqb (letterOf o) 0) refl
+      where
+        go : (t : Bool) → eqb (letterOf o) 0 ≡ t → begins (tailOf (letterOf o)) (58 ∷ s) ≡ eqb (letterOf o) 0
+        go true e = rw (e, tailOf)
+        go false e = rw (e, tailOf) (rw (no-colon o))
+
+    size : (o : PartyOption) → eqb (letterOf o) 0 ≡ true → length (tagOf o) ≡ 4
+    size o e = tag-length d (58 ∷ s) o ∙ rw (e, tailOf)
+
+-- with one
+module _ (d c : ℕ) (n : c ≡ 58 → ⊥) where
+  colon-not : eqb 58 c ≡ false
+  colon-not = ne-eqb 58 c (λ e. n (sym e))
+
+  pub tag-end : tagIn options (58 ∷ 53 ∷ d ∷ c ∷ []) ≡ untagged
+  unfolding begins
+  tag-end = tag-none d (c ∷ []) tail
+    where
+      tail : (o : PartyOption) → begins (tailOf (letterOf o)) (c ∷ []) ≡ false
+      tail o = go (eqb (letterOf o) 0) refl
+        where
+          go : (t : Bool) → eqb (letterOf o) 0 ≡ t → begins (tailOf (letterOf o)) (c ∷ []) ≡ false
+          go true e = rw (e, tailOf) (rw colon-not)
+          go false e = rw (e, tailOf) (and-false (eqb (letterOf o) c))
+
+  module _ (x : ℕ) (s : List ℕ) where
+    pub tag-open : (x ≡ 58 → ⊥) → tagIn options (58 ∷ 53 ∷ d ∷ c ∷ x ∷ s) ≡ untagged
+    unfolding begins
+    tag-open m = tag-none d (c ∷ x ∷ s) tail
+      where
+        tail : (o : PartyOption) → begins (tailOf (letterOf o)) (c ∷ x ∷ s) ≡ false
+        tail o = go (eqb (letterOf o) 0) refl
+          where
+            go : (t : Bool) → eqb (letterOf o) 0 ≡ t → begins (tailOf (letterOf o)) (c ∷ x ∷ s) ≡ false
+            go true e = rw (e, tailOf) (rw colon-not)
+            go false e = rw (e, tailOf) (rw (ne-eqb 58 x (λ q. m (sym q))) (and-false (eqb (letterOf o) c)))
+
+  module _ (s : List ℕ) where
+    lettered : (o : PartyOption) → begins (tailOf (letterOf o)) (c ∷ 58 ∷ s) ≡ (elim (eqb (letterOf o) 0) [ true ↦ false | false ↦ eqb (letterOf o) c ])
+    unfolding begins
+    lettered o = go (eqb (letterOf o) 0) refl
+      where
+        go : (t : Bool) → eqb (letterOf o) 0 ≡ t → begins (tailOf (letterOf o)) (c ∷ 58 ∷ s) ≡ (elim (eqb (letterOf o) 0) [ true ↦ false | false ↦ eqb (letterOf o) c ])
+        go true e = rw (e, tailOf) (rw colon-not)
+        go false e = rw (e, tailOf) (and-true (eqb (letterOf o) c))
+
+    pub tag-zero : c ≡ 0 → tagIn options (58 ∷ 53 ∷ d ∷ c ∷ 58 ∷ s) ≡ untagged
+    tag-zero z = tag-none d (c ∷ 58 ∷ s) (λ o. lettered o ∙ go o (eqb (letterOf o) 0) refl)
+      where
+        go : (o : PartyOption) (t : Bool) → eqb (letterOf o) 0 ≡ t → (elim (eqb (letterOf o) 0) [ true ↦ false | false ↦ eqb (letterOf o) c ]) ≡ false
+        go o true e = rw e
+        go o false e = rw e (rw z e)
+
+    pub tag-letter : (c ≡ 0 → ⊥) → toldTag (58 ∷ 53 ∷ d ∷ c ∷ 58 ∷ s) (knownIn options d c 5) ≡ tagIn options (58 ∷ 53 ∷ d ∷ c ∷ 58 ∷ s)
+    tag-letter z = known-in d (c ∷ 58 ∷ s) c 5 options (λ o. lettered o ∙ go o (eqb (letterOf o) 0) refl) size
+      where
+        go : (o : PartyOption) (t : Bool) → eqb (letterOf o) 0 ≡ t → (elim (eqb (letterOf o) 0) [ true ↦ false | false ↦ eqb (letterOf o) c ]) ≡ eqb (letterOf o) c
+        go o true e = rw e (sym (ne-eqb (letterOf o) c (λ q. z (sym q ∙ eqb-true (letterOf o) 0 e))))
+        go o false e = rw e
+
+        size : (o : PartyOption) → eqb (letterOf o) c ≡ true → length (tagOf o) ≡ 5
+        size o e =
+            let q : letterOf o ≡ c = eqb-true (letterOf o) c e in
+            tag-length d (c ∷ 58 ∷ s) o ∙ rw (ne-eqb (letterOf o) 0 (λ p. z (sym q ∙ p)), tailOf)
+
+-- ---- digits and letters of no tag
+unknown-in : (d letter skip : ℕ) (os : List PartyOption) → ((o : PartyOption) → eqb (digitOf o) d ≡ false) → knownIn os d letter skip ≡ Unknown
+unfolding knownIn
+unknown-in d letter skip [] h = refl
+unknown-in d letter skip (o ∷ os) h = rw (h o, knownIn) (unknown-in d letter skip os h)
+
+digit-is : (o : PartyOption) (d : ℕ) → eqb 48 d ≡ false → eqb 57 d ≡ false → eqb (digitOf o) d ≡ false
+digit-is Field50NoOption d a b = a
+digit-is Field50A d a b = a
+digit-is Field50F d a b = a
+digit-is Field50K d a b = a
+digit-is Field50C d a b = a
+digit-is Field50L d a b = a
+digit-is Field50G d a b = a
+digit-is Field50H d a b = a
+digit-is Field59NoOption d a b = b
+digit-is Field59A d a b = b
+digit-is Field59F d a b = b
+
+pub unknown-digit : (d letter skip : ℕ) → (d ≡ 48 → ⊥) → (d ≡ 57 → ⊥) → knownIn options d letter skip ≡ Unknown
+unknown-digit d letter skip a b = unknown-in d letter skip options (λ o. digit-is o d (ne-eqb 48 d (λ e. a (sym e))) (ne-eqb 57 d (λ e. b (sym e))))
+
+pub unknown-59 : (letter skip : ℕ) → (letter ≡ 0 → ⊥) → (letter ≡ 65 → ⊥) → (letter ≡ 70 → ⊥) → knownIn options 57 letter skip ≡ Unknown
+unfolding knownIn
+unknown-59 letter skip a b c = rw (ne-eqb 0 letter (λ e. a (sym e)), ne-eqb 65 letter (λ e. b (sym e)), ne-eqb 70 letter (λ e. c (sym e)), knownIn)
+
+pub unknown-50 : (letter skip : ℕ) → (letter ≡ 0 → ⊥) → (letter ≡ 65 → ⊥) → (letter ≡ 70 → ⊥) → (letter ≡ 75 → ⊥) → (letter ≡ 67 → ⊥) → (letter ≡ 76 → ⊥)
+    → (letter ≡ 71 → ⊥) → (letter ≡ 72 → ⊥) → knownIn options 48 letter skip ≡ Unknown
+unfolding knownIn
+unknown-50 letter skip n a f k c l g h =
+    rw (ne-eqb 0 letter (λ e. n (sym e)), ne-eqb 65 letter (λ e. a (sym e)), ne-eqb 70 letter (λ e. f (sym e)), ne-eqb 75 letter (λ e. k (sym e)), ne-eqb 67 letter (λ e. c (sym e)), ne-eqb 76 letter (λ e. l (sym e)), ne-eqb 71 letter (λ e. g (sym e)), ne-eqb 72 letter (λ e. h (sym e)), knownIn)
+
+-- ---- by the bytes of a text
+pub at-first : (text : List ℕ) → 4 ≤ length text → (getD text 0 0 ≡ 58 → ⊥) → tagIn options text ≡ untagged
+at-first [] h n = absurd (omega arith)
+at-first (a ∷ s) h n = tag-first a s n
+
+pub at-second : (text : List ℕ) → 4 ≤ length text → (getD text 1 0 ≡ 53 → ⊥) → tagIn options text ≡ untagged
+at-second [] h n = absurd (omega arith)
+at-second (a ∷ []) h n = absurd (omega arith)
+at-second (a ∷ b ∷ s) h n = tag-second a b s n
+
+module _ (text : List ℕ) (a : getD text 0 0 ≡ 58) (b : getD text 1 0 ≡ 53) where
+  -- the text, by its first four bytes
+  four : 4 ≤ length text → text ≡ 58 ∷ 53 ∷ getD text 2 0 ∷ getD text 3 0 ∷ drop 4 text
+  four h =
+      split text h ∙ ap (λ (x : ℕ). x ∷ getD text 1 0 ∷ getD text 2 0 ∷ getD text 3 0 ∷ drop 4 text) a
+      ∙ ap (λ (x : ℕ). 58 ∷ x ∷ getD text 2 0 ∷ getD text 3 0 ∷ drop 4 text) b
+    where
+      split : (t : List ℕ) → 4 ≤ length t → t ≡ getD t 0 0 ∷ getD t 1 0 ∷ getD t 2 0 ∷ getD t 3 0 ∷ drop 4 t
+      split [] k = absurd (omega arith)
+      split (x ∷ []) k = absurd (omega arith)
+      split (x ∷ y ∷ []) k = absurd (omega arith)
+      split (x ∷ y ∷ z ∷ []) k = absurd (omega arith)
+      split (x ∷ y ∷ z ∷ w ∷ t) k = refl
+
+  pub at-plain : 4 ≤ length text → getD text 3 0 ≡ 58 → toldTag text (knownIn options (getD text 2 0) 0 4) ≡ tagIn options text
+  at-plain h c =
+      let q : text ≡ 58 ∷ 53 ∷ getD text 2 0 ∷ 58 ∷ drop 4 text = four h ∙ ap (λ (x : ℕ). 58 ∷ 53 ∷ getD text 2 0 ∷ x ∷ drop 4 text) c in
+      subst (λ (t : List ℕ). toldTag t (knownIn options (getD text 2 0) 0 4) ≡ tagIn options t) (sym q) (tag-plain (getD text 2 0) (drop 4 text))
+
+  module _ (n : getD text 3 0 ≡ 58 → ⊥) where
+    pub at-end : 4 ≤ length text → length text < 5 → tagIn options text ≡ untagged
+    at-end h k = ap (tagIn options) (four h ∙ ap (λ (s : List ℕ). 58 ∷ 53 ∷ getD text 2 0 ∷ getD text 3 0 ∷ s) (drop-of-length-le text {i = 4} (omega arith))) ∙ tag-end (getD text 2 0) (getD text 3 0) n
+
+    module _ (h : 5 ≤ length text) where
+      five : text ≡ 58 ∷ 53 ∷ getD text 2 0 ∷ getD text 3 0 ∷ getD text 4 0 ∷ drop 5 text
+      five = four (omega arith) ∙ ap (λ (s : List ℕ). 58 ∷ 53 ∷ getD text 2 0 ∷ getD text 3 0 ∷ s) (drop-cons text 4 0 (omega arith))
+
+      pub at-open : (getD text 4 0 ≡ 58 → ⊥) → tagIn options text ≡ untagged
+      at-open m = ap (tagIn options) five ∙ tag-open (getD text 2 0) (getD text 3 0) n (getD text 4 0) (drop 5 text) m
+
+      module _ (c : getD text 4 0 ≡ 58) where
+        whole : text ≡ 58 ∷ 53 ∷ getD text 2 0 ∷ getD text 3 0 ∷ 58 ∷ drop 5 text
+        whole = five ∙ ap (λ (x : ℕ). 58 ∷ 53 ∷ getD text 2 0 ∷ getD text 3 0 ∷ x ∷ drop 5 text) c
+
+        pub at-zero : getD text 3 0 ≡ 0 → tagIn options text ≡ untagged
+        at-zero z = ap (tagIn options) whole ∙ tag-zero (getD text 2 0) (getD text 3 0) n (drop 5 text) z
+
+        pub at-letter : (getD text 3 0 ≡ 0 → ⊥) → toldTag text (knownIn options (getD text 2 0) (getD text 3 0) 5) ≡ tagIn options text
+        at-letter z =
+            subst (λ (t : List ℕ). toldTag t (knownIn options (getD text 2 0) (getD text 3 0) 5) ≡ tagIn options t) (sym whole)
+            (tag-letter (getD text 2 0) (getD text 3 0) n (drop 5 text) z)
+
+-- ---- the length of a tag
+pub length-plain : (o : PartyOption) → letterOf o ≡ 0 → length (tagOf o) ≡ 4
+length-plain o e = tag-length 0 [] o ∙ rw (eq-eqb (letterOf o) 0 e, tailOf)
+
+pub length-lettered : (o : PartyOption) → (letterOf o ≡ 0 → ⊥) → length (tagOf o) ≡ 5
+length-lettered o n = tag-length 0 [] o ∙ rw (ne-eqb (letterOf o) 0 n, tailOf)

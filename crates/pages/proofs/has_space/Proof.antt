@@ -1,0 +1,24 @@
+-- `pages::has_space` meets its contract. Assumes nothing.
+use mathlib.Core.Path.{sym, _∙_, ap}
+use Prim.Native.Nat.{_+_}
+use native.Mathlib.Omega.{arith}
+use lib.Dec.{leb}
+use borrow.Author.Needs.{needs}
+use Rattle.pages.proofs.Carried.{space-not, space-left}
+use Rattle.pages.proofs.has_space.Statement.{statement}
+use Rattle.pages.proofs.has_space.Tie as tie
+
+page-space-requires : tie.Need-page-space-requires
+page-space-requires c κs = search needs
+
+returns : tie.Need-returns
+returns c = let a = c .before .before .args in sym (space-not (a .len) (a .at) (a .more) (omega (arith, c .before .page-space .ensures)))
+
+returns-2 : tie.Need-returns-2
+returns-2 c =
+    let p = c .before in
+    let a = p .before .args in
+    space-left (p .page-space .result) (a .at) (a .more) (omega arith) ∙ ap (leb (a .at + a .more)) (p .page-space .ensures)
+
+pub has-space-spec : {M : Type 1} → statement M
+has-space-spec = tie.close (tie.spec page-space-requires returns returns-2)

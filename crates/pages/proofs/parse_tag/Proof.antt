@@ -1,0 +1,96 @@
+-- `pages::parse_tag` meets its contract, by the bytes of the tag. Assumes nothing.
+use mathlib.Core.Path.{sym, _∙_, ap}
+use native.Mathlib.Omega.{arith}
+use denote.Ref.{now}
+use borrow.Author.Needs.{needs}
+use Rattle.pages.specs.Code.{toldTag}
+use Rattle.pages.proofs.Tags.{tag-short, at-first, at-second, at-plain, at-end, at-open, at-zero, at-letter}
+use Rattle.pages.proofs.parse_tag.Statement.{statement}
+use Rattle.pages.proofs.parse_tag.Tie as tie
+
+returns : tie.Need-returns
+returns c = sym (tag-short (now (c .before .before .args .text)) (omega arith))
+
+shared-slice-read-if2 : tie.Need-shared-slice-read-if2
+shared-slice-read-if2 c = search needs
+
+returns-2 : tie.Need-returns-2
+returns-2 c = sym (at-first (now (c .before .before .before .before .args .text)) (omega arith) (c .if2 .taken))
+
+shared-slice-read-if3 : tie.Need-shared-slice-read-if3
+shared-slice-read-if3 c = search needs
+
+returns-3 : tie.Need-returns-3
+returns-3 c = sym (at-second (now (c .before .before .before .before .before .before .args .text)) (omega arith) (c .if3 .taken))
+
+shared-slice-read-if4 : tie.Need-shared-slice-read-if4
+shared-slice-read-if4 c = search needs
+
+shared-slice-read-known : tie.Need-shared-slice-read-known
+shared-slice-read-known c = search needs
+
+known-requires : tie.Need-known-requires
+known-requires c κs = search needs
+
+returns-4 : tie.Need-returns-4
+returns-4 c =
+    let t = now (c .before .before .before .before .before .before .before .before .before .before .args .text) in
+    ap (toldTag t) (c .known .ensures) ∙ at-plain t (c .before .before .before .before .before .before .if2 .left) (c .before .before .before .before .if3 .left) (omega arith) (c .before .before .if4 .taken)
+
+returns-5 : tie.Need-returns-5
+returns-5 c =
+    let t = now (c .before .before .before .before .before .before .before .before .before .args .text) in
+    sym (at-end t (c .before .before .before .before .before .if2 .left) (c .before .before .before .if3 .left) (c .before .if4 .left) (omega arith) (omega arith))
+
+shared-slice-read-if6 : tie.Need-shared-slice-read-if6
+shared-slice-read-if6 c = search needs
+
+returns-6 : tie.Need-returns-6
+returns-6 c =
+    let t = now (c .before .before .before .before .before .before .before .before .before .before .before .args .text) in
+    sym (at-open t (c .before .before .before .before .before .before .before .if2 .left) (c .before .before .before .before .before .if3 .left) (c .before .before .before .if4 .left) (omega arith) (c .if6 .taken))
+
+shared-slice-read-if7 : tie.Need-shared-slice-read-if7
+shared-slice-read-if7 c = search needs
+
+returns-7 : tie.Need-returns-7
+returns-7 c =
+    let t = now (c .before .before .before .before .before .before .before .before .before .before .before .before .before .args .text) in
+    sym (at-zero t (c .before .before .before .before .before .before .before .before .before .if2 .left) (c .before .before .before .before .before .before .before .if3 .left) (c .before .before .before .before .before .if4 .left) (omega arith) (c .before .before .if6 .left) (c .if7 .taken))
+
+shared-slice-read-known-2 : tie.Need-shared-slice-read-known-2
+shared-slice-read-known-2 c = search needs
+
+shared-slice-read-known-3 : tie.Need-shared-slice-read-known-3
+shared-slice-read-known-3 c = search needs
+
+known-requires-2 : tie.Need-known-requires-2
+known-requires-2 c κs = search needs
+
+returns-8 : tie.Need-returns-8
+returns-8 c =
+    let t = now (c .before .before .before .before .before .before .before .before .before .before .before .before .before .before .before .before .args .text) in
+    ap (toldTag t) (c .known2 .ensures) ∙ at-letter t (c .before .before .before .before .before .before .before .before .before .before .before .before .if2 .left) (c .before .before .before .before .before .before .before .before .before .before .if3 .left) (c .before .before .before .before .before .before .before .before .if4 .left) (omega arith) (c .before .before .before .before .before .if6 .left) (c .before .before .before .if7 .left)
+
+pub parse-tag-spec : {M : Type 1} → statement M
+parse-tag-spec =
+    tie.close
+    (tie.spec
+    returns
+    shared-slice-read-if2
+    returns-2
+    shared-slice-read-if3
+    returns-3
+    shared-slice-read-if4
+    shared-slice-read-known
+    known-requires
+    returns-4
+    returns-5
+    shared-slice-read-if6
+    returns-6
+    shared-slice-read-if7
+    returns-7
+    shared-slice-read-known-2
+    shared-slice-read-known-3
+    known-requires-2
+    returns-8)

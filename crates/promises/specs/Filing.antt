@@ -1,0 +1,66 @@
+-- Wrong programs that adding and closing rule out (document 01, 'For the auditor's form'), each by computation.
+use mathlib.Core.Path.{_≡_, refl}
+use mathlib.Core.Bool.{false}
+use mathlib.Core.List.{List, [], _∷_, _++_}
+use Prim.Native.Nat.{ℕ}
+use lib.ListN.{replicate}
+use Rattle.errors.specs.Refusals.{accepted, refused}
+use Rattle.party.specs.declared.PartyOption.the-variants.{Field50K}
+use Rattle.party.specs.declared.Party.{Party}
+use Rattle.party.specs.Text.{padded, textOf}
+use Rattle.party.specs.Party.{said}
+use Rattle.swift_utils.specs.Bytes.{bytes, letter, digit, alphanumeric, signs, legal}
+use Rattle.swift_utils.specs.Checks.{parseSwiftChars, parseAccount}
+use Rattle.field_utils.specs.Lines.{upto, onto, starts}
+use Rattle.field_utils.specs.Names.{parseLine, parseLines, parseNameAndAddress}
+use Rattle.reader.specs.Reading.{fourTexts, partyOf}
+use Rattle.writer.specs.Writing.{nameLines, writtenLines, joined, writtenBody, writtenField, pieces}
+use Rattle.writer.specs.Given.{isLine, areNames, isGiven}
+use Rattle.writer.specs.ReadBack.{endsCr, lastEmpty, earlierCr, identified59F}
+use Rattle.pages.specs.Pages.{endsPage}
+use Rattle.pages.specs.Filing.{anyMark, laterMark, isCarried, writable, recordReply, add, close}
+use Rattle.pages.specs.WholePage.{run}
+use Rattle.promises.specs.Starred.{gives}
+
+-- a 50K of these names
+abbrev pub of : List (List ℕ) → Party
+of names = gives Field50K false [] [] names .party
+
+pub record FilingRuledOut : Type 0 where
+  -- an adder that leaves the page as it came, that files the first record over and over, or that refuses all
+  pub both-filed : run (of (bytes "A" ∷ []) ∷ of (bytes "B" ∷ []) ∷ []) (replicate 20 0) 0 .buffer ≡ bytes ":50K:A\n:50K:B\n" ++ replicate 6 0
+  -- 24 with bytes free: 9 bytes take a field of 6, its LF and the end; 8 do not
+  pub enough : recordReply 9 0 (said (of (bytes "A" ∷ []))) ≡ accepted
+  pub short : recordReply 8 0 (said (of (bytes "A" ∷ []))) ≡ refused 24 0
+  -- 23 too wide by one case: a first line like an end line or an opening, a later one that only begins with a hyphen, a CR at the end
+  pub hyphen-first : recordReply 40 0 (said (of (bytes "-" ∷ []))) ≡ accepted
+  pub colon-first : recordReply 40 0 (said (of (bytes ":A" ∷ []))) ≡ accepted
+  pub hyphen-more : recordReply 40 0 (said (of (bytes "A" ∷ bytes "-B" ∷ []))) ≡ accepted
+  pub cr-last : recordReply 40 0 (said (of (bytes "A" ∷ bytes "B\r" ∷ []))) ≡ accepted
+  -- or too narrow by one
+  pub hyphen-later : recordReply 40 0 (said (of (bytes "A" ∷ bytes "-" ∷ []))) ≡ refused 23 0
+  pub colon-later : recordReply 40 0 (said (of (bytes "A" ∷ bytes ":B" ∷ []))) ≡ refused 23 0
+  pub cr-earlier : recordReply 40 0 (said (of (bytes "A\r" ∷ bytes "B" ∷ []))) ≡ refused 23 0
+  pub empty-last : recordReply 40 0 (said (of (bytes "A" ∷ [] ∷ []))) ≡ refused 23 0
+  -- closing that changes a byte after its LF
+  pub closed : close (bytes "abc") 0 ≡ record { reply = accepted; position = 2; buffer = bytes "-\nc" }
+  -- 21 before all else: a position within a line
+  pub position : add (bytes "abcdefghijkl") 1 (said (of [])) .reply ≡ refused 21 0
+
+pub filing-ruled-out : FilingRuledOut
+unfolding padded textOf said letter digit alphanumeric signs legal parseSwiftChars parseAccount upto onto starts parseLine parseLines parseNameAndAddress fourTexts partyOf nameLines writtenLines joined writtenBody writtenField pieces isLine areNames isGiven endsCr lastEmpty earlierCr identified59F endsPage anyMark laterMark isCarried writable recordReply add close run
+filing-ruled-out = record {
+  both-filed = refl;
+  enough = refl;
+  short = refl;
+  hyphen-first = refl;
+  colon-first = refl;
+  hyphen-more = refl;
+  cr-last = refl;
+  hyphen-later = refl;
+  colon-later = refl;
+  cr-earlier = refl;
+  empty-last = refl;
+  closed = refl;
+  position = refl;
+}
