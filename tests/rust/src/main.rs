@@ -3,28 +3,8 @@
 //! Without arguments it writes the list and the coverage into the repository; with `--check` it
 //! compares them with what is there; with `--count N` it makes a list of N cases.
 
-mod bodies;
-mod cells;
-mod choose;
-mod compare;
-mod coverage;
-mod differences;
-mod edges;
-mod facts;
-mod families;
-mod format;
-mod limits;
-mod list;
-mod mapping;
-mod model;
-mod pool;
-mod random;
-mod reference;
-mod rules;
-mod statements;
-mod sweep;
-
-use compare::Comparison;
+use party_answers::compare::Comparison;
+use party_answers::{facts, format, list, reference, statements, sweep};
 use std::fs;
 use std::path::Path;
 use std::process::ExitCode;

@@ -27,7 +27,8 @@ fn case(random: &mut Random, askable: &[(Reader, Way)]) -> Case {
     Case { reader, call, body: body(random, option) }
 }
 
-fn body(random: &mut Random, option: Opt) -> String {
+/// A good body of the option, a damaged copy of one, or lines of any kind.
+pub fn body(random: &mut Random, option: Opt) -> String {
     let start = match random.below(8) {
         0 => return good(random, option),
         1 | 2 => return lines(random),

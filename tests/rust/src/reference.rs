@@ -2,8 +2,8 @@
 
 use crate::mapping;
 use crate::model::{Answer, Call, Case, Choice, Opt, Reader, Record};
+use std::cell::Cell;
 use std::panic::{self, AssertUnwindSafe};
-use std::sync::atomic::{AtomicBool, Ordering};
 use swift_mt_message::errors::ParseError;
 use swift_mt_message::fields::field50::*;
 use swift_mt_message::fields::field59::*;
@@ -11,13 +11,16 @@ use swift_mt_message::traits::SwiftField;
 
 type Reading = Result<(Record, String), ParseError>;
 
-static ASKING: AtomicBool = AtomicBool::new(false);
+thread_local! {
+    /// Whether this thread is within the published code.
+    static ASKING: Cell<bool> = const { Cell::new(false) };
+}
 
 /// Keeps a panic of the published code off the terminal, and no other panic.
 pub fn silence_panics() {
     let usual = panic::take_hook();
     panic::set_hook(Box::new(move |info| {
-        if !ASKING.load(Ordering::Relaxed) {
+        if !ASKING.get() {
             usual(info);
         }
     }));
@@ -25,9 +28,9 @@ pub fn silence_panics() {
 
 /// The Rust's answer; an error where its message is none that `mapping` knows.
 pub fn answer(case: &Case) -> Result<Answer, String> {
-    ASKING.store(true, Ordering::Relaxed);
+    ASKING.set(true);
     let outcome = panic::catch_unwind(AssertUnwindSafe(|| ask(case)));
-    ASKING.store(false, Ordering::Relaxed);
+    ASKING.set(false);
     match outcome {
         Err(_) => Ok(Answer::Panicked),
         Ok(Ok((record, written))) => Ok(Answer::Read { record, written: written.into_bytes() }),

@@ -7,7 +7,7 @@ use crate::model::{Call, Case, Reader};
 const BYTES: &[&str] = &["A", "1", "/", "~", "\r", "\n", " "];
 
 /// Pieces that make BICs, accounts and numbered lines, in sequences of up to four.
-const PIECES: &[&str] = &[
+pub const PIECES: &[&str] = &[
     "ABCDEFGH",
     "abcdef12345",
     "ABCé",

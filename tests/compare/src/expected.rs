@@ -1,0 +1,109 @@
+//! What ours must answer: as the Rust does, or as a rule of docs/DIFFERENCES.md has it.
+//!
+//! A rule is worked out from the letter and the body, or from the record, and from the Rust.
+
+use party_answers::differences::Class;
+use party_answers::model::{Answer, Call, Case, Choice, Opt, Reader, Record};
+use party_answers::{reference, rules};
+
+/// 14, 12 and 13, in that order; none where the Rust is asked.
+pub fn refused(call: Call, body: &[u8]) -> Option<(u8, Class)> {
+    match call {
+        Call::Letter(letter) if letter != 0 && !letter.is_ascii_uppercase() => {
+            return Some((14, Class::Letter));
+        }
+        _ => (),
+    }
+    if body.len() > rules::LONGEST_BODY {
+        return Some((12, Class::LongBody));
+    }
+    (!body.is_ascii()).then_some((13, Class::HighByte))
+}
+
+/// The answer to a case that `refused` lets pass, and the rule where it is not the Rust's.
+pub fn answer(case: &Case) -> Result<(Answer, Option<Class>), String> {
+    let rust = reference::answer(case)?;
+    let read_as_50h = case.reader.picked(case.call) == Some(Opt::H50);
+    let fgh = case.reader == Reader::Choice(Choice::OrderingCustomerFGH);
+    let detected = fgh && case.reader.picked(case.call).is_none();
+    if !read_as_50h && !detected {
+        return Ok((rust, None));
+    }
+    let Some(account) = illegal_account(&case.body) else {
+        return Ok((rust, None));
+    };
+    let without = if read_as_50h { (3, 1) } else { (11, 0) };
+    if rust != (Answer::Refused { number: without.0, line: without.1 }) {
+        return Err(format!("an account of 50H with an illegal byte, and the Rust has {rust:?}"));
+    }
+    match (mended(&case.body, account)?, detected) {
+        (Answer::Refused { .. }, true) => Ok((rust, None)),
+        (ours, true) => Ok((ours, Some(Class::Detected50H))),
+        (ours, false) => Ok((ours, Some(Class::Account50H))),
+    }
+}
+
+/// The account of a body of two lines or more whose first is `/` and 1 to 34 bytes, one of them
+/// not legal.
+fn illegal_account(body: &str) -> Option<&str> {
+    let mut lines = body.lines();
+    let account = lines.next()?.strip_prefix('/')?;
+    lines.next()?;
+    (account.len() <= 34 && !rules::all_legal(account.as_bytes())).then_some(account)
+}
+
+/// What the Rust's 50H answers where the account is of legal bytes, with the account put back.
+fn mended(body: &str, account: &str) -> Result<Answer, String> {
+    const BEFORE: &[u8] = b":50H:/";
+    let legal = format!("/{}{}", "A".repeat(account.len()), &body[1 + account.len()..]);
+    let mut answer = reference::answer(&Case::option(Opt::H50, legal))?;
+    if let Answer::Read { record, written } = &mut answer {
+        record.party = Some(account.as_bytes().to_vec());
+        written[BEFORE.len()..BEFORE.len() + account.len()].copy_from_slice(account.as_bytes());
+    }
+    Ok(answer)
+}
+
+/// What is written of a record; none where no accepted body gives it, which is 22.
+///
+/// If any body gives the record, the body of its lines, each ended by CR LF, does.
+pub fn written(record: &Record) -> Result<Option<Vec<u8>>, String> {
+    let body = body_of(record);
+    let Ok(body) = String::from_utf8(body) else {
+        return Ok(None);
+    };
+    if refused(Call::Parse, body.as_bytes()).is_some() {
+        return Ok(None);
+    }
+    match answer(&Case::option(record.option, body))?.0 {
+        Answer::Read { record: read, written } if read == *record => Ok(Some(written)),
+        _ => Ok(None),
+    }
+}
+
+fn body_of(record: &Record) -> Vec<u8> {
+    let party = record.party.as_deref();
+    match record.option {
+        Opt::C50 => return record.bic.clone(),
+        Opt::L50 => return party.unwrap_or_default().to_vec(),
+        _ => (),
+    }
+    let mut body = Vec::new();
+    let mut add = |before: &[u8], text: &[u8]| {
+        for part in [before, text, b"\r\n"] {
+            body.extend_from_slice(part);
+        }
+    };
+    let slash: &[u8] = if record.option == Opt::F50 { b"" } else { b"/" };
+    if let Some(party) = party {
+        add(slash, party);
+    }
+    let number: &[u8] = if record.option == Opt::F50 { b"1/" } else { b"" };
+    for name in &record.names {
+        add(number, name);
+    }
+    if matches!(record.option, Opt::A50 | Opt::G50 | Opt::A59) {
+        add(b"", &record.bic);
+    }
+    body
+}

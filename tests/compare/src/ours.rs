@@ -1,0 +1,85 @@
+//! The static library, called. All `unsafe` code is here.
+
+use party_answers::model::{Call, Reader};
+
+// A slice of the library is a pointer and a length.
+unsafe extern "C" {
+    fn party_read(
+        option: u8,
+        body: *const u8,
+        body_len: usize,
+        record: *mut u8,
+        record_len: usize,
+    ) -> u32;
+    fn party_parse(
+        choice: u8,
+        body: *const u8,
+        body_len: usize,
+        record: *mut u8,
+        record_len: usize,
+    ) -> u32;
+    fn party_parse_with_variant(
+        choice: u8,
+        body: *const u8,
+        body_len: usize,
+        letter: u8,
+        record: *mut u8,
+        record_len: usize,
+    ) -> u32;
+    fn party_write(record: *const u8, record_len: usize, buf: *mut u8, buf_len: usize) -> u32;
+}
+
+/// `party_read`.
+pub fn read(option: u8, body: &[u8], record: &mut [u8]) -> u32 {
+    // SAFETY: both slices are valid for their lengths during the call, and the one that is
+    // written is borrowed for it alone. The library keeps no pointer.
+    unsafe { party_read(option, body.as_ptr(), body.len(), record.as_mut_ptr(), record.len()) }
+}
+
+/// `party_parse`.
+pub fn parse(choice: u8, body: &[u8], record: &mut [u8]) -> u32 {
+    // SAFETY: as in `read`.
+    unsafe { party_parse(choice, body.as_ptr(), body.len(), record.as_mut_ptr(), record.len()) }
+}
+
+/// `party_parse_with_variant`; the letter 0 is none.
+pub fn parse_with_variant(choice: u8, body: &[u8], letter: u8, record: &mut [u8]) -> u32 {
+    let (text, len) = (body.as_ptr(), body.len());
+    // SAFETY: as in `read`.
+    unsafe {
+        party_parse_with_variant(choice, text, len, letter, record.as_mut_ptr(), record.len())
+    }
+}
+
+/// `party_write`.
+pub fn write(record: &[u8], buf: &mut [u8]) -> u32 {
+    // SAFETY: as in `read`.
+    unsafe { party_write(record.as_ptr(), record.len(), buf.as_mut_ptr(), buf.len()) }
+}
+
+/// The reader's function. The options and the choices are numbered in the order of their enums.
+pub fn ask(reader: Reader, call: Call, body: &[u8], record: &mut [u8]) -> u32 {
+    match (reader, call) {
+        (Reader::Option(option), _) => read(option as u8, body, record),
+        (Reader::Choice(choice), Call::Parse) => parse(choice as u8, body, record),
+        (Reader::Choice(choice), Call::NoLetter) => {
+            parse_with_variant(choice as u8, body, 0, record)
+        }
+        (Reader::Choice(choice), Call::Letter(letter)) => {
+            parse_with_variant(choice as u8, body, letter, record)
+        }
+    }
+}
+
+/// A refusal as the library's number.
+pub fn code(number: u8, line: usize) -> u32 {
+    u32::from(number) * 65536 + line as u32
+}
+
+/// The library's number in words; `accepted` is what one below 65,536 means.
+pub fn told(code: u32, accepted: &str) -> String {
+    match (code >> 16, code & 0xffff) {
+        (0, low) => format!("{accepted} ({low})"),
+        (number, line) => format!("{number}, line {line}"),
+    }
+}
