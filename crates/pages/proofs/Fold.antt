@@ -74,7 +74,7 @@ module _ (len at : ℕ) (s : Said) (e : recordReply len at s ≡ accepted) where
   reply-space = leb-true _ _ (must-held (hasSpace len (at + length (withLf (writtenField s)) + 2)) 24 0 (then-second (must (isCarried s) 23 0) _ later))
 
 -- an add, by its reply
-add-is : (buffer : List ℕ) (at : ℕ) (s : Said) {r : Reply} → writable buffer at ≡ true → recordReply (length buffer) at s ≡ r
+pub add-is : (buffer : List ℕ) (at : ℕ) (s : Said) {r : Reply} → writable buffer at ≡ true → recordReply (length buffer) at s ≡ r
     → add buffer at s ≡ filing r buffer at (withLf (writtenField s))
 unfolding add
 add-is buffer at s w e = ap (λ (b : Bool). filing (must b 21 0 then recordReply (length buffer) at s) buffer at (withLf (writtenField s))) w ∙ ap (λ (x : Reply). filing x buffer at (withLf (writtenField s))) e

@@ -3,6 +3,7 @@ pub mod Places
 pub mod Tags
 pub mod Carried
 pub mod Structure
+pub mod Moves
 pub mod Records
 pub mod Alone
 pub mod Fold

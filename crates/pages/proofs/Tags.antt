@@ -274,10 +274,3 @@ module _ (text : List ℕ) (a : getD text 0 0 ≡ 58) (b : getD text 1 0 ≡ 53)
         at-letter z =
             subst (λ (t : List ℕ). toldTag t (knownIn options (getD text 2 0) (getD text 3 0) 5) ≡ tagIn options t) (sym whole)
             (tag-letter (getD text 2 0) (getD text 3 0) n (drop 5 text) z)
-
--- ---- the length of a tag
-pub length-plain : (o : PartyOption) → letterOf o ≡ 0 → length (tagOf o) ≡ 4
-length-plain o e = tag-length 0 [] o ∙ rw (eq-eqb (letterOf o) 0 e, tailOf)
-
-pub length-lettered : (o : PartyOption) → (letterOf o ≡ 0 → ⊥) → length (tagOf o) ≡ 5
-length-lettered o n = tag-length 0 [] o ∙ rw (ne-eqb (letterOf o) 0 n, tailOf)

@@ -5,10 +5,11 @@ use field_utils::lines::find_lf;
 use party::Party;
 use party::PartyOption;
 use party::blank;
-use party::limits_of;
+use reader::behind;
 use reader::read;
 use writer::is_given;
 use writer::put_field;
+use writer::tag_length;
 use writer::written_length;
 ghost use mathlib.Core.Path.{_≡_};
 ghost use mathlib.Core.Bool.{true, false};
@@ -20,7 +21,7 @@ ghost use Rattle.party.specs.Party.{blank as blankParty, said};
 ghost use Rattle.pages.specs.declared.Tag.the-variants.{Known};
 ghost use Rattle.pages.specs.Pages.{pageMost, lineAt, opens, endsPage, runs, onward, pastLine, tagIn, readField, readable, readAt};
 ghost use Rattle.party.specs.Limits.{options};
-ghost use Rattle.writer.specs.Writing.{tagOf, pieces};
+ghost use Rattle.writer.specs.Writing.{pieces};
 ghost use Rattle.writer.specs.Given.{isGiven};
 ghost use Rattle.writer.specs.ReadBack.{endsCr, identified59F};
 ghost use Rattle.pages.specs.Filing.{isCarried, writable, hasSpace, add as addTo, close as closeAt};
@@ -265,17 +266,6 @@ fn end(next: usize) -> PageRead
     }
 }
 
-// The bytes of a text from a place on, none where it is past the end.
-fn behind(text: &[u8], skip: usize) -> &[u8]
-    ensures { λ r. ⌜ now r ≡ drop skip (now (text .entry)) ⌝ }
-{
-    if skip <= text.len() {
-        &text[skip..]
-    } else {
-        &text[..0]
-    }
-}
-
 // A field's text by its tag: 15, or what the option's reader says of the body.
 fn read_field(text: &[u8], next: usize) -> PageRead
     ensures { λ r. ⌜ toldRead r (readField (now (text .entry)) next .body) ≡ readField (now (text .entry)) next ⌝ }
@@ -419,14 +409,6 @@ fn are_carried(body: &[u8]) -> bool
         }
         i = next;
     }
-}
-
-// How many bytes an option's tag has.
-fn tag_length(option: PartyOption) -> usize
-    ensures { λ r. ⌜ r ≡ length (tagOf option) ⌝ }
-{
-    let limits = limits_of(option);
-    if limits.letter == 0 { 4 } else { 5 }
 }
 
 // Whether an option is 59F.

@@ -121,7 +121,7 @@ struct Names {
 }
 
 // The bytes of a slice from a place on, none where it is past the end.
-fn behind(s: &[u8], skip: usize) -> &[u8]
+pub fn behind(s: &[u8], skip: usize) -> &[u8]
     ensures { λ r. ⌜ now r ≡ drop skip (now (s .entry)) ⌝ }
 {
     if skip <= s.len() { &s[skip..] } else { &s[..0] }

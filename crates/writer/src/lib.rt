@@ -129,7 +129,8 @@ fn lf_count(later: bool) -> usize
     if later { 1 } else { 0 }
 }
 
-fn tag_length(option: PartyOption) -> usize
+// How many bytes the option's tag has: 4 or 5.
+pub fn tag_length(option: PartyOption) -> usize
     ensures { λ r. ⌜ Counted 5 (tagOf option) r ⌝ }
 {
     let limits = limits_of(option);

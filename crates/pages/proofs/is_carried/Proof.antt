@@ -40,12 +40,12 @@ written-length-requires c κs = search needs
 sub-are-carried : tie.Need-sub-are-carried
 sub-are-carried c =
     let s = c .before .before .before .before .before .before .before in
-    omega (arith, c .before .tag-length .ensures, c .written-length .ensures, tag-within (s .args .p) (s .pre))
+    omega (arith, c .before .tag-length .ensures .is, c .written-length .ensures, tag-within (s .args .p) (s .pre))
 
 part-are-carried-start : tie.Need-part-are-carried-start
 part-are-carried-start c =
     let s = c .before .before .before .before .before .before .before .before in
-    omega (arith, c .before .before .tag-length .ensures, c .before .written-length .ensures, tag-within (s .args .p) (s .pre))
+    omega (arith, c .before .before .tag-length .ensures .is, c .before .written-length .ensures, tag-within (s .args .p) (s .pre))
 
 part-are-carried-end : tie.Need-part-are-carried-end
 part-are-carried-end c =
@@ -62,7 +62,7 @@ returns-2 c =
     let e = put .before .before in
     let s = e .before .before in
     let p = s .args .p in
-    let t = c .before .before .before .before .tag-length .ensures in
+    let t = c .before .before .before .before .tag-length .ensures .is in
     let n = c .before .before .before .written-length .ensures in
     c .are-carried .ensures
     ∙ ap (λ (k : ℕ). areCarried (pieces (part k (c .before .before .before .written-length .result) (put .put-field .last .1 .0)))) t

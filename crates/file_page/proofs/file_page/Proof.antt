@@ -1,0 +1,31 @@
+-- `file_page::file_page` is safe: closing is not refused, and gives a position within the buffer. Assumes nothing.
+use mathlib.Core.Path.{sym, subst}
+use Prim.Native.Nat.{_≤_}
+use lib.ListN.{length}
+use lib.Seq.{length-take-le}
+use borrow.Author.Needs.{needs}
+use Rattle.pages.specs.Filing.{Filed}
+use Rattle.filing.proofs.Closing.{closed-within}
+use Rattle.file_page.proofs.file_page.Statement.{statement}
+use Rattle.file_page.proofs.file_page.Tie as tie
+
+within : (c : tie.After-close) → c .close .result .position ≤ length (c .close .last .0)
+within c =
+    let f = c .before .before .before .before .file-all in
+    subst (λ (w : Filed). w .position ≤ length (w .buffer)) (sym (c .close .ensures)) (closed-within (f .last .1 .0) (f .result) (f .ensures))
+
+pub file-page-spec : {M : Type 1} → statement M
+file-page-spec =
+    tie.close
+    (tie.spec
+    (λ c κs. search needs)
+    (λ c κs. search needs)
+    (λ c. within (c .before .before))
+    (λ c. sym (length-take-le (c .before .before .before .close .result .position) (c .before .before .before .close .last .0) (within (c .before .before .before))))
+    (λ c κs. search needs)
+    (λ c. search needs)
+    (λ c κs. search needs)
+    (λ c. search needs)
+    (λ c. search needs)
+    (λ c. search needs)
+    (λ c. search needs))

@@ -1,0 +1,74 @@
+// Reads a page from standard input, files each record that reads and that a page carries on a new page, in the order met, up to the first
+// end line, closes that page and writes it to standard output. Says on standard error which answers are refusals, and how many of each
+// there are.
+mod tally;
+
+use filing::file_next;
+use libc::STDIN_FILENO;
+use libc::STDOUT_FILENO;
+use pages::close;
+use tally::Tally;
+use tally::say;
+ghost use Prim.Native.Nat.{_≤_};
+ghost use lib.ListN.{length};
+ghost use Rattle.filing.specs.Filing.{Closable};
+
+// Files from the page on the one in the buffer, up to the end or a read that does not move on, which is 17: no end line. Gives the position
+// to close at.
+fn file_all(page: &[u8], buf: &mut [u8]) -> usize
+    requires { ⌜ 2 ≤ length (now buf) ⌝ }
+    ensures { λ r. ⌜ Closable (now (buf .exit)) r ⌝ }
+{
+    let mut tally = Tally::new();
+    let mut at = 0;
+    let mut position = 0;
+    loop {
+        let step = file_next(page, at, buf, position);
+        position = step.position;
+        if step.ended {
+            break;
+        }
+        let outcome = step.outcome;
+        tally = tally.note(outcome);
+        if step.next == at {
+            break;
+        }
+        at = step.next;
+    }
+    tally.print();
+    position
+}
+
+// Files the page on a new one, and writes that.
+fn file_page(page: &[u8], buf: &mut [u8])
+    requires { ⌜ 2 ≤ length (now buf) ⌝ }
+{
+    let position = file_all(page, buf);
+    let closed = close(buf, position);
+    let end = closed.position;
+    if !io::write_all(STDOUT_FILENO, &buf[..end]) {
+        say(b"error: the page was not written whole\n");
+    }
+}
+
+// The room for the input is longer than a page, so that a longer input is seen.
+fn run(room: &mut [u8], buf: &mut [u8])
+    requires { ⌜ 2 ≤ length (now buf) ⌝ }
+{
+    let len = io::read_full(STDIN_FILENO, room);
+    if len == 0 {
+        say(b"error: no page on standard input: it is empty\n");
+        return;
+    }
+    if 32768 < len {
+        say(b"error: no page on standard input: it is over 32,768 bytes\n");
+        return;
+    }
+    file_page(&room[..len], buf);
+}
+
+fn main() {
+    let mut room = io::large_buffer();
+    let mut buf = io::large_buffer();
+    run(&mut room, &mut buf);
+}

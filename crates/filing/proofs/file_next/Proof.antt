@@ -1,0 +1,63 @@
+-- `filing::file_next` meets its contract, by what the read gives. Assumes nothing.
+use mathlib.Core.Path.{refl, sym, _∙_}
+use denote.Ref.{now}
+use borrow.Author.Needs.{needs}
+use Rattle.errors.specs.Refusals.{told}
+use Rattle.pages.specs.Code.{toldFiled}
+use Rattle.filing.proofs.Steps.{end-gives, passes, files, onward}
+use Rattle.filing.proofs.file_next.Statement.{statement}
+use Rattle.filing.proofs.file_next.Tie as tie
+
+read-at-requires : tie.Need-read-at-requires
+read-at-requires c κs = search needs
+
+returns : tie.Need-returns
+returns c =
+    let r = c .before .before .read-at in
+    let a = c .before .before .before .before .before .args in (
+      passes (now (a .page)) (a .at) (now (a .buf)) (a .position) (r .result) (r .ensures) (c .if1 .taken) refl (end-gives (told (r .result .outcome))),
+      onward (now (a .page)) (a .at) (now (a .buf)) (a .position) (r .result) (r .ensures),
+    )
+
+enum-known-outcome : tie.Need-enum-known-outcome
+enum-known-outcome c = search needs
+
+returns-2 : tie.Need-returns-2
+returns-2 c =
+    let r = c .before .before .before .before .before .read-at in
+    let a = c .before .before .before .before .before .before .before .before .args in (
+      passes (now (a .page)) (a .at) (now (a .buf)) (a .position) (r .result) (r .ensures) (c .before .before .before .if1 .left) (c .before .outcome .given .1) refl,
+      onward (now (a .page)) (a .at) (now (a .buf)) (a .position) (r .result) (r .ensures),
+    )
+
+enum-told : tie.Need-enum-told
+enum-told c = search needs
+
+add-requires : tie.Need-add-requires
+add-requires c κs = search needs
+
+same-length : tie.Need-same-length
+same-length c = search needs
+
+returns-3 : tie.Need-returns-3
+returns-3 c =
+    let t = c .before .before .before .before in
+    let r = t .before .before .before .before .read-at in
+    let a = t .before .before .before .before .before .before .before .args in
+    let f = c .before .before .add in (
+      files (now (a .page)) (a .at) (now (a .buf)) (a .position) (r .result) (r .ensures) (t .before .before .if1 .left) (t .enum-told .given .1) refl (toldFiled (f .result) (f .last .1 .0)) (f .ensures),
+      onward (now (a .page)) (a .at) (now (a .buf)) (a .position) (r .result) (r .ensures),
+    )
+
+pub file-next-spec : {M : Type 1} → statement M
+file-next-spec =
+    tie.close
+    (tie.spec
+    read-at-requires
+    returns
+    enum-known-outcome
+    returns-2
+    enum-told
+    add-requires
+    same-length
+    returns-3)

@@ -1,0 +1,125 @@
+// Files generated records of all eleven options on a page until space runs out, closes it and reads it back, overwrites some fields and
+// reads it again. Compares each answer with what it is to be, and prints how many there are of each kind.
+mod count;
+mod overwrite;
+mod records;
+
+use count::Adds;
+use count::Reads;
+use errors::Outcome;
+use errors::Refusal;
+use overwrite::is_overwritten;
+use overwrite::overwrite;
+use overwrite::part;
+use overwrite::wanted;
+use pages::add;
+use pages::close;
+use pages::read_at;
+use party::same;
+use records::answer_at;
+use records::answer_to;
+use records::record;
+
+// The most records, far more than a page has space for.
+const MOST: usize = 2000;
+
+// How many records were tried before space ran out, and the position after those that were filed.
+struct Filled {
+    records: usize,
+    position: usize,
+}
+
+// The number and line of a refusal; both are 0 where it is none.
+fn refusal_of(outcome: Outcome) -> Refusal {
+    match outcome {
+        Outcome::Accepted => Refusal { number: 0, line: 0 },
+        Outcome::Refused(e) => e.refusal(),
+    }
+}
+
+// Whether two answers are both accepted, or refused with the same number and line.
+fn is_same(outcome: Outcome, other: Outcome) -> bool {
+    let a = refusal_of(outcome);
+    let b = refusal_of(other);
+    a.number == b.number && a.line == b.line
+}
+
+// Files records until space runs out, which is 24.
+fn fill(buf: &mut [u8]) -> Filled {
+    let mut adds = Adds::new();
+    let mut position = 0;
+    let mut k = 0;
+    loop {
+        let filed = add(record(k), buf, position);
+        let outcome = filed.outcome;
+        let refusal = refusal_of(outcome);
+        adds = adds.note(refusal.number, answer_at(k, position));
+        position = filed.position;
+        if refusal.number == 24 || MOST <= k {
+            break;
+        }
+        k += 1;
+    }
+    adds.print();
+    Filled {
+        records: k,
+        position,
+    }
+}
+
+// What came of a read: whether it gave what it was to give, and the next position.
+struct Checked {
+    agrees: bool,
+    next: usize,
+}
+
+// Reads the field of a record, and compares the answer.
+fn check(page: &[u8], at: usize, k: usize, is_new: bool) -> Checked {
+    let got = read_at(page, at);
+    let outcome = got.outcome;
+    let party = got.party;
+    let answer = wanted(k, is_new);
+    let other = answer.outcome;
+    let other_party = answer.party;
+    Checked {
+        agrees: !got.ended & is_same(outcome, other) & same(party, other_party),
+        next: got.next,
+    }
+}
+
+fn is_end(page: &[u8], at: usize) -> bool {
+    let got = read_at(page, at);
+    got.ended && got.next == page.len()
+}
+
+// Reads the fields of the first so many records and the end, and compares each answer.
+fn read_all(page: &[u8], records: usize, overwritten: bool) {
+    let mut reads = Reads::new();
+    let mut at = 0;
+    let mut k = 0;
+    while k < records {
+        if answer_to(k) == 0 {
+            let is_new = overwritten && is_overwritten(k);
+            let checked = check(page, at, k, is_new);
+            at = checked.next;
+            reads = reads.note(is_new, checked.agrees);
+        }
+        k += 1;
+    }
+    reads.print(page.len(), is_end(page, at));
+}
+
+fn run(buf: &mut [u8], out: &mut [u8]) {
+    let filled = fill(buf);
+    let closed = close(buf, filled.position);
+    let page = part(buf, 0, closed.position);
+    read_all(page, filled.records, false);
+    let len = overwrite(page, filled.records, out);
+    read_all(part(out, 0, len), filled.records, true);
+}
+
+fn main() {
+    let mut buf = io::large_buffer();
+    let mut out = io::large_buffer();
+    run(&mut buf, &mut out);
+}
