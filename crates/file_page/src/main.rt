@@ -9,15 +9,18 @@ use libc::STDOUT_FILENO;
 use pages::close;
 use tally::Tally;
 use tally::say;
+ghost use mathlib.Core.Path.{_≡_};
 ghost use Prim.Native.Nat.{_≤_};
 ghost use lib.ListN.{length};
-ghost use Rattle.filing.specs.Filing.{Closable};
+ghost use Rattle.pages.specs.Demand3.{closing};
+ghost use Rattle.filing.specs.Filing.{Closable, filling, fileAll, recordsOf};
 
 // Files from the page on the one in the buffer, up to the end or a read that does not move on, which is 17: no end line. Gives the position
 // to close at.
 fn file_all(page: &[u8], buf: &mut [u8]) -> usize
     requires { ⌜ 2 ≤ length (now buf) ⌝ }
-    ensures { λ r. ⌜ Closable (now (buf .exit)) r ⌝ }
+    ensures { λ r. ⌜ filling (now (buf .exit)) r ≡ fileAll (now (page .entry)) (now (buf .entry)) ⌝ }
+    ensures closable { λ r. ⌜ Closable (now (buf .exit)) r ⌝ }
 {
     let mut tally = Tally::new();
     let mut at = 0;
@@ -39,9 +42,10 @@ fn file_all(page: &[u8], buf: &mut [u8]) -> usize
     position
 }
 
-// Files the page on a new one, and writes that.
+// Files the page on a new one, and writes that: it is what `whole-page` speaks of, for the records that the page's reads give.
 fn file_page(page: &[u8], buf: &mut [u8])
     requires { ⌜ 2 ≤ length (now buf) ⌝ }
+    ensures { λ r. ⌜ now (buf .exit) ≡ closing (recordsOf (now (page .entry))) (now (buf .entry)) .buffer ⌝ }
 {
     let position = file_all(page, buf);
     let closed = close(buf, position);

@@ -1,2 +1,3 @@
 pub mod Steps
 pub mod Closing
+pub mod Whole

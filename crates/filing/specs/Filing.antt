@@ -1,9 +1,12 @@
 -- One read of a page, and the record that it gives added to another (document 01, 'Pages (added)').
-use Prim.Native.Nat.{ℕ}
+use Prim.Native.Nat.{ℕ, zero, suc}
 use mathlib.Core.Path.{_≡_}
-use mathlib.Core.Bool.{Bool, true, false, not}
-use mathlib.Core.List.{List}
+use mathlib.Core.Bool.{Bool, true, false, not, _||_}
+use mathlib.Core.List.{List, [], _∷_}
+use lib.Dec.{eqb}
+use lib.ListN.{length}
 use Rattle.errors.specs.Refusals.{Reply, accepted, refused, told}
+use Rattle.party.specs.declared.Party.{Party}
 use Rattle.party.specs.Party.{said}
 use Rattle.reader.specs.Reading.{Reading}
 use Rattle.pages.specs.Pages.{PageRead, readAt}
@@ -45,3 +48,43 @@ toldStep r buffer = record { ended = r .ended; reply = told (r .outcome); positi
 -- the page in a buffer can be closed at a position
 abbrev pub Closable : List ℕ → ℕ → Type 0
 Closable buffer at = close buffer at .reply ≡ accepted
+
+-- a page in a buffer, and the position after it
+pub record Filling : Type 0 where
+  pub buffer : List ℕ
+  pub position : ℕ
+
+abbrev pub filling : List ℕ → ℕ → Filling
+filling buffer position = record { buffer = buffer; position = position }
+
+-- the last read: the end, or one that does not move on
+abbrev pub isLast : Bool → ℕ → ℕ → Bool
+isLast ended next at = ended || eqb next at
+
+-- at most n steps from a position on, up to the last
+unfoldable pub fileFrom : ℕ → List ℕ → ℕ → List ℕ → ℕ → Filling
+fileFrom zero page at buffer position = filling buffer position
+fileFrom (suc n) page at buffer position =
+    let s = fileNext page at buffer position in
+    elim (isLast (s .ended) (s .next) at) [
+      | true ↦ filling (s .buffer) (s .position)
+      | false ↦ fileFrom n page (s .next) (s .buffer) (s .position)
+    ]
+
+-- the whole page on an empty one: each step but the last moves past a byte, so that there are no more steps than this
+abbrev pub fileAll : List ℕ → List ℕ → Filling
+fileAll page buffer = fileFrom (suc (length page)) page 0 buffer 0
+
+-- the record of a read, if it gives one, before later ones
+unfoldable pub recordOf : PageRead → List Party → List Party
+recordOf r later = elim (givesRecord (r .ended) (r .reading .reply)) [ true ↦ r .reading .party ∷ later | false ↦ later ]
+
+-- the records that the same reads give, in the order met
+unfoldable pub recordsFrom : ℕ → List ℕ → ℕ → List Party
+recordsFrom zero page at = []
+recordsFrom (suc n) page at =
+    let r = readAt page at in
+    recordOf r (elim (isLast (r .ended) (r .next) at) [ true ↦ [] | false ↦ recordsFrom n page (r .next) ])
+
+abbrev pub recordsOf : List ℕ → List Party
+recordsOf page = recordsFrom (suc (length page)) page 0

@@ -1,18 +1,20 @@
--- `file_page::file_all` meets its contract: each turn but the last moves past at least one byte, and leaves a page that can be closed. Assumes
--- nothing.
-use mathlib.Core.Path.{_≡_, refl}
-use Prim.Native.Nat.{_≤_, _<_, _-_}
+-- `file_page::file_all` meets its contract: each turn but the last moves past at least one byte, leaves a page that can be closed, and what is
+-- yet to be filed is what `fileAll` is. Assumes nothing.
+use mathlib.Core.Logic.{⊎-elim}
+use mathlib.Core.Path.{_≡_, refl, sym, _∙_}
+use Prim.Native.Nat.{suc, _≤_, _<_, _-_}
 use native.Mathlib.Omega.{arith}
 use lib.ListN.{length}
 use denote.Ref.{now}
 use borrow.Author.Needs.{needs}
-use Rattle.filing.specs.Filing.{Closable}
+use Rattle.filing.specs.Filing.{Closable, filling, fileFrom, fileAll}
 use Rattle.filing.proofs.Closing.{stays-closable, empty-closable}
+use Rattle.filing.proofs.Whole.{ends, stops, goes-on, from-start}
 use Rattle.file_page.proofs.file_all.Statement.{statement}
 use Rattle.file_page.proofs.file_all.Tie as tie
 
 abbrev Inv-loop : tie.InvT-loop
-Inv-loop page buf₀ tally₀ at₀ position₀ buf tally at position = (at ≤ length page) × (length buf ≡ length buf₀) × Closable buf position
+Inv-loop page buf₀ tally₀ at₀ position₀ buf tally at position = (at ≤ length page) × (length buf ≡ length buf₀) × Closable buf position × (fileFrom (suc (length page - at)) page at buf position ≡ fileAll page buf₀)
 
 abbrev μ-loop : tie.MeasureT-loop
 μ-loop page buf₀ tally₀ at₀ position₀ buf tally at position = length page - at
@@ -27,7 +29,9 @@ new-requires : tie.Need-new-requires Inv-loop μ-loop
 new-requires c κs = search needs
 
 loop-holds : tie.Need-loop-holds Inv-loop μ-loop
-loop-holds c = (omega arith, refl, empty-closable (now (c .before .before .before .args .buf)) (c .before .before .before .pre))
+loop-holds c =
+    let a = c .before .before .before in
+    (omega arith, refl, empty-closable (now (a .args .buf)) (a .pre), from-start (now (a .args .page)) (now (a .args .buf)))
 
 file-next-requires : tie.Need-file-next-requires Inv-loop μ-loop
 file-next-requires c κs = search needs
@@ -46,7 +50,14 @@ loop-again : tie.Need-loop-again Inv-loop μ-loop
 loop-again c =
     let f = c .before .before .before .before .before .before in
     let o = f .file-next .ensures .1 in
-    (o .1 (omega (arith, o .0, c .if2 .left)), search needs, stays f)
+    let l = f .before .before .loop in
+    let m : l .at < f .file-next .result .next = omega (arith, o .0, c .if2 .left) in (
+      o .1 m,
+      search needs,
+      stays f,
+      sym (goes-on (now (f .before .before .before .before .before .before .args .page)) (l .at) (l .buf) (l .position) (f .file-next .result) (f .file-next .last .1 .1 .0) (f .file-next .ensures .0)
+          (c .before .before .before .if1 .left) m (o .1 m)) ∙ l .inv .3,
+    )
 
 print-requires : tie.Need-print-requires Inv-loop μ-loop
 print-requires c κs = search needs
@@ -55,7 +66,17 @@ same-length : tie.Need-same-length Inv-loop μ-loop
 same-length c = search needs
 
 returns : tie.Need-returns Inv-loop μ-loop
-returns c = stays (c .before .before .before .before)
+returns c =
+    let f = c .before .before .before .before in
+    let l = f .before .before .loop in
+    let page = now (f .before .before .before .before .before .before .args .page) in
+    let n = length page - l .at in (
+      ⊎-elim (λ w. sym (ends page (l .at) (l .buf) (l .position) (f .file-next .result) (f .file-next .last .1 .1 .0) (f .file-next .ensures .0) n (w .0 .taken)))
+          (λ w. sym (stops page (l .at) (l .buf) (l .position) (f .file-next .result) (f .file-next .last .1 .1 .0) (f .file-next .ensures .0) n (w .0 .left) (w .3 .taken)))
+          (c .before .if1 .came)
+          ∙ l .inv .3,
+      stays f,
+    )
 
 pub file-all-spec : {M : Type 1} → statement M
 file-all-spec =
