@@ -2,4 +2,5 @@ pub mod LineBounds
 pub mod Choices
 pub mod Answers
 pub mod Writes
+pub mod Pages
 pub mod Theorems

@@ -35,7 +35,7 @@ Named m accepted = Unit {0}
 Named m (refused k n) = (1 ≤ k) × (n ≤ m)
 
 module _ (m : ℕ) where
-  must-line : (b : Bool) (k n : ℕ) → 1 ≤ k → n ≤ m → Named m (must b k n)
+  pub must-line : (b : Bool) (k n : ℕ) → 1 ≤ k → n ≤ m → Named m (must b k n)
   must-line true k n g h = tt
   must-line false k n g h = (g, h)
 
@@ -43,7 +43,7 @@ module _ (m : ℕ) where
   then-line accepted s h i = i
   then-line (refused k n) s h i = h
 
-  must-then : (b : Bool) (k n : ℕ) (s : Reply) → 1 ≤ k → n ≤ m → Named m s → Named m (must b k n then s)
+  pub must-then : (b : Bool) (k n : ℕ) (s : Reply) → 1 ≤ k → n ≤ m → Named m s → Named m (must b k n then s)
   must-then true k n s g h i = i
   must-then false k n s g h i = (g, h)
 

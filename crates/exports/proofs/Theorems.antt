@@ -6,7 +6,7 @@ use mathlib.Core.Bool.{Bool, true, false, false≢true}
 use mathlib.Core.List.{List, [], _∷_, _++_, map}
 use native.Mathlib.Nat.{add-zero, add-comm, div-eq-of-lt, mod-eq-of-lt, mul-add-div-right, add-mul-mod-self-right}
 use native.Mathlib.Omega.{arith}
-use borrow.Author.Tests.{leb-true}
+use borrow.Author.Tests.{leb-true, le-leb}
 use lib.Dec.{ltb, leb}
 use lib.ListN.{length, getD, take, length-append, length-take, length-map, length-replicate}
 use lib.Seq.{getD-take, take-at}
@@ -27,11 +27,13 @@ use Rattle.writer.specs.Writing.{Writing, writing, writtenField, fits}
 use Rattle.writer.specs.Given.{isGiven, written}
 use Rattle.writer.proofs.Facts.{facts, is-given, names-are}
 use Rattle.writer.proofs.Back.{accepted-is}
+use Rattle.pages.specs.Pages.{readAt}
 use Rattle.exports.specs.declared.Choice.{Choice}
-use Rattle.exports.specs.Exports.{codeOf, storing, given, partyRead, choiceAt, parse, parseWithVariant, partyParse, partyParseWithVariant, wrote, writing as writingOf, partyWrite}
+use Rattle.exports.specs.Exports.{codeOf, storing, given, partyRead, choiceAt, parse, parseWithVariant, partyParse, partyParseWithVariant, wrote, writing as writingOf, partyWrite, readCode, pageRead}
 use Rattle.exports.proofs.LineBounds.{Named, read-line}
 use Rattle.exports.proofs.Choices.{every-parse, every-variant}
 use Rattle.exports.proofs.Answers.{Lined, parse-line, variant-line}
+use Rattle.exports.proofs.Pages.{every-page, page-line}
 
 -- ---- a reader's texts
 -- 38 bytes, of which at most 38 are used
@@ -201,6 +203,19 @@ variant-loads choice body letter bytes =
     loads (leb choice 6) (parseWithVariant (choiceAt choice) body letter) bytes (variant-line (choiceAt choice) body letter)
     (variant-stores (choiceAt choice) body letter)
 
+-- ---- what a page's read leaves
+pub page-stores : (page : List ℕ) (at : ℕ) → Stores (readAt page at .reading)
+page-stores = every-page Stores read-stores (λ k h. made-back blank blank-made (omega arith)) (made-back blank blank-made (omega arith))
+
+-- where a read gives a record and there is room for it, the first 237 bytes load as that record
+pub page-loads : (page : List ℕ) (at : ℕ) (bytes : List ℕ) → 237 ≤ length bytes → readAt page at .ended ≡ false → readAt page at .reading .reply ≡ accepted →
+    unflatten (take 237 (pageRead page at bytes .bytes)) ≡ record { ok = true; party = readAt page at .reading .party }
+page-loads page at bytes h q a =
+    let r = readAt page at .reading in
+    let passes : given true r bytes .code ≡ 0 = rw (le-leb 237 (length bytes) h, a) in
+    let same : pageRead page at bytes .bytes ≡ given true r bytes .bytes = rw (le-leb 237 (length bytes) h, q, a, pageRead) in
+    ap (λ (l : List ℕ). unflatten (take 237 l)) same ∙ loads true r bytes (page-line page at) (page-stores page at) passes
+
 -- ---- what was written
 -- a number below 65,536 says that the bytes are a record, and that its field was written
 pub record Writes (flat buffer : List ℕ) : Type 0 where
@@ -227,9 +242,26 @@ write-accepts flat buffer h = record { ok = go (unflatten flat .ok) (unflatten f
     go false p h = absurd (omega arith)
 
 -- ---- numbers
+-- a number below w beside a multiple of w: both are told
+high : (w k n : ℕ) → n < w → (k * w + n) / w ≡ k
+high w k n h = mul-add-div-right (omega arith) k n ∙ (ap (λ (m : ℕ). k + m) (div-eq-of-lt h) ∙ add-zero k)
+
+low : (w k n : ℕ) → n < w → (k * w + n) % w ≡ n
+low w k n h = ap (λ (m : ℕ). m % w) (add-comm (k * w) n) ∙ (add-mul-mod-self-right n k w ∙ mod-eq-of-lt h)
+
 -- a refusal's number and line are told by its code: the line is below 65,536
 pub code-number : (k n : ℕ) → n < 65536 → codeOf (refused k n) / 65536 ≡ k
-code-number k n h = mul-add-div-right (omega arith) k n ∙ (ap (λ (m : ℕ). k + m) (div-eq-of-lt h) ∙ add-zero k)
+code-number k n h = high 65536 k n h
 
 pub code-line : (k n : ℕ) → n < 65536 → codeOf (refused k n) % 65536 ≡ n
-code-line k n h = ap (λ (m : ℕ). m % 65536) (add-comm (k * 65536) n) ∙ (add-mul-mod-self-right n k 65536 ∙ mod-eq-of-lt h)
+code-line k n h = low 65536 k n h
+
+-- a read's code, whether it is the end, and how far it moved are told by its number: it moves past at most 32,768 bytes (`moved-most`)
+pub read-code : (r : Reply) (moved : ℕ) → moved ≤ 32768 → readCode false r moved / 4294967296 ≡ codeOf r
+read-code r moved h = high 4294967296 (codeOf r) moved (omega (arith, h))
+
+pub read-moved : (r : Reply) (moved : ℕ) → moved ≤ 32768 → readCode false r moved % 4294967296 ≡ moved
+read-moved r moved h = low 4294967296 (codeOf r) moved (omega (arith, h))
+
+pub read-end : (r : Reply) (moved : ℕ) → moved ≤ 32768 → readCode true r moved % 4294967296 ≡ 65536 + moved
+read-end r moved h = mod-eq-of-lt (omega (arith, h))

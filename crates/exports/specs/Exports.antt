@@ -1,5 +1,5 @@
 -- What the functions for other languages answer, which document 01 leaves to us: a number, with the lent bytes as the call left them.
-use Prim.Native.Nat.{ℕ, _+_, _*_}
+use Prim.Native.Nat.{ℕ, _+_, _*_, _-_}
 use mathlib.Core.Bool.{Bool, true, false}
 use mathlib.Core.List.{List, [], _∷_}
 use lib.Dec.{leb}
@@ -15,6 +15,8 @@ use Rattle.field50.specs.Choices.{instructingParty, orderingCustomerFGH, orderi
 use Rattle.field59.specs.Choices.{field59, debtor, field59By, debtorBy}
 use Rattle.writer.specs.Writing.{Writing}
 use Rattle.writer.specs.Given.{written}
+use Rattle.pages.specs.Pages.{PageRead, readAt}
+use Rattle.pages.specs.Filing.{Filed, add, close}
 use Rattle.exports.specs.declared.Choice.{Choice}
 use Rattle.exports.specs.declared.Choice.the-variants.{Field50InstructingParty, Field50OrderingCustomerFGH, Field50OrderingCustomerAFK, Field50OrderingCustomerNCF, Field50Creditor, Field59, Field59Debtor}
 
@@ -98,6 +100,38 @@ writing l buffer =
 -- `party_write`
 abbrev pub partyWrite : List ℕ → List ℕ → Called
 partyWrite bytes buffer = writing (unflatten bytes) buffer
+
+-- a read of a page as a number: the reply's × 4,294,967,296, 65,536 more at the end, and how many bytes it moved past
+abbrev pub readCode : Bool → Reply → ℕ → ℕ
+readCode true r moved = 65536 + moved
+readCode false r moved = codeOf r * 4294967296 + moved
+
+-- its record is stored; the end and a refusal change no byte
+abbrev pub readInto : PageRead → ℕ → List ℕ → Called
+readInto r at bytes = record {
+  code = readCode (r .ended) (r .reading .reply) (r .next - at);
+  bytes = elim (r .ended) [ true ↦ bytes | false ↦ storing (r .reading .reply) (r .reading .party) bytes .bytes ];
+}
+
+-- `page_read`: 24 where the lent record has under 237 bytes, else the read
+abbrev pub pageRead : List ℕ → ℕ → List ℕ → Called
+pageRead page at bytes =
+    elim (leb 237 (length bytes)) [
+      | true ↦ readInto (readAt page at) at bytes
+      | false ↦ record { code = codeOf (refused 24 0) * 4294967296; bytes = bytes }
+    ]
+
+-- what adding and closing give, in these terms: the position after, or the refusal
+abbrev pub filed : Filed → Called
+filed f = record { code = lengthOr (f .reply) (f .position); bytes = f .buffer }
+
+-- `page_add`: bytes that are no record load as the blank one, which no reader gives: 22
+abbrev pub pageAdd : List ℕ → List ℕ → ℕ → Called
+pageAdd bytes buffer at = filed (add buffer at (said (unflatten bytes .party)))
+
+-- `page_close`
+abbrev pub pageClose : List ℕ → ℕ → Called
+pageClose buffer at = filed (close buffer at)
 
 -- ---- lines
 -- the line of a refusal, 0 where accepted

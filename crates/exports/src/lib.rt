@@ -1,5 +1,6 @@
-// Party fields for programs in other languages, on numbers and lent bytes. A record is 237 bytes, as crate flat lays it out. The number
-// that a call gives is the refusal's number × 65,536 and its line, or below 65,536 where it accepts; a refusal changes no byte.
+// Party fields and pages of them for programs in other languages, on numbers and lent bytes. A record is 237 bytes, as crate flat lays it
+// out. The number that a call gives is the refusal's number × 65,536 and its line, or below 65,536 where it accepts; `page_read` gives more
+// beside it. A refusal changes no byte.
 use errors::Outcome;
 use errors::ParseError;
 use field50::Field50Creditor;
@@ -12,14 +13,19 @@ use field59::Field59Debtor;
 use flat::load;
 use flat::option_at;
 use flat::store;
+use pages::Filed;
+use pages::add;
+use pages::close;
+use pages::read_at;
 use reader::Answer;
 use reader::read;
 use writer::to_swift_string;
 ghost use mathlib.Core.Path.{_≡_};
 ghost use Prim.Native.Nat.{_≤_};
-ghost use Rattle.errors.specs.Refusals.{refusalOf, toldError};
+ghost use Rattle.errors.specs.declared.Outcome.the-variants.{Accepted};
+ghost use Rattle.errors.specs.Refusals.{refusalOf, toldError, told};
 ghost use Rattle.reader.specs.Reading.{toldAnswer};
-ghost use Rattle.exports.specs.Exports.{codeOf, given, partyRead, choiceAt, parse as parseOf, parseWithVariant, partyParse, partyParseWithVariant, partyWrite, lineOf};
+ghost use Rattle.exports.specs.Exports.{codeOf, given, partyRead, choiceAt, parse as parseOf, parseWithVariant, partyParse, partyParseWithVariant, partyWrite, pageRead, pageAdd, pageClose, lengthOr, lineOf};
 
 // The seven choices, under the names of the Rust's enums.
 pub enum Choice {
@@ -162,4 +168,54 @@ pub extern "C" fn party_write(record: &[u8], buf: &mut [u8]) -> u32
         return code(e);
     }
     written.len as u32
+}
+
+// Reads the page at a position and stores the record that it gives; the end changes no byte. Gives the number × 4,294,967,296, 65,536 more
+// at the end, and how many bytes the read moved past, 0 at 17, 18 and 21.
+#[no_mangle]
+pub extern "C" fn page_read(page: &[u8], at: usize, record: &mut [u8]) -> u64
+    ensures { λ r. ⌜ (record { code = r; bytes = now («record» .exit) }) ≡ pageRead (now (page .entry)) at (now («record» .entry)) ⌝ }
+{
+    if record.len() < 237 {
+        return (code(ParseError::NoSpace) as u64) * 4294967296;
+    }
+    let got = read_at(page, at);
+    let moved = (got.next - at) as u64;
+    if got.ended {
+        return 65536 + moved;
+    }
+    let outcome = got.outcome;
+    let party = got.party;
+    let number = give(true, Answer { outcome, party }, record);
+    (number as u64) * 4294967296 + moved
+}
+
+// The position that adding or closing gave, or the refusal.
+fn filed(answer: Filed) -> u32
+    requires { ⌜ (lineOf (told (answer .outcome)) ≤ 2048) × (answer .outcome ≡ Accepted → answer .position ≤ 32768) ⌝ }
+    ensures { λ r. ⌜ r ≡ lengthOr (told (answer .outcome)) (answer .position) ⌝ }
+{
+    let outcome = answer.outcome;
+    if let Outcome::Refused(e) = outcome {
+        return code(e);
+    }
+    answer.position as u32
+}
+
+// Adds a stored record to the page in a buffer at a position, and gives the position after. Bytes that are no record are 22.
+#[no_mangle]
+pub extern "C" fn page_add(record: &[u8], buf: &mut [u8], position: usize) -> u32
+    ensures { λ r. ⌜ (record { code = r; bytes = now (buf .exit) }) ≡ pageAdd (now («record» .entry)) (now (buf .entry)) position ⌝ }
+{
+    let loaded = load(record);
+    let party = loaded.party;
+    filed(add(party, buf, position))
+}
+
+// Closes the page in a buffer at a position, and gives the page's length.
+#[no_mangle]
+pub extern "C" fn page_close(buf: &mut [u8], position: usize) -> u32
+    ensures { λ r. ⌜ (record { code = r; bytes = now (buf .exit) }) ≡ pageClose (now (buf .entry)) position ⌝ }
+{
+    filed(close(buf, position))
 }

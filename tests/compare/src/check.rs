@@ -1,12 +1,13 @@
 //! Both asked, and their answers compared, with every byte that was lent.
 
+use crate::expected;
 use crate::flat::{self, Flat};
 use crate::generate::Family;
 use crate::tally::Tally;
-use crate::{expected, ours};
 use party_answers::format::escaped;
 use party_answers::model::{Answer, Call, Case, Choice, Opt, Reader};
 use party_answers::random::Random;
+use party_compare::ours;
 use std::hint::black_box;
 
 /// Stale bytes before what is lent, and the length of the room.

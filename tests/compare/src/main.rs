@@ -7,7 +7,6 @@ mod check;
 mod expected;
 mod flat;
 mod generate;
-mod ours;
 mod smallest;
 mod tally;
 

@@ -27,6 +27,21 @@ unsafe extern "C" {
         record_len: usize,
     ) -> u32;
     fn party_write(record: *const u8, record_len: usize, buf: *mut u8, buf_len: usize) -> u32;
+    fn page_read(
+        page: *const u8,
+        page_len: usize,
+        at: usize,
+        record: *mut u8,
+        record_len: usize,
+    ) -> u64;
+    fn page_add(
+        record: *const u8,
+        record_len: usize,
+        buf: *mut u8,
+        buf_len: usize,
+        position: usize,
+    ) -> u32;
+    fn page_close(buf: *mut u8, buf_len: usize, position: usize) -> u32;
 }
 
 /// `party_read`.
@@ -55,6 +70,24 @@ pub fn parse_with_variant(choice: u8, body: &[u8], letter: u8, record: &mut [u8]
 pub fn write(record: &[u8], buf: &mut [u8]) -> u32 {
     // SAFETY: as in `read`.
     unsafe { party_write(record.as_ptr(), record.len(), buf.as_mut_ptr(), buf.len()) }
+}
+
+/// `page_read`.
+pub fn read_page(page: &[u8], at: usize, record: &mut [u8]) -> u64 {
+    // SAFETY: as in `read`.
+    unsafe { page_read(page.as_ptr(), page.len(), at, record.as_mut_ptr(), record.len()) }
+}
+
+/// `page_add`.
+pub fn add(record: &[u8], buf: &mut [u8], position: usize) -> u32 {
+    // SAFETY: as in `read`.
+    unsafe { page_add(record.as_ptr(), record.len(), buf.as_mut_ptr(), buf.len(), position) }
+}
+
+/// `page_close`.
+pub fn close(buf: &mut [u8], position: usize) -> u32 {
+    // SAFETY: as in `read`.
+    unsafe { page_close(buf.as_mut_ptr(), buf.len(), position) }
 }
 
 /// The reader's function. The options and the choices are numbered in the order of their enums.

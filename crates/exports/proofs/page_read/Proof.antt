@@ -1,0 +1,90 @@
+-- `exports::page_read` meets its contract: a read's reply and how far it moved make a number of 64 bits.
+-- Assumes nothing.
+use native.Mathlib.Omega.{arith}
+use borrow.Author.Needs.{needs}
+use Rattle.exports.proofs.Pages.{short, answer-line, answer-next, read-ended, read-given}
+use Rattle.exports.proofs.page_read.Statement.{statement}
+use Rattle.exports.proofs.page_read.Tie as tie
+
+code-requires : tie.Need-code-requires
+code-requires c κs = search needs
+
+cast-result : tie.Need-cast-result
+cast-result c = search needs
+
+mul-result : tie.Need-mul-result
+mul-result c = search needs
+
+returns : tie.Need-returns
+returns c =
+    let a = c .before .before .before .before .args in
+    rw (c .code .ensures) (short (a .page .now) (a .at) (a .«record» .now) (c .before .if1 .taken))
+
+read-at-requires : tie.Need-read-at-requires
+read-at-requires c κs = search needs
+
+sub-moved : tie.Need-sub-moved
+sub-moved c =
+    let f = c .before in
+    let a = f .before .before .before .before .args in
+    answer-next (a .page .now) (a .at) (a .«record» .now) (f .read-at .result) (f .read-at .ensures) .0
+
+add-result : tie.Need-add-result
+add-result c =
+    let f = c .before .before in
+    let a = f .before .before .before .before .args in
+    omega (arith, answer-next (a .page .now) (a .at) (a .«record» .now) (f .read-at .result) (f .read-at .ensures) .1)
+
+returns-2 : tie.Need-returns-2
+returns-2 c =
+    let f = c .before .before in
+    let a = f .before .before .before .before .args in
+    read-ended (a .page .now) (a .at) (a .«record» .now) (f .read-at .result) (f .read-at .ensures) (f .before .if1 .left) (c .if2 .taken)
+
+give-requires : tie.Need-give-requires
+give-requires c κs =
+    let f = c .before .before .before .before in
+    let a = f .before .before .before .before .args in
+    answer-line (a .page .now) (a .at) (a .«record» .now) (f .read-at .result) (f .read-at .ensures)
+
+cast-result-2 : tie.Need-cast-result-2
+cast-result-2 c = search needs
+
+mul-result-2 : tie.Need-mul-result-2
+mul-result-2 c = search needs
+
+add-result-2 : tie.Need-add-result-2
+add-result-2 c =
+    let f = c .before .before .before .before .before .before .before in
+    let a = f .before .before .before .before .args in
+    omega (arith, answer-next (a .page .now) (a .at) (a .«record» .now) (f .read-at .result) (f .read-at .ensures) .1)
+
+same-length : tie.Need-same-length
+same-length c = search needs
+
+returns-3 : tie.Need-returns-3
+returns-3 c =
+    let g = c .before .before in
+    let f = g .before .before .before .before .before in
+    let a = f .before .before .before .before .args in
+    read-given (a .page .now) (a .at) (a .«record» .now) (f .read-at .result) (f .read-at .ensures) (f .before .if1 .left) (g .give .result) (g .give .last .1 .1 .0) (g .give .ensures)
+    (g .before .before .before .if2 .left)
+
+pub page-read-spec : {M : Type 1} → statement M
+page-read-spec =
+    tie.close
+    (tie.spec
+    code-requires
+    cast-result
+    mul-result
+    returns
+    read-at-requires
+    sub-moved
+    add-result
+    returns-2
+    give-requires
+    cast-result-2
+    mul-result-2
+    add-result-2
+    same-length
+    returns-3)

@@ -1,0 +1,3 @@
+//! The static library of crate exports, for Rust programs.
+
+pub mod ours;

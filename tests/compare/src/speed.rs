@@ -1,0 +1,194 @@
+//! Times the published Rust and our static library, in one process: one call each of a reader, a
+//! choice that detects, or a writer, and pages of fields. Prints a table with both figures and the
+//! ratio.
+//!
+//! In each round the Rust makes its calls and then ours makes as many; of all rounds the fastest
+//! of each counts. What is lent is the same in each call, and holds what the last one left there.
+//!
+//! The Rust has no pages. For it a page is written by `to_swift_string` and LF into one `String`,
+//! and read by its lines that start with a colon; it tests neither that a field reads back nor
+//! where the page ends.
+
+use party_answers::model::{Choice, Opt};
+use party_compare::ours;
+use std::hint::black_box;
+use std::time::Instant;
+use swift_mt_message::fields::field50::*;
+use swift_mt_message::fields::field59::*;
+use swift_mt_message::traits::SwiftField;
+
+const ROUNDS: usize = 40;
+const CALLS: usize = 10_000;
+const RECORD: usize = 237;
+const LONGEST_FIELD: usize = 188;
+const PAGE: usize = 32_768;
+const TAG: &str = ":50K:";
+
+const ACCOUNT_AND_NAMES: &str =
+    "/DE89370400440532013000\nACME TRADING GMBH\nHAUPTSTRASSE 12\n60311 FRANKFURT AM MAIN";
+const ACCOUNT_AND_NUMBERED: &str =
+    "/DE89370400440532013000\n1/ACME TRADING GMBH\n2/HAUPTSTRASSE 12\n3/DE/60311 FRANKFURT";
+const ACCOUNT_AND_BIC: &str = "/DE89370400440532013000\nDEUTDEFF500";
+const NAMES: &str = "ACME TRADING GMBH\nHAUPTSTRASSE 12\n60311 FRANKFURT AM MAIN";
+const BIC: &str = "DEUTDEFF500";
+const NAME: &str = "ACME TRADING GMBH";
+
+fn main() {
+    println!("| what | bytes | Rust, ns | ours, ns | times as fast |");
+    println!("|---|---|---|---|---|");
+    option::<Field50NoOption>(Opt::N50, NAMES);
+    option::<Field50A>(Opt::A50, ACCOUNT_AND_BIC);
+    option::<Field50F>(Opt::F50, ACCOUNT_AND_NUMBERED);
+    option::<Field50K>(Opt::K50, ACCOUNT_AND_NAMES);
+    option::<Field50C>(Opt::C50, BIC);
+    option::<Field50L>(Opt::L50, NAME);
+    option::<Field50G>(Opt::G50, ACCOUNT_AND_BIC);
+    option::<Field50H>(Opt::H50, ACCOUNT_AND_NAMES);
+    option::<Field59NoOption>(Opt::N59, ACCOUNT_AND_NAMES);
+    option::<Field59A>(Opt::A59, ACCOUNT_AND_BIC);
+    option::<Field59F>(Opt::F59, ACCOUNT_AND_NUMBERED);
+    choice::<Field50InstructingParty>(Choice::InstructingParty, NAME);
+    choice::<Field50OrderingCustomerFGH>(Choice::OrderingCustomerFGH, ACCOUNT_AND_NAMES);
+    choice::<Field50OrderingCustomerAFK>(Choice::OrderingCustomerAFK, ACCOUNT_AND_NAMES);
+    choice::<Field50OrderingCustomerNCF>(Choice::OrderingCustomerNCF, ACCOUNT_AND_NUMBERED);
+    choice::<Field50Creditor>(Choice::Creditor, ACCOUNT_AND_NAMES);
+    choice::<Field59>(Choice::Beneficiary, ACCOUNT_AND_NAMES);
+    choice::<Field59Debtor>(Choice::Debtor, ACCOUNT_AND_NAMES);
+    for fields in [1, 10, 100, (PAGE - 2) / (TAG.len() + ACCOUNT_AND_NAMES.len() + 1)] {
+        page(fields);
+    }
+}
+
+/// An option's rows: a body read, and its record written.
+fn option<T: SwiftField>(option: Opt, body: &str) {
+    let name = option.name();
+    let mut record = [0; RECORD];
+    let value = T::parse(body).expect("the Rust reads it");
+    assert_eq!(ours::read(option as u8, body.as_bytes(), &mut record), 0, "{name} is read");
+    row(
+        &format!("{name}, read"),
+        body.len(),
+        || drop(black_box(T::parse(black_box(body)))),
+        || {
+            black_box(ours::read(black_box(option as u8), black_box(body.as_bytes()), &mut record));
+            black_box(&record);
+        },
+    );
+    let text = value.to_swift_string();
+    let mut field = [0; LONGEST_FIELD];
+    let length = ours::write(&record, &mut field) as usize;
+    assert_eq!(field.get(..length), Some(text.as_bytes()), "{name} is written");
+    row(
+        &format!("{name}, written"),
+        length,
+        || drop(black_box(black_box(&value).to_swift_string())),
+        || {
+            black_box(ours::write(black_box(&record), &mut field));
+            black_box(&field);
+        },
+    );
+}
+
+/// A choice's row: a body whose option it detects.
+fn choice<T: SwiftField>(choice: Choice, body: &str) {
+    let mut record = [0; RECORD];
+    let name = choice.name();
+    T::parse(body).expect("the Rust reads it");
+    assert_eq!(ours::parse(choice as u8, body.as_bytes(), &mut record), 0, "{name} is read");
+    row(
+        &format!("`{name}`"),
+        body.len(),
+        || drop(black_box(T::parse(black_box(body)))),
+        || {
+            black_box(ours::parse(
+                black_box(choice as u8),
+                black_box(body.as_bytes()),
+                &mut record,
+            ));
+            black_box(&record);
+        },
+    );
+}
+
+/// The rows of a page of so many fields 50K: filed and closed, and read to its end.
+fn page(fields: usize) {
+    let value = Field50K::parse(ACCOUNT_AND_NAMES).expect("the Rust reads it");
+    let mut record = [0; RECORD];
+    ours::read(Opt::K50 as u8, ACCOUNT_AND_NAMES.as_bytes(), &mut record);
+    let mut buffer = vec![0; PAGE];
+    let text = written(&value, fields);
+    let length = filed(&record, &mut buffer, fields);
+    assert_eq!(&buffer[..length], text.as_bytes(), "the page is filed");
+    assert_eq!((parsed(&text), read(&buffer[..length], &mut record)), (fields, fields));
+    row(
+        &format!("a page of {fields} filed"),
+        length,
+        || drop(black_box(written(black_box(&value), fields))),
+        || _ = black_box(filed(black_box(&record), &mut buffer, fields)),
+    );
+    row(
+        &format!("a page of {fields} read"),
+        length,
+        || _ = black_box(parsed(black_box(&text))),
+        || _ = black_box(read(black_box(text.as_bytes()), &mut record)),
+    );
+}
+
+/// A page as the Rust writes its fields.
+fn written(value: &Field50K, fields: usize) -> String {
+    let mut page = String::with_capacity(PAGE);
+    for _ in 0..fields {
+        page.push_str(&value.to_swift_string());
+        page.push('\n');
+    }
+    page.push_str("-\n");
+    page
+}
+
+/// How many of a page's fields the Rust reads.
+fn parsed(page: &str) -> usize {
+    let fields = page.strip_suffix("\n-\n").unwrap_or(page).split("\n:");
+    let bodies = fields.filter_map(|field| field.trim_start_matches(':').strip_prefix(&TAG[1..]));
+    bodies.filter(|body| black_box(Field50K::parse(body)).is_ok()).count()
+}
+
+/// Files and closes a page with ours, and gives its length.
+fn filed(record: &[u8], buffer: &mut [u8], fields: usize) -> usize {
+    let mut position = 0;
+    for _ in 0..fields {
+        position = ours::add(record, buffer, position) as usize;
+    }
+    ours::close(buffer, position) as usize
+}
+
+/// How many records ours reads, up to the end.
+fn read(page: &[u8], record: &mut [u8]) -> usize {
+    let (mut at, mut records) = (0, 0);
+    loop {
+        let answer = ours::read_page(page, at, record);
+        if answer >> 16 != 0 {
+            return records;
+        }
+        at += answer as usize;
+        records += 1;
+    }
+}
+
+fn row(what: &str, bytes: usize, mut rust: impl FnMut(), mut ours: impl FnMut()) {
+    let (mut theirs, mut own) = (f64::MAX, f64::MAX);
+    let calls = (CALLS * LONGEST_FIELD / bytes).clamp(1, CALLS);
+    for _ in 0..ROUNDS {
+        theirs = theirs.min(each(calls, &mut rust));
+        own = own.min(each(calls, &mut ours));
+    }
+    println!("| {what} | {bytes} | {theirs:.0} | {own:.0} | {:.1} |", theirs / own);
+}
+
+/// Nanoseconds a call.
+fn each(calls: usize, call: &mut impl FnMut()) -> f64 {
+    let start = Instant::now();
+    for _ in 0..calls {
+        call();
+    }
+    start.elapsed().as_nanos() as f64 / calls as f64
+}
