@@ -23,13 +23,16 @@ use Rattle.flat.proofs.Laws.{none, Sizes, flat-size, loaded-not, stored-whole}
 use Rattle.flat.proofs.Theorems.{loads-back}
 use Rattle.reader.specs.Reading.{Reading, giving, fourTexts, partyOf, Found}
 use Rattle.reader.specs.Options.{layoutOf, foundBy, bodyReply, read}
-use Rattle.writer.specs.Writing.{Writing, writing, writtenField, fits}
-use Rattle.writer.specs.Given.{isGiven, written}
+use Rattle.field_utils.specs.Names.{parseLines, parseNameAndAddress}
+use Rattle.writer.specs.Writing.{Writing, writing, writtenField, nameLines, fits}
+use Rattle.writer.specs.Given.{areNames, isGiven, written}
 use Rattle.writer.proofs.Facts.{facts, is-given, names-are}
 use Rattle.writer.proofs.Back.{accepted-is}
 use Rattle.pages.specs.Pages.{readAt}
+use Rattle.pages.specs.Filing.{writable, recordReply, add}
+use Rattle.pages.proofs.Fold.{add-is}
 use Rattle.exports.specs.declared.Choice.{Choice}
-use Rattle.exports.specs.Exports.{codeOf, storing, given, partyRead, choiceAt, parse, parseWithVariant, partyParse, partyParseWithVariant, wrote, writing as writingOf, partyWrite, readCode, pageRead}
+use Rattle.exports.specs.Exports.{codeOf, storing, given, partyRead, choiceAt, parse, parseWithVariant, partyParse, partyParseWithVariant, wrote, writing as writingOf, partyWrite, readCode, pageRead, filed, pageAdd}
 use Rattle.exports.proofs.LineBounds.{Named, read-line}
 use Rattle.exports.proofs.Choices.{every-parse, every-variant}
 use Rattle.exports.proofs.Answers.{Lined, parse-line, variant-line}
@@ -240,6 +243,22 @@ write-accepts flat buffer h = record { ok = go (unflatten flat .ok) (unflatten f
     go : (ok : Bool) (p : Party) → writingOf (record { ok = ok; party = p }) buffer .code < 65536 → (ok ≡ true) × (written (said p) buffer .reply ≡ accepted)
     go true p h = (refl, accepts-it p buffer h)
     go false p h = absurd (omega arith)
+
+-- ---- what was added
+-- no reader gives the blank record, as which bytes that are no record load
+blank-not : isGiven (said blank) ≡ false
+unfolding isGiven said areNames nameLines parseNameAndAddress parseLines
+blank-not = refl
+
+blank-refused : (len at : ℕ) → recordReply len at (said blank) ≡ refused 22 0
+unfolding recordReply
+blank-refused len at = rw blank-not
+
+pub none-added : (flat buffer : List ℕ) (at : ℕ) → isFlat flat ≡ false → writable buffer at ≡ true →
+    pageAdd flat buffer at ≡ record { code = codeOf (refused 22 0); bytes = buffer }
+none-added flat buffer at e w =
+    ap (λ (l : Loaded). filed (add buffer at (said (l .party)))) (loaded-not flat e)
+    ∙ ap filed (add-is buffer at (said blank) w (blank-refused (length buffer) at))
 
 -- ---- numbers
 -- a number below w beside a multiple of w: both are told
