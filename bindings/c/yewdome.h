@@ -96,7 +96,7 @@ uint32_t party_write(const uint8_t *record, size_t record_length,
 /*
  * Reads the page at a position, 0 at first, and stores the record, if it gives one; the end changes
  * no byte. The functions below take apart what it gives. The next read is at the position and the
- * bytes moved past; 17, 18 and 21 move past none.
+ * bytes moved past; 17, 18, 21 and 24 (`record` has under 237 bytes) move past none.
  */
 uint64_t page_read(const uint8_t *page, size_t page_length, size_t at,
                    uint8_t *record, size_t record_length);

@@ -171,7 +171,7 @@ pub extern "C" fn party_write(record: &[u8], buf: &mut [u8]) -> u32
 }
 
 // Reads the page at a position and stores the record that it gives; the end changes no byte. Gives the number × 4,294,967,296, 65,536 more
-// at the end, and how many bytes the read moved past, 0 at 17, 18 and 21.
+// at the end, and how many bytes the read moved past, 0 at 17, 18, 21 and 24.
 #[no_mangle]
 pub extern "C" fn page_read(page: &[u8], at: usize, record: &mut [u8]) -> u64
     ensures { λ r. ⌜ (record { code = r; bytes = now («record» .exit) }) ≡ pageRead (now (page .entry)) at (now («record» .entry)) ⌝ }
