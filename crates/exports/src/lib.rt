@@ -202,7 +202,7 @@ fn filed(answer: Filed) -> u32
     answer.position as u32
 }
 
-// Adds a stored record to the page in a buffer at a position, and gives the position after. Bytes that are no record are 22.
+// Adds a stored record to the page in a buffer at a position, and gives the position after. Bytes that are no record are 22, after 21.
 #[no_mangle]
 pub extern "C" fn page_add(record: &[u8], buf: &mut [u8], position: usize) -> u32
     ensures { λ r. ⌜ (record { code = r; bytes = now (buf .exit) }) ≡ pageAdd (now («record» .entry)) (now (buf .entry)) position ⌝ }

@@ -142,7 +142,7 @@ fn is_flat(s: &[u8]) -> bool
     s[1] <= 1
 }
 
-// Loads the record that store stored.
+// Loads the record whose bytes these are: what store stored, where its lengths and its count are at most 255.
 pub fn load(s: &[u8]) -> Loaded
     ensures { λ r. ⌜ r ≡ unflatten (now (s .entry)) ⌝ }
 {

@@ -7,17 +7,17 @@ use native.Mathlib.Nat.{zero-add}
 use native.Mathlib.Omega.{arith}
 use lib.Dec.{eqb}
 use lib.ListN.{length, take, drop, set, length-append}
-use lib.Seq.{drop-append-seam, set-split, append-snoc}
+use lib.Seq.{paste, drop-append-seam, set-split, append-snoc}
 use Rattle.errors.specs.Refusals.{accepted, refused}
 use Rattle.party.specs.declared.PartyOption.{PartyOption}
 use Rattle.party.specs.declared.PartyOption.the-variants.{Field50NoOption, Field50A, Field50F, Field50K, Field50C, Field50L, Field50G, Field50H, Field59NoOption, Field59A, Field59F}
 use Rattle.party.specs.declared.Party.{Party}
 use Rattle.party.specs.Limits.{placeOf}
 use Rattle.party.specs.Party.{Said, said}
-use Rattle.swift_utils.proofs.Parts.{part, part-drop}
 use borrow.Author.Tests.{le-leb}
 use Rattle.writer.specs.Writing.{tagOf, writtenBody, writtenField, pieces, put, placed}
 use Rattle.writer.specs.Given.{isGiven}
+use Rattle.writer.specs.Code.{Puts}
 use Rattle.writer.specs.ReadBack.{identified59F}
 use Rattle.pages.specs.Filing.{isCarried, writable, hasSpace, withLf, endLine, Filed, recordReply, add, close}
 use Rattle.pages.specs.Code.{areCarried, is59F}
@@ -81,18 +81,6 @@ pub put-set : (d : List ℕ) (at b : ℕ) → at < length d → set d at b ≡ p
 put-set d at b h =
     set-split d at b h ∙ sym (append-snoc (take at d) b (drop (suc at) d)) ∙ ap (λ (k : ℕ). take at d ++ (b ∷ []) ++ drop k d) (let q : suc at ≡ at + 1 = omega arith in q)
 
--- ---- the body of a field that was put at the start
-pub body-part : (d : List ℕ) (s : Said) → length (writtenField s) ≤ length d → part (length (tagOf (s .option))) (length (writtenField s)) (put d 0 (writtenField s)) ≡ writtenBody s
-unfolding writtenField
-body-part d s h =
-    let f = writtenField s in
-    let t = tagOf (s .option) in
-    let e : 0 + length t ≡ length t = zero-add (length t) in
-    let w : take (length f) (put d 0 f) ≡ f = ap (λ (k : ℕ). take k (put d 0 f)) (sym (zero-add (length f))) ∙ put-take d 0 f (omega (arith, h)) in
-    let z : part 0 (length f) (put d 0 f) ≡ take (length f) (put d 0 f) = ap (λ (k : ℕ). take k (put d 0 f)) (let q : length f - 0 ≡ length f = omega arith in q) in
-    ap (λ (k : ℕ). part k (length f) (put d 0 f)) (sym e) ∙ sym (part-drop (length t) 0 (length f) (put d 0 f))
-    ∙ ap (drop (length t)) (z ∙ w) ∙ drop-append-seam t (writtenBody s)
-
 -- ---- 59F with an identifier
 option-59F : (o : PartyOption) → is59F o ≡ eqb (placeOf o) (placeOf Field59F)
 option-59F Field50NoOption = refl
@@ -122,6 +110,15 @@ carried-identified s e = carried-is s ∙ rw e (and-false (areCarried (pieces (w
 pub carried-pieces : (s : Said) → identified59F s ≡ false → isCarried s ≡ areCarried (pieces (writtenBody s))
 carried-pieces s e = carried-is s ∙ rw e (and-true (areCarried (pieces (writtenBody s))))
 
+-- ---- the parts of a field that is written out
+pub tag-within : (p : Party) → length (tagOf (p .option)) ≤ length (writtenField (said p))
+unfolding writtenField said
+tag-within p = omega (arith, length-append (tagOf (p .option)) (writtenBody (said p)))
+
+pub field-body : (p : Party) {field : List ℕ} → field ≡ writtenField (said p) → drop (length (tagOf (p .option))) field ≡ writtenBody (said p)
+unfolding writtenField said
+field-body p e = ap (drop (length (tagOf (p .option)))) e ∙ drop-append-seam (tagOf (p .option)) (writtenBody (said p))
+
 -- ---- a field written out in a room for it
 module _ (p : Party) (g : isGiven (said p) ≡ true) where
   abbrev field : List ℕ
@@ -130,10 +127,6 @@ module _ (p : Party) (g : isGiven (said p) ≡ true) where
   pub field-most : length field ≤ 188
   field-most = written-most p (given-exact p .yes g)
 
-  pub tag-within : length (tagOf (p .option)) ≤ length field
-  unfolding writtenField said
-  tag-within = omega (arith, length-append (tagOf (p .option)) (writtenBody (said p)))
-
   module _ (d e : List ℕ) (n : length d ≡ 188) (q : e ≡ placed d 0 field) where
     put-out : e ≡ put d 0 field
     put-out = q ∙ rw (le-leb (0 + length field) (length d) (omega (arith, field-most, n)), placed)
@@ -141,22 +134,19 @@ module _ (p : Party) (g : isGiven (said p) ≡ true) where
     pub room-length : length e ≡ 188
     room-length = ap length put-out ∙ put-length d 0 field (omega (arith, field-most, n)) ∙ n
 
-    pub room-body : part (length (tagOf (p .option))) (length field) e ≡ writtenBody (said p)
-    unfolding said
-    room-body = ap (part (length (tagOf (p .option))) (length field)) put-out ∙ body-part d (said p) (omega (arith, field-most, n))
+    pub room-field : take (length field) e ≡ field
+    room-field =
+        ap (take (length field)) put-out ∙ ap (λ (k : ℕ). take k (put d 0 field)) (sym (zero-add (length field))) ∙ put-take d 0 field (omega (arith, field-most, n))
 
--- ---- a field that was put, and the LF after it
-module _ (d e : List ℕ) (at : ℕ) (f : List ℕ) (q : e ≡ placed d at f) (h : at + length f ≤ length d) where
-  put-here : e ≡ put d at f
-  put-here = q ∙ rw (le-leb (at + length f) (length d) h, placed)
-
-  pub filed-length : length e ≡ length d
-  filed-length = ap length put-here ∙ put-length d at f h
-
-  pub filed-bytes : (n : ℕ) → n ≡ length f → at + length f < length d → set e (at + n) 10 ≡ put d at (withLf f)
-  filed-bytes n m k =
-      ap (λ (w : List ℕ). set w (at + n) 10) put-here ∙ ap (λ (j : ℕ). set (put d at f) (at + j) 10) m
-      ∙ put-set (put d at f) (at + length f) 10 (omega (arith, k, put-length d at f h)) ∙ put-put d at f (10 ∷ []) (omega (arith, h))
+-- ---- a text that was put, and the LF after it
+pub line-puts : (d : List ℕ) (at : ℕ) (f : List ℕ) → at + length f < length d → {i : ℕ} {e : List ℕ} → i ≡ length f → e ≡ paste d at f i → Puts d at (withLf f) (set e (at + i) 10) (at + i + 1)
+line-puts d at f h {i} m q = record {
+  bytes =
+      ap (λ (w : List ℕ). set w (at + i) 10) (q ∙ ap (paste d at f) m) ∙ ap (λ (j : ℕ). set (put d at f) (at + j) 10) m
+      ∙ put-set (put d at f) (at + length f) 10 (omega (arith, h, put-length d at f (omega (arith, h))))
+      ∙ put-put d at f (10 ∷ []) (omega (arith, h));
+  ends = omega (arith, m, length-append f (10 ∷ []));
+}
 
 -- the end, byte by byte
 pub end-bytes : (d : List ℕ) (at : ℕ) → at + 2 ≤ length d → set (set d at 45) (at + 1) 10 ≡ put d at endLine

@@ -12,8 +12,8 @@ use writer::put_field;
 use writer::tag_length;
 use writer::written_length;
 ghost use mathlib.Core.Path.{_≡_};
-ghost use mathlib.Core.Bool.{true, false};
-ghost use Prim.Native.Nat.{suc, _+_, _-_, _≤_, min};
+ghost use mathlib.Core.Bool.{false, true};
+ghost use Prim.Native.Nat.{suc, _+_, _-_, _≤_, _<_, min};
 ghost use lib.ListN.{length, take, drop};
 ghost use Rattle.errors.specs.declared.Outcome.the-variants.{Accepted, Refused};
 ghost use Rattle.errors.specs.Refusals.{toldError};
@@ -21,10 +21,10 @@ ghost use Rattle.party.specs.Party.{blank as blankParty, said};
 ghost use Rattle.pages.specs.declared.Tag.the-variants.{Known};
 ghost use Rattle.pages.specs.Pages.{pageMost, lineAt, opens, endsPage, runs, onward, pastLine, tagIn, readField, readable, readAt};
 ghost use Rattle.party.specs.Limits.{options};
-ghost use Rattle.writer.specs.Writing.{pieces};
-ghost use Rattle.writer.specs.Given.{isGiven};
+ghost use Rattle.writer.specs.Writing.{pieces, writtenField};
+ghost use Rattle.writer.specs.Code.{Puts};
 ghost use Rattle.writer.specs.ReadBack.{endsCr, identified59F};
-ghost use Rattle.pages.specs.Filing.{isCarried, writable, hasSpace, add as addTo, close as closeAt};
+ghost use Rattle.pages.specs.Filing.{isCarried, writable, hasSpace, withLf, add as addTo, close as closeAt};
 ghost use Rattle.pages.specs.Code.{areCarried, is59F, toldFiled, toldRead, toldTag, knownIn, isOpening, placeAt};
 
 // What a read gives: the end, or accepted with the record, or refused with the blank record; and the next position.
@@ -441,20 +441,32 @@ fn is_identified_59f(p: Party) -> bool
     is_59f(option)
 }
 
-// Whether a page carries a record that a reader can give. Its field is written out to see the lines as they would stand.
-fn is_carried(p: Party) -> bool
-    requires { ⌜ isGiven (said p) ≡ true ⌝ }
+// Whether a page carries a record, by its written field.
+fn is_carried(p: Party, field: &[u8]) -> bool
+    requires { ⌜ now field ≡ writtenField (said p) ⌝ }
     ensures { λ r. ⌜ r ≡ isCarried (said p) ⌝ }
 {
     if is_identified_59f(p) {
         return false;
     }
-    let mut room = [0u8; 188];
-    put_field(p, &mut room, 0);
     let option = p.option;
     let start = tag_length(option);
-    let end = written_length(p);
-    are_carried(&room[start..end])
+    are_carried(&field[start..])
+}
+
+// Puts a text and an LF into the buffer at a place, and gives the place after it.
+fn put_line(buf: &mut [u8], at: usize, text: &[u8]) -> usize
+    requires { ⌜ at + length (now text) < length (now buf) ⌝ }
+    ensures { λ r. ⌜ Puts (now (buf .entry)) at (withLf (now (text .entry))) (now (buf .exit)) r ⌝ }
+{
+    let mut i = 0;
+    while i < text.len() {
+        buf[at + i] = text[i];
+        i += 1;
+    }
+    let end = at + i;
+    buf[end] = b'\n';
+    end + 1
 }
 
 fn refuse_at(e: ParseError, position: usize) -> Filed
@@ -475,7 +487,8 @@ fn accept_at(position: usize) -> Filed
     }
 }
 
-// Adds a record to the page at a position: 21, 22, 23, 24.
+// Adds a record to the page at a position: 21, 22, 23, 24. Its field is written out once, to see the lines as they would stand, and then
+// copied.
 pub fn add(p: Party, buf: &mut [u8], at: usize) -> Filed
     ensures { λ r. ⌜ toldFiled r (now (buf .exit)) ≡ addTo (now (buf .entry)) at (said p) ⌝ }
 {
@@ -485,17 +498,17 @@ pub fn add(p: Party, buf: &mut [u8], at: usize) -> Filed
     if !is_given(p) {
         return refuse_at(ParseError::NoSuchRecord, at);
     }
-    if !is_carried(p) {
+    let n = written_length(p);
+    let mut room = [0u8; 188];
+    put_field(p, &mut room, 0);
+    if !is_carried(p, &room[..n]) {
         return refuse_at(ParseError::NotCarried, at);
     }
-    let n = written_length(p);
     if !has_space(buf.len(), at, n + 3) {
         return refuse_at(ParseError::NoSpace, at);
     }
-    put_field(p, buf, at);
-    let end = at + n;
-    buf[end] = b'\n';
-    accept_at(end + 1)
+    let end = put_line(buf, at, &room[..n]);
+    accept_at(end)
 }
 
 // Closes the page at a position: 21, 24.

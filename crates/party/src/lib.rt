@@ -192,7 +192,7 @@ const LIMITS: [Limits; 11] = [
 ];
 
 // The text that holds nothing.
-const NOTHING: Text = Text {
+pub const NOTHING: Text = Text {
     bytes: [0u8; 38],
     len: 0,
 };

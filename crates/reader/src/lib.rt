@@ -12,6 +12,7 @@ use field_utils::numbering_of;
 use field_utils::parse_name_and_address;
 use field_utils::parse_party_identifier;
 use field_utils::starts_with_slash;
+use party::NOTHING;
 use party::Party;
 use party::PartyOption;
 use party::Text;
@@ -166,7 +167,7 @@ fn identifier_head(line: &[u8], option: PartyOption) -> HeadAt
 }
 
 // A text as an account: its length, then its bytes.
-pub fn account(text: &[u8], option: PartyOption) -> Outcome
+fn account(text: &[u8], option: PartyOption) -> Outcome
     ensures { λ r. ⌜ told r ≡ accountReply option (now (text .entry)) ⌝ }
 {
     let limits = limits_of(option);
@@ -250,8 +251,7 @@ fn fill(body: &[u8], from: Lines, numbering: Numbering) -> Names
     ensures { λ r. ⌜ r ≡ namesFrom numbering (lines (drop (from .at) (now (body .entry)))) ⌝ }
 {
     let skip = kept_from(numbering);
-    let none = blank();
-    let mut texts = none.name_and_address;
+    let mut texts = [NOTHING; 4];
     let mut cursor = from;
     let mut count = 0;
     while count < 4 {
@@ -270,15 +270,13 @@ fn fill(body: &[u8], from: Lines, numbering: Numbering) -> Names
 fn nameless_party(option: PartyOption, present: bool, account: &[u8], bic: &[u8]) -> Party
     ensures { λ r. ⌜ r ≡ partyOf option (nameless present (now (account .entry)) (now (bic .entry))) ⌝ }
 {
-    let none = blank();
-    let texts = none.name_and_address;
     Party {
         option,
         present,
         account: text_of(account),
         bic: text_of(bic),
         count: 0,
-        name_and_address: texts,
+        name_and_address: [NOTHING; 4],
     }
 }
 

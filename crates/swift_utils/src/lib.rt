@@ -5,9 +5,9 @@ ghost use mathlib.Core.Path.{_≡_};
 ghost use Rattle.errors.specs.Refusals.{told};
 ghost use Rattle.swift_utils.specs.Bytes.{legal, letter, digit, alphanumeric, all};
 ghost use Rattle.swift_utils.specs.Checks.{parseSwiftChars, parseAccount, bicLength, parseBic};
-ghost use Rattle.swift_utils.specs.Classes.{classOf, atLeast, classTable};
+ghost use Rattle.swift_utils.specs.Classes.{classOf, classTable, entryAtLeast};
 
-// The class of each byte: 0 illegal, 1 legal and neither a digit nor a letter, 2 a digit, 3 a letter.
+// The class of each byte: 0 illegal, 1 LF, 2 legal and neither LF, a digit nor a letter, 3 a digit, 4 a letter.
 const CLASS: [u8; 256] = [
     0, // 0
     0, // 1
@@ -22,7 +22,7 @@ const CLASS: [u8; 256] = [
     1, // 10 LF
     0, // 11
     0, // 12
-    1, // 13 CR
+    2, // 13 CR
     0, // 14
     0, // 15
     0, // 16
@@ -41,100 +41,100 @@ const CLASS: [u8; 256] = [
     0, // 29
     0, // 30
     0, // 31
-    1, // 32 space
-    1, // 33 !
-    1, // 34 "
-    1, // 35 #
-    1, // 36 $
-    1, // 37 %
-    1, // 38 &
-    1, // 39 '
-    1, // 40 (
-    1, // 41 )
-    1, // 42 *
-    1, // 43 +
-    1, // 44 ,
-    1, // 45 -
-    1, // 46 .
-    1, // 47 /
-    2, // 48 0
-    2, // 49 1
-    2, // 50 2
-    2, // 51 3
-    2, // 52 4
-    2, // 53 5
-    2, // 54 6
-    2, // 55 7
-    2, // 56 8
-    2, // 57 9
-    1, // 58 :
-    1, // 59 ;
-    1, // 60 <
-    1, // 61 =
-    1, // 62 >
-    1, // 63 ?
-    1, // 64 @
-    3, // 65 A
-    3, // 66 B
-    3, // 67 C
-    3, // 68 D
-    3, // 69 E
-    3, // 70 F
-    3, // 71 G
-    3, // 72 H
-    3, // 73 I
-    3, // 74 J
-    3, // 75 K
-    3, // 76 L
-    3, // 77 M
-    3, // 78 N
-    3, // 79 O
-    3, // 80 P
-    3, // 81 Q
-    3, // 82 R
-    3, // 83 S
-    3, // 84 T
-    3, // 85 U
-    3, // 86 V
-    3, // 87 W
-    3, // 88 X
-    3, // 89 Y
-    3, // 90 Z
-    1, // 91 [
+    2, // 32 space
+    2, // 33 !
+    2, // 34 "
+    2, // 35 #
+    2, // 36 $
+    2, // 37 %
+    2, // 38 &
+    2, // 39 '
+    2, // 40 (
+    2, // 41 )
+    2, // 42 *
+    2, // 43 +
+    2, // 44 ,
+    2, // 45 -
+    2, // 46 .
+    2, // 47 /
+    3, // 48 0
+    3, // 49 1
+    3, // 50 2
+    3, // 51 3
+    3, // 52 4
+    3, // 53 5
+    3, // 54 6
+    3, // 55 7
+    3, // 56 8
+    3, // 57 9
+    2, // 58 :
+    2, // 59 ;
+    2, // 60 <
+    2, // 61 =
+    2, // 62 >
+    2, // 63 ?
+    2, // 64 @
+    4, // 65 A
+    4, // 66 B
+    4, // 67 C
+    4, // 68 D
+    4, // 69 E
+    4, // 70 F
+    4, // 71 G
+    4, // 72 H
+    4, // 73 I
+    4, // 74 J
+    4, // 75 K
+    4, // 76 L
+    4, // 77 M
+    4, // 78 N
+    4, // 79 O
+    4, // 80 P
+    4, // 81 Q
+    4, // 82 R
+    4, // 83 S
+    4, // 84 T
+    4, // 85 U
+    4, // 86 V
+    4, // 87 W
+    4, // 88 X
+    4, // 89 Y
+    4, // 90 Z
+    2, // 91 [
     0, // 92 \
-    1, // 93 ]
+    2, // 93 ]
     0, // 94 ^
-    1, // 95 _
+    2, // 95 _
     0, // 96 `
-    3, // 97 a
-    3, // 98 b
-    3, // 99 c
-    3, // 100 d
-    3, // 101 e
-    3, // 102 f
-    3, // 103 g
-    3, // 104 h
-    3, // 105 i
-    3, // 106 j
-    3, // 107 k
-    3, // 108 l
-    3, // 109 m
-    3, // 110 n
-    3, // 111 o
-    3, // 112 p
-    3, // 113 q
-    3, // 114 r
-    3, // 115 s
-    3, // 116 t
-    3, // 117 u
-    3, // 118 v
-    3, // 119 w
-    3, // 120 x
-    3, // 121 y
-    3, // 122 z
-    1, // 123 {
-    1, // 124 |
-    1, // 125 }
+    4, // 97 a
+    4, // 98 b
+    4, // 99 c
+    4, // 100 d
+    4, // 101 e
+    4, // 102 f
+    4, // 103 g
+    4, // 104 h
+    4, // 105 i
+    4, // 106 j
+    4, // 107 k
+    4, // 108 l
+    4, // 109 m
+    4, // 110 n
+    4, // 111 o
+    4, // 112 p
+    4, // 113 q
+    4, // 114 r
+    4, // 115 s
+    4, // 116 t
+    4, // 117 u
+    4, // 118 v
+    4, // 119 w
+    4, // 120 x
+    4, // 121 y
+    4, // 122 z
+    2, // 123 {
+    2, // 124 |
+    2, // 125 }
     0, // 126 ~
     0, // 127
     0, // 128
@@ -294,21 +294,20 @@ pub fn is_legal(b: u8) -> bool
 pub fn is_letter(b: u8) -> bool
     ensures { λ r. ⌜ r ≡ letter b ⌝ }
 {
-    3 <= class(b)
+    4 <= class(b)
 }
 
 // Whether a byte is an ASCII digit.
 pub fn is_digit(b: u8) -> bool
     ensures { λ r. ⌜ r ≡ digit b ⌝ }
 {
-    class(b) == 2
+    class(b) == 3
 }
 
-// Whether every byte is of a class or of a higher one.
-fn all_at_least(s: &[u8], k: u8) -> bool
-    ensures { λ r. ⌜ r ≡ all (atLeast k) (now (s .entry)) ⌝ }
+// Whether the entry of every byte in a table of classes is at least k.
+pub fn all_at_least(s: &[u8], classes: &[u8; 256], k: u8) -> bool
+    ensures { λ r. ⌜ r ≡ all (entryAtLeast (now (classes .entry)) k) (now (s .entry)) ⌝ }
 {
-    let classes = class_table();
     let mut i = 0;
     while i < s.len() {
         let b = s[i] as usize;
@@ -324,14 +323,16 @@ fn all_at_least(s: &[u8], k: u8) -> bool
 pub fn all_alphanumeric(s: &[u8]) -> bool
     ensures { λ r. ⌜ r ≡ all alphanumeric (now (s .entry)) ⌝ }
 {
-    all_at_least(s, 2)
+    let classes = class_table();
+    all_at_least(s, &classes, 3)
 }
 
 // Legal bytes throughout, or 3 at the line that is handed in.
 pub fn parse_swift_chars(input: &[u8], line: usize) -> Outcome
     ensures { λ r. ⌜ told r ≡ parseSwiftChars line (now (input .entry)) ⌝ }
 {
-    if all_at_least(input, 1) {
+    let classes = class_table();
+    if all_at_least(input, &classes, 1) {
         Outcome::Accepted
     } else {
         Outcome::Refused(ParseError::IllegalByte(line))
@@ -366,12 +367,13 @@ pub fn parse_bic(input: &[u8], line: usize) -> Outcome
     if !is_bic_length(input.len()) {
         return Outcome::Refused(ParseError::BicLength(line));
     }
+    let classes = class_table();
     let bank_and_country = &input[..6];
-    if !all_at_least(bank_and_country, 3) {
+    if !all_at_least(bank_and_country, &classes, 4) {
         return Outcome::Refused(ParseError::BicByte(line));
     }
     let location_and_branch = &input[6..];
-    if all_at_least(location_and_branch, 2) {
+    if all_at_least(location_and_branch, &classes, 3) {
         Outcome::Accepted
     } else {
         Outcome::Refused(ParseError::BicByte(line))

@@ -1,13 +1,13 @@
 -- A record that an accepted body gives passes the test for 22, and its lines weigh no more than the body's. Assumes nothing.
 use mathlib.Core.Path.{_≡_, refl, sym, _∙_, ap, subst}
-use mathlib.Core.Bool.{Bool, true, false, not, _&&_, true≢false}
+use mathlib.Core.Bool.{Bool, true, false, not, _&&_, and-false, true≢false}
 use mathlib.Core.List.{List, [], _∷_, _++_, map}
 use Prim.Native.Nat.{ℕ, zero, suc, _≤_}
 use native.Mathlib.Omega.{arith}
 use lib.Dec.{eqb}
 use lib.ListN.{length, take, drop, length-map, length-drop}
 use borrow.Author.Tests.{eq-eqb, ne-eqb, not-true}
-use Rattle.errors.specs.Refusals.{Reply, accepted, must}
+use Rattle.errors.specs.Refusals.{Reply, accepted, refused, must}
 use Rattle.errors.proofs.Replies.{refused≢accepted, must-held, then-first, then-second}
 use Rattle.party.specs.declared.PartyOption.{PartyOption}
 use Rattle.party.specs.declared.PartyOption.the-variants.{Field50NoOption, Field50A, Field50F, Field50K, Field50C, Field50L, Field50G, Field50H, Field59NoOption, Field59A, Field59F}
@@ -356,6 +356,14 @@ letters-free n x e =
     line-split zero l a b = b
     line-split (suc k) [] a b = refl
     line-split (suc k) (c ∷ l) a b = none-more c l (first-not c (take k l) a) (line-split k l (rest-not c (take k l) a) b)
+
+-- so the test for an LF adds nothing
+pub bic-line : (n : ℕ) (x : List ℕ) → (not (among x 10) && passes (parseBic n x)) ≡ passes (parseBic n x)
+bic-line n x = go (parseBic n x) refl
+  where
+    go : (r : Reply) → parseBic n x ≡ r → (not (among x 10) && passes r) ≡ passes r
+    go accepted e = rw (letters-free n x e)
+    go (refused k m) e = and-false (not (among x 10))
 
 bic-only-good : (body : List ℕ) → bicOnly body .reply ≡ accepted → GoodIn Field50C (body ∷ []) (bicOnly body)
 unfolding bare nameLines

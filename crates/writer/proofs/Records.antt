@@ -15,17 +15,18 @@ use Rattle.party.specs.Limits.{limitsOf}
 use Rattle.party.specs.Text.{Used, used}
 use Rattle.party.specs.Party.{Said, said, where-limit}
 use Rattle.swift_utils.specs.Bytes.{all, among, letter, digit, alphanumeric, signs, legal}
-use Rattle.swift_utils.specs.Checks.{parseSwiftChars}
+use Rattle.swift_utils.specs.Checks.{parseSwiftChars, parseAccount}
+use Rattle.swift_utils.specs.Classes.{plain}
 use Rattle.field_utils.specs.declared.Numbering.{Numbering}
 use Rattle.field_utils.specs.declared.Numbering.the-variants.{Unnumbered, Numbered, InTurn}
 use Rattle.field_utils.specs.Identifier.{isNumbered}
 use Rattle.field_utils.specs.Names.{numberingOf, skipOf, parseNumber, parseLine, parseLines, parseCount, parseNameAndAddress}
 use Rattle.field_utils.proofs.NameLines.{number-room}
-use Rattle.reader.specs.declared.First.the-variants.{Account, ShortAccount}
-use Rattle.reader.specs.Options.{firstOf}
+use Rattle.reader.specs.declared.First.the-variants.{Account, ShortAccount, AnyAccount}
+use Rattle.reader.specs.Options.{firstOf, accountReply, lengthReply, ascii}
 use Rattle.writer.specs.Writing.{numberOf, nameLines, writtenField, put, fits, placed}
-use Rattle.writer.specs.Given.{passes, every, isLine, isAccount, isPresence, isBic, areNames, isTaken, isGiven, written}
-use Rattle.writer.specs.Code.{plain, numberIn, isName, allNames, slashName}
+use Rattle.writer.specs.Given.{passes, every, isLine, textReply, isAccount, isPresence, isBic, areNames, isTaken, isGiven, written}
+use Rattle.writer.specs.Code.{lineReply, numberIn, isName, allNames, slashName}
 use Rattle.writer.proofs.Texts.{all-plain}
 
 pub passes-then : (r s : Reply) → passes (r then s) ≡ (passes r && passes s)
@@ -56,6 +57,21 @@ empty-line t = go (t .len)
     go : (n : ℕ) → (eqb n 0 && isLine (record { len = n; bytes = take n (t .bytes) })) ≡ eqb n 0
     go zero = refl
     go (suc n) = rw (ne-eqb (suc n) 0 (λ e. omega arith))
+
+-- ---- a line that passes, by whether it is one
+pub line-by : (r : Reply) (x : List ℕ) {t : Bool} → not (among x 10) ≡ t → (t && passes r) ≡ lineReply r x
+line-by r x e = rw (← e)
+
+-- an account by its length and its bytes
+pub plain-account : (o : PartyOption) (x : List ℕ) {t : Bool} → passes (lengthReply o x) ≡ t → (t && all plain x) ≡ lineReply (accountReply o x) x
+unfolding parseAccount parseSwiftChars
+plain-account o x {t} e =
+    rw (passes-then (lengthReply o x) (must (all legal x) 3 1), e, passes-must (all legal x) 3 1, all-plain x)
+    (ap (λ (b : Bool). t && b) (and-comm (all legal x) (not (among x 10))) ∙ sym (and-assoc t _ _) ∙ ap (λ (b : Bool). b && all legal x) (and-comm t (not (among x 10))) ∙ and-assoc (not (among x 10)) t (all legal x))
+
+-- 50H's
+pub any-account : (o : PartyOption) (x : List ℕ) {t : Bool} → passes (lengthReply o x) ≡ t → (t && all ascii x) ≡ passes (textReply AnyAccount o x)
+any-account o x e = rw (passes-then (lengthReply o x) (must (all ascii x) 13 0), e, passes-must (all ascii x) 13 0)
 
 -- ---- the number of the k-th name x
 abbrev pub inTurn : Numbering → ℕ → List ℕ → Bool

@@ -11,10 +11,10 @@ use Rattle.party.specs.declared.Text.{Text}
 use Rattle.party.specs.Text.{used}
 use Rattle.party.proofs.Laws.{take-min}
 use Rattle.swift_utils.specs.Bytes.{all, among, legal}
+use Rattle.swift_utils.specs.Classes.{plain}
 use Rattle.field_utils.specs.Lines.{upto}
 use Rattle.reader.proofs.LineCounts.{among-found, among-none}
 use Rattle.writer.specs.Given.{isLine}
-use Rattle.writer.specs.Code.{plain}
 
 module _ (t : Text) (n : ℕ) (e : n ≡ length (used t .bytes)) where
   pub used-part : take n (t .bytes) ≡ used t .bytes

@@ -3,15 +3,15 @@ use Prim.Native.Nat.{ℕ, suc, _+_, _≤_, min}
 use mathlib.Core.Path.{_≡_}
 use mathlib.Core.Bool.{Bool, true, false, not, _&&_}
 use mathlib.Core.List.{List, [], _∷_, _++_, map}
-use lib.Dec.{ltb, eqb}
+use lib.Dec.{ltb}
 use lib.ListN.{length}
-use Rattle.errors.specs.Refusals.{told}
+use Rattle.errors.specs.Refusals.{Reply, told}
 use Rattle.party.specs.declared.PartyOption.{PartyOption}
 use Rattle.party.specs.declared.Party.{Party}
 use Rattle.party.specs.Limits.{limitsOf}
 use Rattle.party.specs.Text.{Used}
 use Rattle.party.specs.Party.{said}
-use Rattle.swift_utils.specs.Bytes.{legal}
+use Rattle.swift_utils.specs.Bytes.{among}
 use Rattle.field_utils.specs.declared.Numbering.{Numbering}
 use Rattle.field_utils.specs.declared.Numbering.the-variants.{Unnumbered, Numbered, InTurn}
 use Rattle.field_utils.specs.Lines.{starts}
@@ -80,9 +80,9 @@ namesOn later p = led later (nameLines (numberingOf (p .option)) 1 (said p .name
 abbrev pub restOn : Bool → Party → List ℕ
 restOn later p = led later (map (λ (u : Used). u .bytes) (said p .bic) ++ nameLines (numberingOf (p .option)) 1 (said p .names))
 
--- a legal byte that is no LF
-abbrev pub plain : ℕ → Bool
-plain b = legal b && not (eqb 10 b)
+-- whether a text without an LF passes
+abbrev pub lineReply : Reply → List ℕ → Bool
+lineReply r x = not (among x 10) && passes r
 
 -- how many bytes of a name's text are its number: 59F's names are kept with it
 abbrev pub numberIn : Numbering → ℕ

@@ -14,13 +14,14 @@ use party::PartyOption;
 use party::Text;
 use party::limits_of;
 use reader::First;
-use reader::account;
 use reader::account_length;
 use reader::first_of;
 use reader::is_ascii;
+use swift_utils::all_at_least;
 use swift_utils::class_table;
 use swift_utils::parse_bic;
 ghost use mathlib.Core.Path.{_≡_};
+ghost use mathlib.Core.Bool.{not};
 ghost use mathlib.Core.List.{[], _∷_, _++_};
 ghost use Prim.Native.Nat.{_+_, _≤_};
 ghost use lib.ListN.{length};
@@ -29,13 +30,14 @@ ghost use Rattle.errors.specs.Refusals.{told};
 ghost use Rattle.party.specs.Limits.{limitsOf};
 ghost use Rattle.party.specs.Text.{used};
 ghost use Rattle.party.specs.Party.{said, where-limit};
-ghost use Rattle.swift_utils.specs.Bytes.{all};
+ghost use Rattle.swift_utils.specs.Bytes.{among};
 ghost use Rattle.swift_utils.specs.Classes.{classTable};
 ghost use Rattle.field_utils.specs.Names.{numberingOf, parseNumber};
-ghost use Rattle.reader.specs.Options.{firstOf};
+ghost use Rattle.reader.specs.Options.{firstOf, accountReply};
+ghost use Rattle.reader.specs.declared.First.the-variants.{Identified, AnyAccount};
 ghost use Rattle.writer.specs.Writing.{tagOf, slashOf, numberOf, writtenField, fits, placed};
-ghost use Rattle.writer.specs.Given.{passes, every, isLine, textReply, isAccount, isPresence, isBic, areNames, isTaken, isGiven, written};
-ghost use Rattle.writer.specs.Code.{toldWritten, Counted, Puts, lead, hasGap, hasHead, headOf, marks, nameCount, namesOn, restOn, plain, numberIn, isName, allNames, slashName};
+ghost use Rattle.writer.specs.Given.{passes, every, textReply, isAccount, isPresence, isBic, areNames, isTaken, isGiven, written};
+ghost use Rattle.writer.specs.Code.{toldWritten, Counted, Puts, lead, hasGap, hasHead, headOf, marks, nameCount, namesOn, restOn, lineReply, numberIn, isName, allNames, slashName};
 
 // What writing gives: accepted with the length written, or refused with 0.
 pub struct Written {
@@ -340,18 +342,6 @@ fn is_accepted(outcome: Outcome) -> bool
     }
 }
 
-// Whether a text's length is at most 38, and no byte is an LF.
-fn is_line(t: Text) -> bool
-    ensures { λ r. ⌜ r ≡ isLine (used t) ⌝ }
-{
-    let n = used_length(t);
-    if n != t.len {
-        return false;
-    }
-    let bytes = t.bytes;
-    n <= find_lf(&bytes[..n], 0)
-}
-
 // Whether an account or identifier may be there, or may not be.
 fn is_presence(option: PartyOption, present: bool) -> bool
     ensures { λ r. ⌜ r ≡ isPresence option present ⌝ }
@@ -363,25 +353,61 @@ fn is_presence(option: PartyOption, present: bool) -> bool
     limits.shortest == 0
 }
 
-// Whether the option's reader takes a text for an account or identifier.
-fn is_account_text(option: PartyOption, text: &[u8]) -> bool
-    ensures { λ r. ⌜ r ≡ passes (textReply (firstOf option) option (now (text .entry))) ⌝ }
+// Whether no byte is an LF.
+fn is_one_line(text: &[u8]) -> bool
+    ensures { λ r. ⌜ r ≡ not (among (now (text .entry)) 10) ⌝ }
 {
+    text.len() <= find_lf(text, 0)
+}
+
+// Whether a line is an account by its length and its bytes. One test of a byte's class says that it is legal and no LF.
+fn is_plain_account(option: PartyOption, text: &[u8]) -> bool
+    ensures { λ r. ⌜ r ≡ lineReply (accountReply option (now (text .entry))) (now (text .entry)) ⌝ }
+{
+    if !is_accepted(account_length(text, option)) {
+        return false;
+    }
+    let classes = class_table();
+    all_at_least(text, &classes, 2)
+}
+
+// Whether a line is 50H's account: its length, and bytes of any kind up to 127.
+fn is_any_account(option: PartyOption, text: &[u8]) -> bool
+    ensures { λ r. ⌜ r ≡ lineReply (textReply AnyAccount option (now (text .entry))) (now (text .entry)) ⌝ }
+{
+    if !is_one_line(text) {
+        return false;
+    }
+    if !is_accepted(account_length(text, option)) {
+        return false;
+    }
+    is_ascii(text)
+}
+
+// Whether a line is an identifier after its slash.
+fn is_identifier(option: PartyOption, text: &[u8]) -> bool
+    ensures { λ r. ⌜ r ≡ lineReply (textReply Identified option (now (text .entry))) (now (text .entry)) ⌝ }
+{
+    if !is_one_line(text) {
+        return false;
+    }
     let limits = limits_of(option);
+    is_accepted(parse_remaining(text, limits.longest, 1))
+}
+
+// Whether the option's reader takes a line for an account or identifier.
+fn is_account_text(option: PartyOption, text: &[u8]) -> bool
+    ensures { λ r. ⌜ r ≡ lineReply (textReply (firstOf option) option (now (text .entry))) (now (text .entry)) ⌝ }
+{
     let first = first_of(option);
     match first {
-        First::Name => is_accepted(account(text, option)),
-        First::Identified => is_accepted(parse_remaining(text, limits.longest, 1)),
-        First::Account => is_accepted(account(text, option)),
-        First::ShortAccount => is_accepted(account(text, option)),
-        First::SlashAccount => is_accepted(account(text, option)),
-        First::AnyAccount => {
-            if !is_accepted(account_length(text, option)) {
-                return false;
-            }
-            is_ascii(text)
-        }
-        First::WholeLine => is_accepted(account(text, option)),
+        First::Name => is_plain_account(option, text),
+        First::Identified => is_identifier(option, text),
+        First::Account => is_plain_account(option, text),
+        First::ShortAccount => is_plain_account(option, text),
+        First::SlashAccount => is_plain_account(option, text),
+        First::AnyAccount => is_any_account(option, text),
+        First::WholeLine => is_plain_account(option, text),
     }
 }
 
@@ -396,15 +422,15 @@ fn is_account(option: PartyOption, present: bool, t: Text) -> bool
     if !present {
         return t.len == 0;
     }
-    if !is_line(t) {
+    let n = used_length(t);
+    if n != t.len {
         return false;
     }
-    let n = used_length(t);
     let bytes = t.bytes;
     is_account_text(option, &bytes[..n])
 }
 
-// Whether the BIC, where the option has one, is one.
+// Whether the BIC, where the option has one, is one. A BIC has no LF.
 fn is_bic(option: PartyOption, t: Text) -> bool
     ensures { λ r. ⌜ r ≡ every isBic (where-limit (limitsOf option .bic) (used t ∷ [])) ⌝ }
 {
@@ -412,31 +438,12 @@ fn is_bic(option: PartyOption, t: Text) -> bool
     if limits.bic == 0 {
         return true;
     }
-    if !is_line(t) {
+    let n = used_length(t);
+    if n != t.len {
         return false;
     }
-    let n = used_length(t);
     let bytes = t.bytes;
     is_accepted(parse_bic(&bytes[..n], 1))
-}
-
-// Whether every byte is legal and none is an LF.
-fn is_plain(s: &[u8], classes: &[u8; 256]) -> bool
-    requires { ⌜ now classes ≡ classTable ⌝ }
-    ensures { λ r. ⌜ r ≡ all plain (now (s .entry)) ⌝ }
-{
-    let mut i = 0;
-    while i < s.len() {
-        let b = s[i] as usize;
-        if b == 10 {
-            return false;
-        }
-        if classes[b] < 1 {
-            return false;
-        }
-        i += 1;
-    }
-    true
 }
 
 // Whether a name has the number of its turn, where it is kept with its number.
@@ -483,7 +490,7 @@ fn is_name(t: Text, turn: usize, numbering: Numbering, longest: usize, classes: 
     if longest < n - number_length(numbering) {
         return false;
     }
-    is_plain(&bytes[..n], classes)
+    all_at_least(&bytes[..n], classes, 2)
 }
 
 // Whether each name is one that the option's reader gives.

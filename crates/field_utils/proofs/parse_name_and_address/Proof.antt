@@ -185,7 +185,7 @@ module _ (c : tie.After-shared-slice-known2 Inv-loop μ-loop Inv-lines μ-lines)
 
   -- what the test of its entry says
   by-table : {t : Bool} → leb 1 (getD (head this .before .class-table .result) byte 0) ≡ t → legal byte ≡ t
-  by-table e = sym (class-legal byte) ∙ by-entry 1 byte (head this .before .class-table .ensures) is-byte e
+  by-table e = sym (class-legal byte) ∙ by-entry 1 byte (head this .before .class-table .ensures) e
 
 illegal-byte : (c : tie.Then2 Inv-loop μ-loop Inv-lines μ-lines) → let k = this (c .before) in refused 3 (number k) ≡ answer (head k)
 illegal-byte c =

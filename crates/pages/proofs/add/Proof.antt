@@ -1,43 +1,85 @@
 -- `pages::add` meets its contract, refusal by refusal. Assumes nothing.
 use mathlib.Core.Path.{_≡_, sym, _∙_, ap}
 use mathlib.Core.Bool.{Bool, true}
-use mathlib.Core.List.{[], _∷_}
-use Prim.Native.Nat.{ℕ, _+_, _≤_, min}
+use mathlib.Core.List.{List}
+use Prim.Native.Nat.{ℕ, _+_, _≤_, _<_, min}
 use native.Mathlib.Omega.{arith}
-use lib.ListN.{length, set, length-append}
+use lib.ListN.{length, take, replicate, length-replicate}
 use denote.Ref.{now}
 use borrow.Author.Needs.{needs}
 use borrow.Author.Tests.{leb-true, not-true, not-false}
+use Rattle.party.specs.declared.Party.{Party}
 use Rattle.party.specs.Party.{said}
-use Rattle.writer.specs.Writing.{writtenField}
+use Rattle.writer.specs.Writing.{writtenField, put}
 use Rattle.writer.specs.Given.{isGiven}
 use Rattle.pages.specs.declared.Filed.{Filed as FiledAt}
 use Rattle.pages.specs.Pages.{pageMost}
 use Rattle.pages.specs.Filing.{isCarried, writable, hasSpace, withLf}
 use Rattle.pages.specs.Code.{toldFiled}
-use Rattle.pages.proofs.Filings.{add-21, add-22, add-23, add-24, add-filed, field-most, filed-length, filed-bytes, filed-as}
+use Rattle.pages.proofs.Filings.{add-21, add-22, add-23, add-24, add-filed, field-most, room-length, room-field, filed-as}
 use Rattle.pages.proofs.add.Statement.{statement}
 use Rattle.pages.proofs.add.Tie as tie
 
--- what the tests say
+-- what the first tests say
 writable-at : (e : tie.Else1) → let a = e .before .before .before .before .args in writable (now (a .buf)) (a .at) ≡ true
 writable-at e = sym (e .before .is-writable .ensures) ∙ not-false _ (e .if1 .left)
 
 given-at : (e : tie.Else2) → isGiven (said (e .before .before .before .before .before .before .args .p)) ≡ true
 given-at e = sym (e .before .is-given .ensures) ∙ not-false _ (e .if2 .left)
 
-carried-at : (e : tie.Else3) → isCarried (said (e .before .before .before .before .before .before .before .before .args .p)) ≡ true
-carried-at e = sym (e .before .is-carried .ensures) ∙ not-false _ (e .if3 .left)
+-- the field is written out
+module _ (t : tie.After-put-field) where
+  abbrev start : tie.Start
+  start = t .before .before .before .before .before .before .before .before .before
 
-tested : (s : tie.After-has-space) {t : Bool} → s .has-space .result ≡ t → let a = s .before .before .before .before .before .before .before .before .before .before .args in
-    hasSpace (length (now (a .buf))) (a .at + (length (writtenField (said (a .p))) + 3)) ≡ t
+  abbrev p : Party
+  p = start .args .p
+
+  abbrev at : ℕ
+  at = start .args .at
+
+  abbrev buffer : List ℕ
+  buffer = now (start .args .buf)
+
+  abbrev size : ℕ
+  size = t .before .before .written-length .result
+
+  abbrev room : List ℕ
+  room = t .put-field .last .1 .0
+
+  writable-here : writable buffer at ≡ true
+  writable-here = writable-at (t .before .before .before .before .before)
+
+  given : isGiven (said p) ≡ true
+  given = given-at (t .before .before .before)
+
+  size-is : size ≡ length (writtenField (said p))
+  size-is = t .before .before .written-length .ensures
+
+  size-most : size ≤ 188
+  size-most = omega (arith, size-is, field-most p given)
+
+  room-size : length room ≡ 188
+  room-size = room-length p given (replicate 188 0) room (length-replicate {A = ℕ} 188 0) (t .put-field .ensures .1)
+
+  written : take size room ≡ writtenField (said p)
+  written = ap (λ (k : ℕ). take k room) size-is ∙ room-field p given (replicate 188 0) room (length-replicate {A = ℕ} 188 0) (t .put-field .ensures .1)
+
+-- what the other tests say
+carried-at : (c : tie.After-is-carried) {t : Bool} → c .is-carried .result ≡ t → isCarried (said (p (c .before .before .before))) ≡ t
+carried-at c e = sym (c .is-carried .ensures) ∙ e
+
+tested : (s : tie.After-has-space) {t : Bool} → s .has-space .result ≡ t → let f = s .before .before .before .before .before in
+    hasSpace (length (buffer f)) (at f + (length (writtenField (said (p f))) + 3)) ≡ t
 tested s e =
-    let a = s .before .before .before .before .before .before .before .before .before .before .args in
-    ap (λ (n : ℕ). hasSpace (length (now (a .buf))) (a .at + (n + 3))) (sym (s .before .written-length .ensures)) ∙ sym (s .has-space .ensures) ∙ e
+    let f = s .before .before .before .before .before in
+    ap (λ (n : ℕ). hasSpace (length (buffer f)) (at f + (n + 3))) (sym (size-is f)) ∙ sym (s .has-space .ensures) ∙ e
 
-space-at : (e : tie.Else4) → let a = e .before .before .before .before .before .before .before .before .before .before .before .args in
-    a .at + (length (writtenField (said (a .p))) + 3) ≤ min (length (now (a .buf))) pageMost
-space-at e = leb-true _ _ (tested (e .before) (not-false _ (e .if4 .left)))
+space-at : (e : tie.Else4) → let f = e .before .before .before .before .before .before in at f + length (writtenField (said (p f))) < length (buffer f)
+space-at e =
+    let f = e .before .before .before .before .before .before in
+    let h : at f + (length (writtenField (said (p f))) + 3) ≤ min (length (buffer f)) pageMost = leb-true _ _ (tested (e .before) (not-false _ (e .if4 .left))) in
+    omega (arith, h)
 
 is-writable-requires : tie.Need-is-writable-requires
 is-writable-requires c κs = search needs
@@ -69,8 +111,23 @@ returns-2 c =
     ap (λ (w : FiledAt). toldFiled w (now (a .buf))) (c .refuse-at2 .ensures)
     ∙ sym (add-22 (now (a .buf)) (a .at) (said (a .p)) (writable-at (c .before .before .before)) (sym (c .before .before .is-given .ensures) ∙ not-true _ (c .before .if2 .taken)))
 
+written-length-requires : tie.Need-written-length-requires
+written-length-requires c κs = search needs
+
+slice-aggregate-put-field : tie.Need-slice-aggregate-put-field
+slice-aggregate-put-field c = search needs
+
+put-field-requires : tie.Need-put-field-requires
+put-field-requires c κs = search needs
+
+array-share-prefix-room : tie.Need-array-share-prefix-room
+array-share-prefix-room c = omega (arith, size-most (c .before), room-size (c .before))
+
+slice-aggregate-is-carried : tie.Need-slice-aggregate-is-carried
+slice-aggregate-is-carried c = size-is (c .before .before) ∙ sym (ap length (written (c .before .before)))
+
 is-carried-requires : tie.Need-is-carried-requires
-is-carried-requires c κs = given-at c
+is-carried-requires c κs = written (c .before .before)
 
 refuse-at-requires-3 : tie.Need-refuse-at-requires-3
 refuse-at-requires-3 c κs = search needs
@@ -80,17 +137,13 @@ same-length-3 c = search needs
 
 returns-3 : tie.Need-returns-3
 returns-3 c =
-    let a = c .before .before .before .before .before .before .before .before .before .args in
-    ap (λ (w : FiledAt). toldFiled w (now (a .buf))) (c .refuse-at3 .ensures)
-    ∙ sym (add-23 (now (a .buf)) (a .at) (said (a .p)) (writable-at (c .before .before .before .before .before)) (given-at (c .before .before .before)) (sym (c .before .before .is-carried .ensures) ∙ not-true _ (c .before .if3 .taken)))
-
-written-length-requires : tie.Need-written-length-requires
-written-length-requires c κs = search needs
+    let k = c .before .before in
+    let f = k .before .before .before in
+    ap (λ (w : FiledAt). toldFiled w (buffer f)) (c .refuse-at3 .ensures)
+    ∙ sym (add-23 (buffer f) (at f) (said (p f)) (writable-here f) (given f) (carried-at k (not-true _ (c .before .if3 .taken))))
 
 add-has-space : tie.Need-add-has-space
-add-has-space c =
-    let a = c .before .before .before .before .before .before .before .before .before .args in
-    omega (arith, c .written-length .ensures, field-most (a .p) (given-at (c .before .before .before)))
+add-has-space c = omega (arith, size-most (c .before .before .before .before))
 
 has-space-requires : tie.Need-has-space-requires
 has-space-requires c κs = search needs
@@ -103,26 +156,24 @@ same-length-4 c = search needs
 
 returns-4 : tie.Need-returns-4
 returns-4 c =
-    let a = c .before .before .before .before .before .before .before .before .before .before .before .before .args in
-    ap (λ (w : FiledAt). toldFiled w (now (a .buf))) (c .refuse-at4 .ensures)
-    ∙ sym (add-24 (now (a .buf)) (a .at) (said (a .p)) (writable-at (c .before .before .before .before .before .before .before .before)) (given-at (c .before .before .before .before .before .before)) (carried-at (c .before .before .before .before)) (tested (c .before .before) (not-true _ (c .before .if4 .taken))))
+    let s = c .before .before in
+    let k = s .before .before in
+    let f = k .before .before .before in
+    ap (λ (w : FiledAt). toldFiled w (buffer f)) (c .refuse-at4 .ensures)
+    ∙ sym (add-24 (buffer f) (at f) (said (p f)) (writable-here f) (given f) (carried-at k (not-false _ (s .before .if3 .left))) (tested s (not-true _ (c .before .if4 .taken))))
 
-put-field-requires : tie.Need-put-field-requires
-put-field-requires c κs = search needs
+array-share-prefix-room-2 : tie.Need-array-share-prefix-room-2
+array-share-prefix-room-2 c = let f = c .before .before .before .before .before .before .before in omega (arith, size-most f, room-size f)
 
-add-end : tie.Need-add-end
-add-end c = omega (arith, c .before .before .before .before .before .before .written-length .ensures, space-at (c .before .before .before .before))
+slice-aggregate-put-line : tie.Need-slice-aggregate-put-line
+slice-aggregate-put-line c =
+    let f = c .before .before .before .before .before .before .before .before in
+    size-is f ∙ sym (ap length (written f))
 
-slice-write-buf : tie.Need-slice-write-buf
-slice-write-buf c =
-    let put = c .before .before in
-    let e = put .before .before in
-    let a = e .before .before .before .before .before .before .before .before .before .before .before .args in
-    let s = space-at e in
-    omega (arith, e .before .before .written-length .ensures, s, filed-length (now (a .buf)) (put .put-field .last .1 .0) (a .at) (writtenField (said (a .p))) (put .put-field .ensures .1) (omega (arith, s)))
-
-add-accept-at : tie.Need-add-accept-at
-add-accept-at c = omega (arith, c .before .before .before .before .before .before .written-length .ensures, space-at (c .before .before .before .before))
+put-line-requires : tie.Need-put-line-requires
+put-line-requires c κs =
+    let f = c .before .before .before .before .before .before .before .before in
+    omega (arith, space-at (c .before .before), ap length (written f))
 
 accept-at-requires : tie.Need-accept-at-requires
 accept-at-requires c κs = search needs
@@ -132,18 +183,14 @@ same-length-5 c = search needs
 
 returns-5 : tie.Need-returns-5
 returns-5 c =
-    let put = c .before .before .before in
-    let e = put .before .before in
-    let a = e .before .before .before .before .before .before .before .before .before .before .before .args in
-    let f = writtenField (said (a .p)) in
-    let n = e .before .before .written-length .ensures in
-    let s = space-at e in
-    let b = filed-bytes (now (a .buf)) (put .put-field .last .1 .0) (a .at) f (put .put-field .ensures .1) (omega (arith, s)) _ n (omega (arith, s)) in
-    let to : a .at + e .before .before .written-length .result + 1 ≡ a .at + length (withLf f) = omega (arith, n, length-append f (10 ∷ [])) in
-    ap (λ (w : FiledAt). toldFiled w (set (put .put-field .last .1 .0) (a .at + e .before .before .written-length .result) 10)) (c .accept-at .ensures)
-    ∙ filed-as to b
-    ∙ sym (add-filed (now (a .buf)) (a .at) (said (a .p)) (writable-at (e .before .before .before .before .before .before .before)) (given-at (e .before .before .before .before .before)) (carried-at (e .before .before .before))
-    (tested (e .before) (not-false _ (e .if4 .left))))
+    let l = c .before .before .before in
+    let s = l .before .before .before .before in
+    let k = s .before .before in
+    let f = k .before .before .before in
+    let e = written f in
+    ap (λ (w : FiledAt). toldFiled w (l .put-line .last .0)) (c .accept-at .ensures)
+    ∙ filed-as (l .put-line .ensures .ends ∙ ap (λ (x : List ℕ). at f + length (withLf x)) e) (l .put-line .ensures .bytes ∙ ap (λ (x : List ℕ). put (buffer f) (at f) (withLf x)) e)
+    ∙ sym (add-filed (buffer f) (at f) (said (p f)) (writable-here f) (given f) (carried-at k (not-false _ (s .before .if3 .left))) (tested s (not-false _ (l .before .before .before .if4 .left))))
 
 pub add-spec : {M : Type 1} → statement M
 add-spec =
@@ -157,20 +204,23 @@ add-spec =
     refuse-at-requires-2
     same-length-2
     returns-2
+    written-length-requires
+    slice-aggregate-put-field
+    put-field-requires
+    array-share-prefix-room
+    slice-aggregate-is-carried
     is-carried-requires
     refuse-at-requires-3
     same-length-3
     returns-3
-    written-length-requires
     add-has-space
     has-space-requires
     refuse-at-requires-4
     same-length-4
     returns-4
-    put-field-requires
-    add-end
-    slice-write-buf
-    add-accept-at
+    array-share-prefix-room-2
+    slice-aggregate-put-line
+    put-line-requires
     accept-at-requires
     same-length-5
     returns-5)

@@ -1,12 +1,11 @@
 -- `reader::fill` meets its contract: after each turn the lines passed are filled, and the others are left. Assumes nothing.
-use mathlib.Core.Path.{_∙_, ap, subst}
+use mathlib.Core.Path.{refl, _∙_, ap, subst}
 use Prim.Native.Nat.{_-_, _≤_}
 use native.Mathlib.Omega.{arith}
 use denote.Ref.{now}
 use lib.ListN.{drop}
 use borrow.Author.Needs.{needs}
-use Rattle.party.specs.declared.Party.{Party}
-use Rattle.party.specs.Text.{textOf}
+use Rattle.party.specs.Text.{padded, textOf}
 use Rattle.field_utils.specs.Lines.{lines}
 use Rattle.field_utils.proofs.Places.{Found, found}
 use Rattle.reader.specs.Reading.{fourTexts}
@@ -23,17 +22,14 @@ abbrev μ-loop : tie.MeasureT-loop
 kept-from-requires : tie.Need-kept-from-requires Inv-loop μ-loop
 kept-from-requires c κs = search needs
 
-blank-requires : tie.Need-blank-requires Inv-loop μ-loop
-blank-requires c κs = search needs
-
 -- what the line that was found says
 fits : (c : tie.After-known-told Inv-loop μ-loop) → let v = c .before .found .given .0 in
-    Found (now (c .before .before .before .before .before .before .before .before .before .before .args .body)) (c .before .before .before .before .before .loop .cursor .at) (v .0) (v .1 .0) (v .1 .1 .0 .at)
-fits c = found (now (c .before .before .before .before .before .before .before .before .before .before .args .body)) (c .before .before .before .before .before .loop .cursor .at) (c .before .before .before .next .ensures) (c .before .found .given .1)
+    Found (now (c .before .before .before .before .before .before .before .before .args .body)) (c .before .before .before .before .before .loop .cursor .at) (v .0) (v .1 .0) (v .1 .1 .0 .at)
+fits c = found (now (c .before .before .before .before .before .before .before .before .args .body)) (c .before .before .before .before .before .loop .cursor .at) (c .before .before .before .next .ensures) (c .before .found .given .1)
 
 loop-holds : tie.Need-loop-holds Inv-loop μ-loop
-unfolding fourTexts
-loop-holds c = (omega arith, filled-none _ _ _ (ap (λ (p : Party). p .«name_and_address») (c .before .blank .ensures)))
+unfolding fourTexts padded textOf
+loop-holds c = (omega arith, filled-none _ _ _ refl)
 
 next-requires : tie.Need-next-requires Inv-loop μ-loop
 next-requires c κs = search needs
@@ -47,9 +43,9 @@ enum-told c = search needs
 returns : tie.Need-returns Inv-loop μ-loop
 returns c =
     let t = c .before .before .before .before in
-    let a = t .before .before .before .before .before .args in
+    let a = t .before .before .before .args in
     let none = found (now (a .body)) (t .loop .cursor .at) (c .before .before .next .ensures) (c .enum-told .given .1) .0 in
-    filled-all (a .numbering) _ (lines (drop (a .from .at) (now (a .body)))) _ _ (t .before .before .before .kept-from .ensures)
+    filled-all (a .numbering) _ (lines (drop (a .from .at) (now (a .body)))) _ _ (t .before .kept-from .ensures)
     (subst (Filled _ (lines (drop (a .from .at) (now (a .body)))) (t .loop .count) (t .loop .texts)) none (t .loop .inv .1)) (t .loop .inv .0)
 
 sub-behind : tie.Need-sub-behind Inv-loop μ-loop
@@ -91,8 +87,8 @@ loop-again c =
 returns-2 : tie.Need-returns-2 Inv-loop μ-loop
 returns-2 c =
     let t = c .before in
-    let a = t .before .before .before .before .before .args in
-    filled-four (a .numbering) _ (lines (drop (a .from .at) (now (a .body)))) _ _ (t .loop .count) (t .before .before .before .kept-from .ensures) (t .loop .inv .1) (omega (arith, t .loop .inv .0))
+    let a = t .before .before .before .args in
+    filled-four (a .numbering) _ (lines (drop (a .from .at) (now (a .body)))) _ _ (t .loop .count) (t .before .kept-from .ensures) (t .loop .inv .1) (omega (arith, t .loop .inv .0))
 
 pub fill-spec : {M : Type 1} → statement M
 fill-spec =
@@ -101,7 +97,6 @@ fill-spec =
     Inv-loop
     μ-loop
     kept-from-requires
-    blank-requires
     loop-holds
     next-requires
     enum-known-found

@@ -1,12 +1,12 @@
 -- `reader::nameless_party` meets its contract. Assumes nothing.
+use mathlib.Core.Path.{refl}
 use denote.Ref.{now}
+use Rattle.party.specs.Text.{padded, textOf}
+use Rattle.party.specs.Party.{blank}
 use Rattle.reader.proofs.Readings.{party-nameless}
 use borrow.Author.Needs.{needs}
 use Rattle.reader.proofs.nameless_party.Statement.{statement}
 use Rattle.reader.proofs.nameless_party.Tie as tie
-
-blank-requires : tie.Need-blank-requires
-blank-requires c κs = search needs
 
 text-of-requires : tie.Need-text-of-requires
 text-of-requires c κs = search needs
@@ -15,10 +15,11 @@ text-of-requires-2 : tie.Need-text-of-requires-2
 text-of-requires-2 c κs = search needs
 
 returns : tie.Need-returns
+unfolding padded textOf
 returns c =
-    let a = c .before .before .before .before .before .before .args in
-    party-nameless (a .option) (a .present) (now (a .account)) (now (a .bic)) (c .before .text-of .ensures) (c .text-of2 .ensures) (c .before .before .before .blank .ensures)
+    let a = c .before .before .before .before .args in
+    party-nameless (a .option) (a .present) (now (a .account)) (now (a .bic)) {p = blank} (c .before .text-of .ensures) (c .text-of2 .ensures) refl
 
 pub nameless-party-spec : {M : Type 1} → statement M
 nameless-party-spec =
-    tie.close (tie.spec blank-requires text-of-requires text-of-requires-2 returns)
+    tie.close (tie.spec text-of-requires text-of-requires-2 returns)

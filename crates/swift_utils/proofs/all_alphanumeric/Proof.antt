@@ -2,17 +2,22 @@
 use mathlib.Core.Path.{_∙_}
 use denote.Ref.{now}
 use Rattle.swift_utils.specs.Bytes.{alphanumeric}
-use Rattle.swift_utils.specs.Classes.{atLeast}
-use Rattle.swift_utils.proofs.Classes.{class-alphanumeric, all-agree}
+use Rattle.swift_utils.proofs.Classes.{class-alphanumeric}
+use Rattle.swift_utils.proofs.Table.{by-entries}
 use borrow.Author.Needs.{needs}
 use Rattle.swift_utils.proofs.all_alphanumeric.Statement.{statement}
 use Rattle.swift_utils.proofs.all_alphanumeric.Tie as tie
+
+class-table-requires : tie.Need-class-table-requires
+class-table-requires c κs = search needs
 
 all-at-least-requires : tie.Need-all-at-least-requires
 all-at-least-requires c κs = search needs
 
 returns : tie.Need-returns
-returns c = c .all-at-least .ensures ∙ all-agree (atLeast 2) alphanumeric class-alphanumeric (now (c .before .before .args .s))
+returns c =
+    let t = c .before .before in
+    c .all-at-least .ensures ∙ by-entries 3 alphanumeric class-alphanumeric (t .class-table .result) (now (t .before .before .args .s)) (t .class-table .ensures)
 
 pub all-alphanumeric-spec : {M : Type 1} → statement M
-all-alphanumeric-spec = tie.close (tie.spec all-at-least-requires returns)
+all-alphanumeric-spec = tie.close (tie.spec class-table-requires all-at-least-requires returns)

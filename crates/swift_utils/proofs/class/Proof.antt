@@ -11,7 +11,7 @@ array-read-result : tie.Need-array-read-result
 array-read-result c = search needs
 
 returns : tie.Need-returns
-returns c = rw (c .class-table .ensures) (class-at (c .before .args .b) (search needs))
+returns c = rw (c .class-table .ensures) (class-at (c .before .args .b))
 
 pub class-spec : {M : Type 1} → statement M
 class-spec = tie.close (tie.spec class-table-requires array-read-result returns)

@@ -10,9 +10,10 @@ use lib.Seq.{length-take-le}
 use borrow.Author.Tests.{not-true, not-false}
 use Rattle.errors.specs.Refusals.{must}
 use Rattle.swift_utils.specs.Bytes.{all, letter, alphanumeric}
-use Rattle.swift_utils.specs.Classes.{atLeast}
+use Rattle.swift_utils.specs.Classes.{entryAtLeast}
 use Rattle.swift_utils.specs.Checks.{bicLength, parseBic}
-use Rattle.swift_utils.proofs.Classes.{class-letter, class-alphanumeric, by-class}
+use Rattle.swift_utils.proofs.Classes.{class-letter, class-alphanumeric}
+use Rattle.swift_utils.proofs.Table.{by-entries}
 use Rattle.swift_utils.proofs.Checks.{bicLength-least, bic-length, bic-bank, bic-rest}
 use borrow.Author.Needs.{needs}
 use Rattle.swift_utils.proofs.Parts.{part-end}
@@ -35,22 +36,31 @@ module _ (c : tie.Else1) where
 
 -- past the test of the first six
 module _ (c : tie.After-all-at-least) where
+  abbrev classes : tie.After-class-table
+  classes = c .before .before .before
+
   abbrev tested : tie.Else1
-  tested = c .before .before
+  tested = classes .before
 
   bank : {t : Bool} → c .all-at-least .result ≡ t → all letter (take 6 (input tested)) ≡ t
-  bank e = by-class 3 letter class-letter (take 6 (input tested)) (c .all-at-least .ensures) e
+  bank e =
+      sym (by-entries 4 letter class-letter (classes .class-table .result) (take 6 (input tested)) (classes .class-table .ensures))
+      ∙ sym (c .all-at-least .ensures)
+      ∙ e
 
 -- past the test of the rest
 module _ (c : tie.After-all-at-least2) where
   abbrev six : tie.After-all-at-least
-  six = c .before .before .before
+  six = c .before .before .before .before
 
   rest : {t : Bool} → c .all-at-least2 .result ≡ t → must t 10 (line (tested six)) ≡ parseBic (line (tested six)) (input (tested six))
   rest e =
       sym
-      (bic-rest (line (tested six)) (input (tested six)) (right (tested six)) (bank six (not-false _ (c .before .before .if2 .left)))
-      (by-class 2 alphanumeric class-alphanumeric (drop 6 (input (tested six))) (c .all-at-least2 .ensures ∙ ap (all (atLeast 2)) (part-end (input (tested six)) 6)) e))
+      (bic-rest (line (tested six)) (input (tested six)) (right (tested six)) (bank six (not-false _ (c .before .before .before .if2 .left)))
+      (sym (by-entries 3 alphanumeric class-alphanumeric (classes six .class-table .result) (drop 6 (input (tested six))) (classes six .class-table .ensures))
+      ∙ ap (all (entryAtLeast (classes six .class-table .result) 3)) (sym (part-end (input (tested six)) 6))
+      ∙ sym (c .all-at-least2 .ensures)
+      ∙ e))
 
 is-bic-length-requires : tie.Need-is-bic-length-requires
 is-bic-length-requires c κs = search needs
@@ -60,8 +70,11 @@ returns c =
     let a = c .before .before .before .args in
     sym (bic-length (a .line) (now (a .input)) (sym (c .before .is-bic-length .ensures) ∙ not-true _ (c .if1 .taken)))
 
+class-table-requires : tie.Need-class-table-requires
+class-table-requires c κs = search needs
+
 slice-aggregate-bank-and-country : tie.Need-slice-aggregate-bank-and-country
-slice-aggregate-bank-and-country c = sym (length-take-le 6 (input (c .before)) (omega (arith, long (c .before))))
+slice-aggregate-bank-and-country c = sym (length-take-le 6 (input (c .before .before)) (omega (arith, long (c .before .before))))
 
 all-at-least-requires : tie.Need-all-at-least-requires
 all-at-least-requires c κs = search needs
@@ -95,6 +108,7 @@ parse-bic-spec =
     (tie.spec
     is-bic-length-requires
     returns
+    class-table-requires
     slice-aggregate-bank-and-country
     all-at-least-requires
     returns-2

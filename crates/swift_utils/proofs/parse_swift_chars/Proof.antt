@@ -1,11 +1,12 @@
 -- `swift_utils::parse_swift_chars` meets its contract: a case of the rule for each way of the test. Assumes nothing.
-use mathlib.Core.Path.{_≡_, sym}
+use mathlib.Core.Path.{_≡_, sym, _∙_}
 use mathlib.Core.Bool.{Bool}
 use denote.Ref.{now}
 use Rattle.errors.specs.Refusals.{must}
 use Rattle.swift_utils.specs.Bytes.{legal}
 use Rattle.swift_utils.specs.Checks.{parseSwiftChars}
-use Rattle.swift_utils.proofs.Classes.{class-legal, by-class}
+use Rattle.swift_utils.proofs.Classes.{class-legal}
+use Rattle.swift_utils.proofs.Table.{by-entries}
 use Rattle.swift_utils.proofs.Checks.{chars}
 use borrow.Author.Needs.{needs}
 use Rattle.swift_utils.proofs.parse_swift_chars.Statement.{statement}
@@ -13,10 +14,14 @@ use Rattle.swift_utils.proofs.parse_swift_chars.Tie as tie
 
 -- what the test of the class says
 tested : (c : tie.After-all-at-least) {t : Bool} → c .all-at-least .result ≡ t
-    → let a = c .before .before .args in must t 3 (a .line) ≡ parseSwiftChars (a .line) (now (a .input))
+    → let a = c .before .before .before .before .args in must t 3 (a .line) ≡ parseSwiftChars (a .line) (now (a .input))
 tested c e =
-    let a = c .before .before .args in
-    sym (chars (a .line) (now (a .input)) (by-class 1 legal class-legal (now (a .input)) (c .all-at-least .ensures) e))
+    let t = c .before .before in
+    let a = t .before .before .args in
+    sym (chars (a .line) (now (a .input)) (sym (by-entries 1 legal class-legal (t .class-table .result) (now (a .input)) (t .class-table .ensures)) ∙ sym (c .all-at-least .ensures) ∙ e))
+
+class-table-requires : tie.Need-class-table-requires
+class-table-requires c κs = search needs
 
 all-at-least-requires : tie.Need-all-at-least-requires
 all-at-least-requires c κs = search needs
@@ -28,4 +33,4 @@ returns-2 : tie.Need-returns-2
 returns-2 c = tested (c .before) (c .if1 .left)
 
 pub parse-swift-chars-spec : {M : Type 1} → statement M
-parse-swift-chars-spec = tie.close (tie.spec all-at-least-requires returns returns-2)
+parse-swift-chars-spec = tie.close (tie.spec class-table-requires all-at-least-requires returns returns-2)

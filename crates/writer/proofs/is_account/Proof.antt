@@ -8,8 +8,9 @@ use Rattle.party.specs.Limits.{limitsOf}
 use Rattle.party.specs.Text.{used}
 use Rattle.party.specs.Party.{where-limit}
 use Rattle.reader.specs.Options.{firstOf}
-use Rattle.writer.specs.Given.{passes, every, textReply, isAccount}
-use Rattle.writer.proofs.Texts.{used-part, used-within, used-count}
+use Rattle.writer.specs.Given.{passes, every, isLine, textReply, isAccount}
+use Rattle.writer.specs.Code.{lineReply}
+use Rattle.writer.proofs.Texts.{used-part, used-within, used-count, line-not, line-is}
 use Rattle.writer.proofs.Records.{every-none, every-one, empty-line}
 use borrow.Author.Needs.{needs}
 use Rattle.writer.proofs.is_account.Statement.{statement}
@@ -25,12 +26,14 @@ tested e =
 
 -- where it is there, it is a line, and its text passes
 present :
-    (l : tie.After-is-line) {t : Bool} → l .is-line .result ≡ t → let a = l .before .before .before .before .before .args in
-    isAccount (a .option) (a .present) (used (a .t)) ≡ (t && passes (textReply (firstOf (a .option)) (a .option) (used (a .t) .bytes)))
-present l e =
-    let a = l .before .before .before .before .before .args in
-    ap (λ (b : Bool). isAccount (a .option) b (used (a .t))) (not-false (a .present) (l .before .if2 .left))
-    ∙ ap (λ (b : Bool). b && passes (textReply (firstOf (a .option)) (a .option) (used (a .t) .bytes))) (sym (l .is-line .ensures) ∙ e)
+    (u : tie.After-used-length) {t : Bool} → let a = u .before .before .before .before .before .args in isLine (used (a .t)) ≡ t
+    → every (isAccount (a .option) (a .present)) (where-limit (limitsOf (a .option) .longest) (used (a .t) ∷ []))
+    ≡ (t && passes (textReply (firstOf (a .option)) (a .option) (used (a .t) .bytes)))
+present u e =
+    let a = u .before .before .before .before .before .args in
+    tested (u .before .before)
+    ∙ ap (λ (b : Bool). isAccount (a .option) b (used (a .t))) (not-false (a .present) (u .before .if2 .left))
+    ∙ ap (λ (b : Bool). b && passes (textReply (firstOf (a .option)) (a .option) (used (a .t) .bytes))) e
 
 limits-of-requires : tie.Need-limits-of-requires
 limits-of-requires c κs = search needs
@@ -45,34 +48,36 @@ returns-2 c =
     let a = c .before .before .before .before .before .args in
     sym (tested (c .before .before) ∙ ap (λ (b : Bool). isAccount (a .option) b (used (a .t))) (not-true (a .present) (c .before .if2 .taken)) ∙ empty-line (a .t))
 
-is-line-requires : tie.Need-is-line-requires
-is-line-requires c κs = search needs
-
-returns-3 : tie.Need-returns-3
-returns-3 c = sym (tested (c .before .before .before) ∙ present (c .before) (not-true _ (c .if3 .taken)))
-
 used-length-requires : tie.Need-used-length-requires
 used-length-requires c κs = search needs
 
+returns-3 : tie.Need-returns-3
+returns-3 c =
+    let u = c .before .before in
+    sym (present u (line-not (u .before .before .before .before .before .args .t) (u .used-length .result) (u .used-length .ensures .is) (c .if3 .taken)))
+
 array-share-prefix-bytes : tie.Need-array-share-prefix-bytes
 array-share-prefix-bytes c =
-    let u = c .before in
-    used-within (c .before .before .before .before .before .before .before .before .args .t) (u .used-length .result) (u .used-length .ensures .is)
+    let u = c .before .before .before in
+    used-within (u .before .before .before .before .before .args .t) (u .used-length .result) (u .used-length .ensures .is)
 
 slice-aggregate-is-account-text : tie.Need-slice-aggregate-is-account-text
 slice-aggregate-is-account-text c =
-    let u = c .before .before in
-    used-count (c .before .before .before .before .before .before .before .before .before .args .t) (u .used-length .result) (u .used-length .ensures .is)
+    let u = c .before .before .before .before in
+    used-count (u .before .before .before .before .before .args .t) (u .used-length .result) (u .used-length .ensures .is)
 
 is-account-text-requires : tie.Need-is-account-text-requires
 is-account-text-requires c κs = search needs
 
 returns-4 : tie.Need-returns-4
 returns-4 c =
-    let a = c .before .before .before .before .before .before .before .before .before .before .args in
-    let part = used-part (a .t) (c .before .before .before .used-length .result) (c .before .before .before .used-length .ensures .is) in
-    c .is-account-text .ensures ∙ ap (λ (x : List ℕ). passes (textReply (firstOf (a .option)) (a .option) x)) part
-    ∙ sym (tested (c .before .before .before .before .before .before .before) ∙ present (c .before .before .before .before .before) (not-false _ (c .before .before .before .before .if3 .left)))
+    let u = c .before .before .before .before .before in
+    let a = u .before .before .before .before .before .args in
+    let n = u .used-length .result in
+    let is = u .used-length .ensures .is in
+    c .is-account-text .ensures
+    ∙ ap (λ (x : List ℕ). lineReply (textReply (firstOf (a .option)) (a .option) x) x) (used-part (a .t) n is)
+    ∙ sym (present u (line-is (a .t) n is (c .before .before .before .if3 .left)))
 
 pub is-account-spec : {M : Type 1} → statement M
 is-account-spec =
@@ -81,9 +86,8 @@ is-account-spec =
     limits-of-requires
     returns
     returns-2
-    is-line-requires
-    returns-3
     used-length-requires
+    returns-3
     array-share-prefix-bytes
     slice-aggregate-is-account-text
     is-account-text-requires

@@ -4,10 +4,14 @@ use mathlib.Core.Path.{_≡_, sym, _∙_, ap}
 use mathlib.Core.Bool.{Bool}
 use native.Mathlib.Omega.{arith}
 use borrow.Author.Tests.{not-true, not-false}
-use lib.ListN.{length, drop, length-drop}
+use denote.Ref.{now}
+use lib.ListN.{length, take, drop, length-drop}
 use Rattle.party.specs.Text.{used}
 use Rattle.swift_utils.specs.Bytes.{all}
-use Rattle.writer.specs.Code.{plain, numberIn}
+use Rattle.swift_utils.specs.Classes.{plain}
+use Rattle.swift_utils.proofs.Classes.{class-plain}
+use Rattle.swift_utils.proofs.Table.{by-entries}
+use Rattle.writer.specs.Code.{numberIn}
 use Rattle.writer.proofs.Texts.{used-part, used-within, used-count, line-not, line-is}
 use Rattle.writer.proofs.Records.{inTurn, turn-room, name-not-line, name-not-turn, name-long, name-bytes}
 use borrow.Author.Needs.{needs}
@@ -75,13 +79,13 @@ array-share-prefix-bytes-2 c =
     let u = c .before .before .before .before .before .before .before .before in
     used-within (u .before .args .t) (u .used-length .result) (u .used-length .ensures .is)
 
-slice-aggregate-is-plain : tie.Need-slice-aggregate-is-plain
-slice-aggregate-is-plain c =
+slice-aggregate-all-at-least : tie.Need-slice-aggregate-all-at-least
+slice-aggregate-all-at-least c =
     let u = c .before .before .before .before .before .before .before .before .before in
     used-count (u .before .args .t) (u .used-length .result) (u .used-length .ensures .is)
 
-is-plain-requires : tie.Need-is-plain-requires
-is-plain-requires c κs = c .before .before .before .before .before .before .before .before .before .before .pre .1
+all-at-least-requires : tie.Need-all-at-least-requires
+all-at-least-requires c κs = search needs
 
 returns-4 : tie.Need-returns-4
 returns-4 c =
@@ -89,7 +93,9 @@ returns-4 c =
     let a = u .before .args in
     let n = u .used-length .result in
     let is = u .used-length .ensures .is in
-    c .is-plain .ensures ∙ ap (all plain) (used-part (a .t) n is)
+    c .all-at-least .ensures
+    ∙ by-entries 2 plain class-plain (now (a .classes)) (take n (a .t .bytes)) (u .before .pre .1)
+    ∙ ap (all plain) (used-part (a .t) n is)
     ∙ sym (name-bytes (a .numbering) (a .longest) (a .turn) (used (a .t)) (turn (c .before .before .before .before .before) (not-false _ (c .before .before .before .before .if2 .left))) (omega (arith, text-length (c .before .before .before)))
     (line-is (a .t) n is (c .before .before .before .before .before .before .before .before .if1 .left)))
 
@@ -107,6 +113,6 @@ is-name-spec =
     sub-if3
     returns-3
     array-share-prefix-bytes-2
-    slice-aggregate-is-plain
-    is-plain-requires
+    slice-aggregate-all-at-least
+    all-at-least-requires
     returns-4)
