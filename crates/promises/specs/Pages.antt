@@ -79,7 +79,7 @@ pub record PagesRuledOut : Type 0 where
   pub next-short : readAt (bytes ":50K:A\n-\n") 6 ≡ refusing 21 6
   -- a lone hyphen after a tag taken for the end: it is a name
   pub hyphen : reads 2 (bytes ":50K:-\n-\n") 0 ≡ named (bytes "-") 7 ∷ ending 9 ∷ []
-  -- a body that keeps its closing LF would have an empty line after it: 50K takes `A⏎` for one name, and 50C would be refused
+  -- a body that keeps its closing LF: 50K takes `A⏎` for one name all the same, but 50C would be refused
   pub closing-lf : readAt (bytes ":50C:ABCDEFGH\n-\n") 0 .body ≡ bytes "ABCDEFGH"
   -- 16 told as 17: before the length, a line that neither opens nor ends is 16
   pub sixteen : readAt (bytes "X\n-\n") 0 ≡ refusing 16 2

@@ -76,7 +76,7 @@ reads Field59A = shown Field59A 0 refl refl refl refl
 reads Field59F = shown Field59F 2 refl refl refl refl
 
 -- a reading accepted as an option
-abbrev As : Reading → PartyOption → Type 0
+abbrev pub As : Reading → PartyOption → Type 0
 As r o = (r .reply ≡ accepted) × (r .party .option ≡ o)
 
 pub record RuledOut : Type 0 where

@@ -1,2 +1,3 @@
-// What the readers and choices promise, as theorems over the definitions that their contracts cite: specs/Starred.antt and
-// specs/RuledOut.antt. There is no code here.
+// What the contracts promise, as theorems over the definitions that they cite: specs/Starred.antt has the starred bodies of document 01, the
+// other files wrong programs that are ruled out. Those named Operations go through the public operations crate by crate, and have what the
+// others and the must-fail edits leave. There is no code here.

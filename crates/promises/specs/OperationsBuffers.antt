@@ -1,0 +1,153 @@
+-- Wrong programs that the contracts of `writer`, `pages`, `filing`, `flat` and `exports` rule out (document 01, 'For the auditor's form'),
+-- each by computation. A field is named after its operation and the mistake, and its comment says what the wrong program does.
+use mathlib.Core.Path.{_≡_, refl}
+use mathlib.Core.Bool.{true, false}
+use mathlib.Core.List.{List, [], _∷_, _++_}
+use Prim.Native.Nat.{ℕ, _+_, _*_}
+use lib.ListN.{length, getD, replicate}
+use Rattle.errors.specs.Refusals.{refused}
+use Rattle.party.specs.declared.PartyOption.the-variants.{Field50NoOption, Field50A, Field50F, Field50C, Field59NoOption, Field59A, Field59F}
+use Rattle.party.specs.Limits.{placeOf}
+use Rattle.party.specs.Text.{padded, textOf}
+use Rattle.party.specs.Party.{blank, said}
+use Rattle.swift_utils.specs.Bytes.{bytes, letter, digit, alphanumeric, signs, legal}
+use Rattle.swift_utils.specs.Checks.{parseSwiftChars, parseAccount, bicLength, parseBic}
+use Rattle.field_utils.specs.Lines.{upto, onto, starts, lines}
+use Rattle.field_utils.specs.Trim.{white, trimmedStart, keep, trimmedEnd, trimmed}
+use Rattle.field_utils.specs.Identifier.{isNumbered, secondSlash, identifierReply, parsePartyIdentifier}
+use Rattle.field_utils.specs.Names.{parseLine, parseLines, parseNameAndAddress}
+use Rattle.reader.specs.Reading.{fourTexts, partyOf}
+use Rattle.reader.specs.Options.{accountHead, shortAccountHead, afterHead, read}
+use Rattle.choices.specs.Detection.{anyNumbered, firstLine, lastLine, bicLike, firstThat, pickOf, variantOf}
+use Rattle.field50.specs.Choices.{orderingCustomerAFK, orderingCustomerAFKBy}
+use Rattle.field59.specs.Choices.{testLine, field59, field59By}
+use Rattle.writer.specs.Writing.{tagOf, nameLines, writtenLines, joined, writtenBody, writtenField, fits, placed, pieces}
+use Rattle.writer.specs.Given.{isLine, areNames, isGiven, written}
+use Rattle.writer.specs.ReadBack.{endsCr, lastEmpty, earlierCr, identified59F}
+use Rattle.pages.specs.Pages.{lineAt, endsPage, runs, begins, tagIn, readField, readLine, readAt}
+use Rattle.pages.specs.Filing.{anyMark, laterMark, isCarried, writable, recordReply, add, close}
+use Rattle.filing.specs.Filing.{fileRead, fileNext}
+use Rattle.flat.specs.Flat.{flatTexts, flatten, stored, optionAt, textAt, isFlat, partyFrom, unflatten}
+use Rattle.exports.specs.Exports.{choiceAt, partyRead, partyParse, partyParseWithVariant, partyWrite, pageRead, pageAdd, pageClose}
+use Rattle.promises.specs.Starred.{gives, fieldOf}
+use Rattle.promises.specs.Filing.{of}
+
+pub record WriterOperations : Type 0 where
+  -- counts a letter in every tag
+  pub tag-length-counts-a-letter : length (tagOf Field50NoOption) ≡ 4
+  -- leaves the closing colon out
+  pub tag-length-leaves-the-colon : length (tagOf Field59A) ≡ 5
+  -- leaves out the empty line after 59F's identifier
+  pub written-length-leaves-the-gap : length (fieldOf (gives Field59F true (bytes "1") [] (bytes "1/A" ∷ []))) ≡ length (bytes ":59F:/1\n\n1/A")
+  -- leaves out the numbers of 50F
+  pub written-length-leaves-numbers : length (fieldOf (gives Field50F true (bytes "X") [] (bytes "A" ∷ []))) ≡ length (bytes ":50F:X\n1/A")
+  -- has no space for a field that fills the buffer to its end
+  pub put-field-asks-for-more : fits (bytes "abcdef") 0 (writtenField (said (of (bytes "A" ∷ [])))) ≡ true
+  -- writes at the start, whatever the place
+  pub put-field-starts-anew : placed (bytes "abcdefgh") 1 (writtenField (said (of (bytes "A" ∷ [])))) ≡ bytes "a:50K:Ah"
+
+pub writer-operations : WriterOperations
+unfolding padded textOf said fourTexts partyOf nameLines writtenLines joined writtenBody writtenField
+writer-operations = record {
+  tag-length-counts-a-letter = refl;
+  tag-length-leaves-the-colon = refl;
+  written-length-leaves-the-gap = refl;
+  written-length-leaves-numbers = refl;
+  put-field-asks-for-more = refl;
+  put-field-starts-anew = refl;
+}
+
+pub record PagesOperations : Type 0 where
+  -- tests 24 before 21
+  pub close-tests-space-first : close (bytes "ab") 1 .reply ≡ refused 21 0
+
+pub pages-operations : PagesOperations
+unfolding writable close
+pages-operations = record { close-tests-space-first = refl }
+
+pub record FilingOperations : Type 0 where
+  -- tells what the read says where the add refuses
+  pub file-next-tells-the-read : fileNext (bytes ":50K:A\n-\n") 0 (replicate 8 0) 0 .reply ≡ refused 24 0
+
+pub filing-operations : FilingOperations
+unfolding padded textOf said letter digit alphanumeric signs legal parseSwiftChars parseAccount upto onto starts lines parseLine parseLines parseNameAndAddress fourTexts partyOf accountHead afterHead read nameLines writtenLines joined writtenBody writtenField pieces isLine areNames isGiven endsCr lastEmpty earlierCr identified59F lineAt endsPage runs begins tagIn readField readLine readAt anyMark laterMark isCarried writable recordReply add fileRead fileNext
+filing-operations = record { file-next-tells-the-read = refl }
+
+pub record FlatOperations : Type 0 where
+  -- starts the BIC at 41 for 42, where its length stands
+  pub store-shifts-the-bic : getD (stored (gives Field50C false [] (bytes "ABCDEFGH") [] .party) (replicate 237 0)) 42 0 ≡ 8
+  -- stores as much of a record as there is space for
+  pub store-gives-a-part : stored blank (bytes "abc") ≡ bytes "abc"
+  -- counts from 1
+  pub option-at-counts-from-1 : optionAt 1 ≡ Field50A
+  -- gives the last option where there is none
+  pub option-at-gives-the-last : optionAt 11 ≡ Field50NoOption
+  -- takes 237 bytes or more
+  pub load-takes-238 : unflatten (replicate 238 0) .ok ≡ false
+  -- takes a place that no option has
+  pub load-takes-place-11 : unflatten (11 ∷ replicate 236 0) .ok ≡ false
+
+pub flat-operations : FlatOperations
+unfolding padded textOf fourTexts partyOf flatTexts flatten stored optionAt isFlat unflatten
+flat-operations = record {
+  store-shifts-the-bic = refl;
+  store-gives-a-part = refl;
+  option-at-counts-from-1 = refl;
+  option-at-gives-the-last = refl;
+  load-takes-238 = refl;
+  load-takes-place-11 = refl;
+}
+
+-- a lent record
+abbrev lent : List ℕ
+lent = replicate 237 7
+
+-- the 50K of one name, A, as bytes
+abbrev flatA : List ℕ
+flatA = flatten (of (bytes "A" ∷ []))
+
+pub record ExportsOperations : Type 0 where
+  -- gives the number alone, without the line: an empty 50C is 9, line 1
+  pub party-read-drops-the-line : partyRead (placeOf Field50C) [] lent .code ≡ 9 * 65536 + 1
+  -- reads by the first option where there is none
+  pub party-read-takes-11 : partyRead 11 (bytes "A") lent .code ≡ 15 * 65536
+  -- counts the choices from 1: 2 is AFK, and the record a 50A
+  pub party-parse-counts-from-1 : getD (partyParse 2 (bytes "ABCDEFGH") lent .bytes) 0 0 ≡ placeOf Field50A
+  -- tests 15 before 24
+  pub party-parse-tests-space-last : partyParse 7 (bytes "A") [] .code ≡ 24 * 65536
+  -- stores the blank record beside a refusal
+  pub party-parse-with-variant-stores : partyParseWithVariant 2 (bytes "A") 97 lent .bytes ≡ lent
+  -- detects without a letter, and stores a 59A
+  pub party-parse-with-variant-detects : getD (partyParseWithVariant 5 (bytes "ABCDEFGH") 0 lent .bytes) 0 0 ≡ placeOf Field59NoOption
+  -- tests 24 before 22
+  pub party-write-tests-space-first : partyWrite [] [] .code ≡ 22 * 65536
+  -- gives 0 where it accepts
+  pub party-write-gives-0 : partyWrite flatA (replicate 6 0) ≡ record { code = 6; bytes = bytes ":50K:A" }
+  -- gives the next position, and not how far it is
+  pub page-read-gives-the-position : pageRead (bytes ":50K:A\n-\n") 7 lent .code ≡ 65536 + 2
+  -- files a record for bytes that are none
+  pub page-add-takes-none : pageAdd [] (replicate 9 0) 0 .code ≡ 22 * 65536
+  -- gives the length written, and not the position after
+  pub page-add-gives-the-length : pageAdd flatA (bytes "X\n" ++ replicate 9 0) 2 .code ≡ 9
+  -- gives 2, which it wrote, and not the page's length
+  pub page-close-gives-2 : pageClose (bytes "X\nab") 2 .code ≡ 4
+  -- writes the hyphen before it tests the space
+  pub page-close-writes-first : pageClose (bytes "X\na") 2 .bytes ≡ bytes "X\na"
+
+pub exports-operations : ExportsOperations
+unfolding padded textOf said letter digit alphanumeric signs legal parseSwiftChars parseAccount bicLength parseBic upto onto starts lines white trimmedStart keep trimmedEnd trimmed isNumbered secondSlash identifierReply parsePartyIdentifier parseLine parseLines parseNameAndAddress fourTexts partyOf accountHead shortAccountHead afterHead read anyNumbered firstLine lastLine bicLike firstThat pickOf variantOf orderingCustomerAFK orderingCustomerAFKBy testLine field59 field59By nameLines writtenLines joined writtenBody writtenField pieces isLine areNames isGiven written endsCr lastEmpty earlierCr identified59F lineAt endsPage runs begins tagIn readField readLine readAt anyMark laterMark isCarried writable recordReply add close flatTexts flatten stored optionAt textAt isFlat partyFrom unflatten choiceAt
+exports-operations = record {
+  party-read-drops-the-line = refl;
+  party-read-takes-11 = refl;
+  party-parse-counts-from-1 = refl;
+  party-parse-tests-space-last = refl;
+  party-parse-with-variant-stores = refl;
+  party-parse-with-variant-detects = refl;
+  party-write-tests-space-first = refl;
+  party-write-gives-0 = refl;
+  page-read-gives-the-position = refl;
+  page-add-takes-none = refl;
+  page-add-gives-the-length = refl;
+  page-close-gives-2 = refl;
+  page-close-writes-first = refl;
+}

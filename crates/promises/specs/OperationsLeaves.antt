@@ -1,0 +1,189 @@
+-- Wrong programs that the contracts of `errors`, `party`, `swift_utils` and `field_utils` rule out (document 01, 'For the auditor's form'),
+-- each by computation. A field is named after its operation and the mistake, and its comment says what the wrong program does.
+use mathlib.Core.Path.{_≡_, refl, sym, _∙_}
+use mathlib.Core.Bool.{true, false}
+use mathlib.Core.List.{List, [], _∷_}
+use Prim.Native.Nat.{ℕ, _+_}
+use native.Mathlib.Omega.{arith}
+use lib.ListN.{length, drop, getD, replicate}
+use Rattle.errors.specs.declared.ParseError.the-variants.{Position}
+use Rattle.errors.specs.Refusals.{accepted, refused, refusalAt, refusalOf}
+use Rattle.party.specs.declared.PartyOption.the-variants.{Field50F, Field50K, Field59NoOption, Field59F}
+use Rattle.party.specs.declared.Party.{Party}
+use Rattle.party.specs.Limits.{limitsOf, placeOf}
+use Rattle.party.specs.Text.{padded, textOf}
+use Rattle.party.specs.Party.{IsParty, blank, said, Same}
+use Rattle.swift_utils.specs.Bytes.{bytes, all, letter, digit, alphanumeric, signs, legal}
+use Rattle.swift_utils.specs.Classes.{classOf, classTable, entryAtLeast}
+use Rattle.swift_utils.specs.Checks.{parseSwiftChars, parseAccount, bicLength}
+use Rattle.field_utils.specs.declared.lines.Line.the-variants.{Next, Done}
+use Rattle.field_utils.specs.declared.Numbering.the-variants.{Numbered, InTurn}
+use Rattle.field_utils.specs.Lines.{upto, starts, withoutCr, lineOf, nextLine}
+use Rattle.field_utils.specs.Trim.{white, trimmedStart, keep, trimmedEnd, trimmed}
+use Rattle.field_utils.specs.Identifier.{isNumbered, secondSlash, identifierReply}
+use Rattle.field_utils.specs.Names.{numberingOf, parseCount}
+
+pub record ErrorsOperations : Type 0 where
+  -- numbers the cases one after the other, so that a position is 19
+  pub refusal-leaves-no-gap : refusalOf Position ≡ refusalAt 21 0
+
+pub errors-operations : ErrorsOperations
+errors-operations = record { refusal-leaves-no-gap = refl }
+
+-- a 50K with a BIC text, which the option leaves out
+abbrev withBic : List ℕ → Party
+withBic bic = record {
+  option = Field50K;
+  present = false;
+  account = textOf [];
+  bic = textOf bic;
+  count = 0;
+  «name_and_address» = textOf [] ∷ textOf [] ∷ textOf [] ∷ textOf [] ∷ [];
+}
+
+pub record PartyOperations : Type 0 where
+  -- orders the options by their letters: A, C, F
+  pub index-of-sorts : placeOf Field50F ≡ 2
+  -- counts the options of 59 from 0
+  pub index-of-starts-anew : placeOf Field59NoOption ≡ 8
+  -- lets a text of 50F have 35 bytes, as a name of 50K has
+  pub limits-of-takes-35 : limitsOf Field50F .name ≡ 33
+  -- gives nothing, and only its promise could be empty: a record of three names, or with a text of 37 bytes, does not have it
+  pub sized-takes-three : (p : Party) → length (p .«name_and_address») ≡ 3 → IsParty p → ⊥
+  pub sized-takes-37 : (p : Party) → length (p .account .bytes) ≡ 37 → IsParty p → ⊥
+  -- gives the length of the slice, though only 38 bytes are kept
+  pub text-of-counts-all : textOf (replicate 40 65) .len ≡ 38
+  -- fills with spaces
+  pub text-of-fills : textOf (bytes "A") .bytes ≡ 65 ∷ replicate 37 0
+  -- counts four empty names
+  pub blank-has-four : blank .count ≡ 0
+  -- says that there is an account, an empty one
+  pub blank-has-an-account : blank .present ≡ false
+  -- compares all bytes, those of an unused text too
+  pub same-compares-unused : Same (withBic (bytes "A")) (withBic (bytes "B"))
+
+pub party-operations : PartyOperations
+unfolding padded textOf said
+party-operations = record {
+  index-of-sorts = refl;
+  index-of-starts-anew = refl;
+  limits-of-takes-35 = refl;
+  sized-takes-three = λ p e h. let z : _≡_ {A = ℕ} 3 4 = sym e ∙ h .size in omega arith;
+  sized-takes-37 = λ p e h. let z : _≡_ {A = ℕ} 37 38 = sym e ∙ h .account .size in omega arith;
+  text-of-counts-all = refl;
+  text-of-fills = refl;
+  blank-has-four = refl;
+  blank-has-an-account = refl;
+  same-compares-unused = refl;
+}
+
+pub record SwiftUtilsOperations : Type 0 where
+  -- puts each class one entry late: A has that of `@`
+  pub class-table-is-late : getD classTable 65 0 ≡ 4
+  -- takes every printable byte
+  pub is-legal-takes-tilde : legal 126 ≡ false
+  -- takes capitals alone
+  pub is-letter-refuses-a : letter 97 ≡ true
+  -- goes one past Z
+  pub is-letter-takes-bracket : letter 91 ≡ false
+  -- goes one past 9
+  pub is-digit-takes-colon : digit 58 ≡ false
+  -- begins at 1
+  pub is-digit-refuses-0 : digit 48 ≡ true
+  -- asks for an entry above k
+  pub all-at-least-asks-for-more : all (entryAtLeast classTable 3) (bytes "1") ≡ true
+  -- tests the first byte alone
+  pub all-at-least-tests-one : all (entryAtLeast classTable 2) (bytes "A\n") ≡ false
+  -- takes letters alone
+  pub all-alphanumeric-refuses-digits : all alphanumeric (bytes "A1") ≡ true
+  -- is content with one such byte
+  pub all-alphanumeric-takes-some : all alphanumeric (bytes "A-") ≡ false
+  -- leaves the last byte out
+  pub parse-swift-chars-stops-short : parseSwiftChars 1 (bytes "A~") ≡ refused 3 1
+  -- refuses the longest length
+  pub parse-account-refuses-the-longest : parseAccount 0 2 1 (bytes "AB") ≡ accepted
+  -- tests the bytes before the length
+  pub parse-account-tests-bytes-first : parseAccount 0 2 1 (bytes "AB~") ≡ refused 2 1
+  -- takes every length from 8 to 11
+  pub is-bic-length-takes-9 : bicLength 9 ≡ false
+  -- takes 8 alone
+  pub is-bic-length-refuses-11 : bicLength 11 ≡ true
+
+pub swift-utils-operations : SwiftUtilsOperations
+unfolding letter digit alphanumeric signs legal classOf classTable parseSwiftChars parseAccount bicLength
+swift-utils-operations = record {
+  class-table-is-late = refl;
+  is-legal-takes-tilde = refl;
+  is-letter-refuses-a = refl;
+  is-letter-takes-bracket = refl;
+  is-digit-takes-colon = refl;
+  is-digit-refuses-0 = refl;
+  all-at-least-asks-for-more = refl;
+  all-at-least-tests-one = refl;
+  all-alphanumeric-refuses-digits = refl;
+  all-alphanumeric-takes-some = refl;
+  parse-swift-chars-stops-short = refl;
+  parse-account-refuses-the-longest = refl;
+  parse-account-tests-bytes-first = refl;
+  is-bic-length-takes-9 = refl;
+  is-bic-length-refuses-11 = refl;
+}
+
+-- where `find` finds a byte, as its contract has it
+abbrev found : List ℕ → ℕ → ℕ → ℕ
+found s from b = from + upto b (drop from s)
+
+pub record FieldUtilsOperations : Type 0 where
+  -- begins after the place
+  pub find-skips-the-start : found (bytes "a//") 1 47 ≡ 1
+  -- gives the LF after the next
+  pub find-lf-gives-the-second : found (bytes "a\nb\n") 0 10 ≡ 1
+  -- gives 0 where there is none
+  pub find-lf-gives-0 : found (bytes "ab") 0 10 ≡ 2
+  -- drops every CR before the LF
+  pub next-drops-all-crs : nextLine (bytes "a\r\r\n") 0 ≡ Next 0 2 (record { at = 4 })
+  -- gives an empty line after an LF at the end
+  pub next-gives-an-empty-line : nextLine (bytes "a\n") 2 ≡ Done
+  -- trims the start alone
+  pub trim-leaves-the-end : trimmed (bytes " A ") ≡ bytes "A"
+  -- trims spaces alone
+  pub trim-leaves-tabs : trimmed (9 ∷ 65 ∷ 13 ∷ []) ≡ bytes "A"
+  -- takes a slash anywhere
+  pub starts-with-slash-looks-on : starts 47 (bytes "A/") ≡ false
+  -- asks for a byte after the slash
+  pub starts-with-slash-asks-for-more : starts 47 (bytes "/") ≡ true
+  -- takes a letter before the slash
+  pub is-numbered-line-takes-a-letter : isNumbered (bytes "A/B") ≡ false
+  -- asks for a text after the slash
+  pub is-numbered-line-asks-for-text : isNumbered (bytes "1/") ≡ true
+  -- takes any byte in a code
+  pub parse-remaining-takes-a-sign : identifierReply 34 1 (bytes "A-/1") ≡ refused 2 1
+  -- asks 50F's digits to be in turn
+  pub numbering-of-counts-50F : numberingOf Field50F ≡ Numbered
+  -- takes any digits in 59F
+  pub numbering-of-leaves-59F : numberingOf Field59F ≡ InTurn
+  -- takes no name at all
+  pub parse-count-takes-none : parseCount 4 0 ≡ refused 7 0
+  -- refuses as many as there may be
+  pub parse-count-refuses-four : parseCount 4 4 ≡ accepted
+
+pub field-utils-operations : FieldUtilsOperations
+unfolding letter digit alphanumeric signs legal parseSwiftChars parseAccount upto starts withoutCr lineOf nextLine white trimmedStart keep trimmedEnd trimmed isNumbered secondSlash identifierReply
+field-utils-operations = record {
+  find-skips-the-start = refl;
+  find-lf-gives-the-second = refl;
+  find-lf-gives-0 = refl;
+  next-drops-all-crs = refl;
+  next-gives-an-empty-line = refl;
+  trim-leaves-the-end = refl;
+  trim-leaves-tabs = refl;
+  starts-with-slash-looks-on = refl;
+  starts-with-slash-asks-for-more = refl;
+  is-numbered-line-takes-a-letter = refl;
+  is-numbered-line-asks-for-text = refl;
+  parse-remaining-takes-a-sign = refl;
+  numbering-of-counts-50F = refl;
+  numbering-of-leaves-59F = refl;
+  parse-count-takes-none = refl;
+  parse-count-refuses-four = refl;
+}

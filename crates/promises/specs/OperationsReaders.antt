@@ -1,0 +1,260 @@
+-- Wrong programs that the contracts of `reader`, `choices`, `field50` and `field59` rule out (document 01, 'For the auditor's form'), each by
+-- computation. A field is named after its operation and the mistake, and its comment says what the wrong program does.
+use mathlib.Core.Path.{_≡_, refl}
+use mathlib.Core.Bool.{true, false}
+use mathlib.Core.List.{List, [], _∷_, _++_}
+use Prim.Native.Nat.{ℕ, suc}
+use lib.ListN.{drop, replicate}
+use Rattle.errors.specs.declared.ParseError.{ParseError}
+use Rattle.errors.specs.declared.ParseError.the-variants.{TooLong}
+use Rattle.errors.specs.declared.Outcome.the-variants.{Refused}
+use Rattle.errors.specs.Refusals.{Reply, accepted, refused}
+use Rattle.party.specs.declared.PartyOption.{PartyOption}
+use Rattle.party.specs.declared.PartyOption.the-variants.{Field50NoOption, Field50A, Field50F, Field50K, Field50C, Field50L, Field50G, Field50H, Field59NoOption, Field59A, Field59F}
+use Rattle.party.specs.Text.{padded, textOf}
+use Rattle.party.specs.Party.{blank}
+use Rattle.swift_utils.specs.Bytes.{bytes, all, letter, digit, alphanumeric, signs, legal}
+use Rattle.swift_utils.specs.Checks.{parseSwiftChars, parseAccount, bicLength, parseBic}
+use Rattle.field_utils.specs.Lines.{upto, onto, starts, lines}
+use Rattle.field_utils.specs.Trim.{white, trimmedStart, keep, trimmedEnd, trimmed}
+use Rattle.field_utils.specs.Identifier.{isNumbered, secondSlash, identifierReply, parsePartyIdentifier}
+use Rattle.field_utils.specs.Names.{parseLine, parseLines, parseNameAndAddress}
+use Rattle.reader.specs.declared.Answer.{Answer}
+use Rattle.reader.specs.declared.First.the-variants.{ShortAccount, AnyAccount}
+use Rattle.reader.specs.Reading.{fourTexts, partyOf, toldAnswer}
+use Rattle.reader.specs.Options.{firstOf, lengthReply, accountHead, shortAccountHead, afterHead, ascii, bodyReply, read}
+use Rattle.choices.specs.declared.Pick.the-variants.{NotALetter, Detect}
+use Rattle.choices.specs.Detection.{anyNumbered, firstLine, lastLine, bicLike, lastIsBic, refusing, when, firstThat, detected, pickOf, variantOf}
+use Rattle.field50.specs.Choices.{instructingParty, orderingCustomerFGH, orderingCustomerAFK, orderingCustomerNCF, creditor, instructingPartyBy, orderingCustomerFGHBy, orderingCustomerAFKBy, orderingCustomerNCFBy, creditorBy}
+use Rattle.field59.specs.Choices.{testLine, field59, debtor, field59By, debtorBy}
+use Rattle.promises.specs.RuledOut.{bodyOf, As}
+
+-- what `refuse` gives, as its contract has it
+abbrev refusedWith : ParseError → Answer
+refusedWith e = record { outcome = Refused e; party = blank }
+
+pub record ReaderOperations : Type 0 where
+  -- tests 50H's account as 50G's
+  pub first-of-tests-50H : firstOf Field50H ≡ AnyAccount
+  -- reads 59 as 50K: `/` with over 34 bytes is an account
+  pub first-of-takes-59-for-50K : firstOf Field59NoOption ≡ ShortAccount
+  -- loses the line
+  pub refuse-drops-the-line : toldAnswer (refusedWith (TooLong 2)) .reply ≡ refused 4 2
+  -- leaves the names met so far beside the refusal
+  pub refuse-keeps-names : refusedWith (TooLong 2) .party .count ≡ 0
+  -- gives all bytes where the place is past the end
+  pub behind-gives-all : drop 3 (bytes "AB") ≡ []
+  -- gives one byte too few
+  pub behind-skips-one-more : drop 1 (bytes "AB") ≡ bytes "B"
+  -- tests the bytes too
+  pub account-length-tests-bytes : lengthReply Field50H (bytes "~") ≡ accepted
+  -- has a limit of 35 for 34
+  pub account-length-takes-35 : lengthReply Field50H (replicate 35 65) ≡ refused 2 1
+  -- passes only bytes below 127
+  pub is-ascii-refuses-127 : all ascii (127 ∷ []) ≡ true
+  -- tests the first byte alone
+  pub is-ascii-stops-short : all ascii (65 ∷ 128 ∷ []) ≡ false
+  -- has a limit of 2,047 for 2,048
+  pub parse-body-refuses-2048 : bodyReply (replicate 2048 65) ≡ accepted
+  -- tests the bytes before the length
+  pub parse-body-tests-bytes-first : bodyReply (replicate 2049 128) ≡ refused 12 0
+
+pub reader-operations : ReaderOperations
+unfolding letter digit alphanumeric signs legal parseSwiftChars parseAccount
+reader-operations = record {
+  first-of-tests-50H = refl;
+  first-of-takes-59-for-50K = refl;
+  refuse-drops-the-line = refl;
+  refuse-keeps-names = refl;
+  behind-gives-all = refl;
+  behind-skips-one-more = refl;
+  account-length-tests-bytes = refl;
+  account-length-takes-35 = refl;
+  is-ascii-refuses-127 = refl;
+  is-ascii-stops-short = refl;
+  parse-body-refuses-2048 = refl;
+  parse-body-tests-bytes-first = refl;
+}
+
+-- ---- the eleven options
+-- a body whose name, text, BIC, account or identifier has so many bytes
+abbrev pub bodyWith : PartyOption → ℕ → List ℕ
+bodyWith Field50NoOption n = replicate n 65
+bodyWith Field50A n = bytes "/" ++ replicate n 65 ++ bytes "\nABCDEFGH"
+bodyWith Field50F n = replicate n 65 ++ bytes "\n1/N"
+bodyWith Field50K n = replicate n 65
+bodyWith Field50C n = replicate n 65
+bodyWith Field50L n = replicate n 65
+bodyWith Field50G n = bytes "/" ++ replicate n 65 ++ bytes "\nABCDEFGH"
+bodyWith Field50H n = bytes "/" ++ replicate n 65 ++ bytes "\nN"
+bodyWith Field59NoOption n = bytes "/" ++ replicate n 65 ++ bytes "\nN"
+bodyWith Field59A n = bytes "/" ++ replicate n 65 ++ bytes "\nABCDEFGH"
+bodyWith Field59F n = bytes "1/" ++ replicate n 65
+
+-- the most that it may have
+abbrev pub mostOf : PartyOption → ℕ
+mostOf Field50NoOption = 35
+mostOf Field50A = 34
+mostOf Field50F = 35
+mostOf Field50K = 35
+mostOf Field50C = 11
+mostOf Field50L = 35
+mostOf Field50G = 34
+mostOf Field50H = 34
+mostOf Field59NoOption = 34
+mostOf Field59A = 34
+mostOf Field59F = 33
+
+-- what one byte more is; in 59 it makes a name of the account, and in 59A a BIC
+abbrev pub overOf : PartyOption → Reply
+overOf Field50NoOption = refused 4 1
+overOf Field50A = refused 2 1
+overOf Field50F = refused 2 1
+overOf Field50K = refused 4 1
+overOf Field50C = refused 9 1
+overOf Field50L = refused 2 1
+overOf Field50G = refused 2 1
+overOf Field50H = refused 2 1
+overOf Field59NoOption = refused 4 1
+overOf Field59A = refused 9 1
+overOf Field59F = refused 4 1
+
+pub record Parses (o : PartyOption) : Type 0 where
+  -- hands the body to the reader of another option
+  pub another : As (read o (bodyOf o (bytes "A"))) o
+  -- has a limit that is one too small
+  pub short : read o (bodyWith o (mostOf o)) .reply ≡ accepted
+  -- has one that is one too large, or tells another refusal
+  pub over : read o (bodyWith o (suc (mostOf o))) .reply ≡ overOf o
+
+pub parses : (o : PartyOption) → Parses o
+unfolding padded textOf letter digit alphanumeric signs legal parseSwiftChars parseAccount bicLength parseBic upto onto starts lines isNumbered secondSlash identifierReply parsePartyIdentifier parseLine parseLines parseNameAndAddress fourTexts partyOf accountHead shortAccountHead afterHead read
+parses Field50NoOption = record { another = (refl, refl); short = refl; over = refl }
+parses Field50A = record { another = (refl, refl); short = refl; over = refl }
+parses Field50F = record { another = (refl, refl); short = refl; over = refl }
+parses Field50K = record { another = (refl, refl); short = refl; over = refl }
+parses Field50C = record { another = (refl, refl); short = refl; over = refl }
+parses Field50L = record { another = (refl, refl); short = refl; over = refl }
+parses Field50G = record { another = (refl, refl); short = refl; over = refl }
+parses Field50H = record { another = (refl, refl); short = refl; over = refl }
+parses Field59NoOption = record { another = (refl, refl); short = refl; over = refl }
+parses Field59A = record { another = (refl, refl); short = refl; over = refl }
+parses Field59F = record { another = (refl, refl); short = refl; over = refl }
+
+-- ---- the choices
+pub record ChoicesOperations : Type 0 where
+  -- gives the body's first line, whatever the place
+  pub first-line-starts-anew : firstLine (lines (drop 2 (bytes "A\nB"))) ≡ bytes "B"
+  -- keeps the CR before the LF
+  pub first-line-keeps-cr : firstLine (lines (drop 0 (bytes "A\r\nB"))) ≡ bytes "A"
+  -- tests the first line alone
+  pub any-numbered-stops-short : anyNumbered (lines (drop 0 (bytes "A\n1/B"))) ≡ true
+  -- tests the lines before the place too
+  pub any-numbered-starts-anew : anyNumbered (lines (drop 4 (bytes "1/A\nB"))) ≡ false
+  -- gives the first line where there is no second
+  pub second-line-gives-the-first : firstLine (drop 1 (lines (bytes "A"))) ≡ []
+  -- gives the last line
+  pub second-line-gives-the-last : firstLine (drop 1 (lines (bytes "A\nB\nC"))) ≡ bytes "B"
+  -- tests the first line too
+  pub later-numbered-takes-the-first : anyNumbered (drop 1 (lines (bytes "1/A\nB"))) ≡ false
+  -- tests the second line alone
+  pub later-numbered-stops-short : anyNumbered (drop 1 (lines (bytes "A\nB\n1/C"))) ≡ true
+  -- tests the line with its spaces
+  pub last-is-bic-leaves-spaces : lastIsBic (lines (bytes "A\n ABCDEFGH ")) ≡ true
+  -- asks for six letters first, as of a BIC
+  pub last-is-bic-asks-for-letters : lastIsBic (lines (bytes "12345678")) ≡ true
+  -- takes a small letter for its capital
+  pub pick-variant-takes-small : variantOf 97 (Field50A ∷ Field50F ∷ Field50K ∷ []) ≡ NotALetter
+  -- refuses a letter that no option of the choice has
+  pub pick-variant-refuses-z : variantOf 90 (Field50A ∷ Field50F ∷ Field50K ∷ []) ≡ Detect
+  -- tries the third option before the second
+  pub detect-tries-the-third-first :
+      As (detected (bytes "ABCDEFGH") (firstThat (when false Field50F ++ (when true Field50A ++ when true Field50K)) (bytes "ABCDEFGH"))) Field50A
+  -- tests for 13 what is tried, and not the body as it came
+  pub detect-tests-the-tried : detected (128 ∷ []) (firstThat (when true Field50K ++ (when false Field50K ++ when false Field50K)) (bytes "A"))
+      ≡ refusing 13 0
+
+pub choices-operations : ChoicesOperations
+unfolding padded textOf letter digit alphanumeric signs legal parseSwiftChars parseAccount bicLength parseBic upto onto starts lines white trimmedStart keep trimmedEnd trimmed isNumbered secondSlash identifierReply parsePartyIdentifier fourTexts partyOf afterHead read anyNumbered firstLine lastLine bicLike firstThat pickOf variantOf
+choices-operations = record {
+  first-line-starts-anew = refl;
+  first-line-keeps-cr = refl;
+  any-numbered-stops-short = refl;
+  any-numbered-starts-anew = refl;
+  second-line-gives-the-first = refl;
+  second-line-gives-the-last = refl;
+  later-numbered-takes-the-first = refl;
+  later-numbered-stops-short = refl;
+  last-is-bic-leaves-spaces = refl;
+  last-is-bic-asks-for-letters = refl;
+  pick-variant-takes-small = refl;
+  pick-variant-refuses-z = refl;
+  detect-tries-the-third-first = (refl, refl);
+  detect-tests-the-tried = refl;
+}
+
+-- letters are bytes: A 65, C 67, F 70, H 72, K 75, k 107
+pub record Field50Operations : Type 0 where
+  -- `Field50InstructingParty`: reads the body with its spaces
+  pub instructing-party-leaves-spaces : As (instructingParty (bytes " ABCDEFGH\n")) Field50C
+  -- by C, trims too
+  pub instructing-party-by-c-trims : instructingPartyBy (bytes " ABCDEFGH") 67 .reply ≡ refused 9 1
+  -- without a letter, picks C
+  pub instructing-party-by-none-picks : As (instructingPartyBy (bytes "A") 0) Field50L
+  -- `Field50OrderingCustomerFGH`: by H, detects all the same
+  pub fgh-by-h-detects : As (orderingCustomerFGHBy (bytes "/X\n1/A") 72) Field50H
+  -- by K, which no option of the choice has, refuses
+  pub fgh-by-k-refuses : As (orderingCustomerFGHBy (bytes "/X\nABCDEFGH") 75) Field50G
+  -- `Field50OrderingCustomerAFK`: by K, detects all the same
+  pub afk-by-k-detects : As (orderingCustomerAFKBy (bytes "ABCDEFGH") 75) Field50K
+  -- by k, which is no capital, detects
+  pub afk-by-small-k-detects : orderingCustomerAFKBy (bytes "A") 107 ≡ refusing 14 0
+  -- `Field50OrderingCustomerNCF`: tells C's refusal where C's test holds, and tries no other
+  pub ncf-stops-at-c : As (orderingCustomerNCF (bytes "ABCDEFGHI")) Field50NoOption
+  -- without a letter, detects
+  pub ncf-by-none-detects : As (orderingCustomerNCFBy (bytes "ABCDEFGH") 0) Field50NoOption
+  -- by C, goes on to 50 where C refuses
+  pub ncf-by-c-goes-on : orderingCustomerNCFBy (bytes "ABCDEFGHI") 67 .reply ≡ refused 9 1
+  -- `Field50Creditor`: tells the last option's refusal, and not 11
+  pub creditor-tells-the-last : creditor [] .reply ≡ refused 11 0
+  -- by A, goes on to K where A refuses
+  pub creditor-by-a-goes-on : creditorBy (bytes "A") 65 .reply ≡ refused 9 1
+  -- by F, picks F, as AFK does
+  pub creditor-by-f-picks : As (creditorBy (bytes "X\n1/A") 70) Field50K
+
+pub record Field59Operations : Type 0 where
+  -- `Field59`: by K, which no option of the choice has, refuses
+  pub field59-by-k-refuses : As (field59By (bytes "ABCDEFGH") 75) Field59A
+  -- `Field59Debtor`: tries F for a numbered line, as `Field59` does
+  pub debtor-takes-f : As (debtor (bytes "1/A")) Field59NoOption
+  -- without a letter, detects
+  pub debtor-by-none-detects : As (debtorBy (bytes "ABCDEFGH") 0) Field59NoOption
+  -- by F, picks F, as `Field59` does
+  pub debtor-by-f-picks : As (debtorBy (bytes "1/A") 70) Field59NoOption
+
+pub field50-operations : Field50Operations
+unfolding padded textOf letter digit alphanumeric signs legal parseSwiftChars parseAccount bicLength parseBic upto onto starts lines white trimmedStart keep trimmedEnd trimmed isNumbered secondSlash identifierReply parsePartyIdentifier parseLine parseLines parseNameAndAddress fourTexts partyOf accountHead shortAccountHead afterHead read anyNumbered firstLine lastLine bicLike firstThat pickOf variantOf instructingParty orderingCustomerFGH orderingCustomerAFK orderingCustomerNCF creditor instructingPartyBy orderingCustomerFGHBy orderingCustomerAFKBy orderingCustomerNCFBy creditorBy
+field50-operations = record {
+  instructing-party-leaves-spaces = (refl, refl);
+  instructing-party-by-c-trims = refl;
+  instructing-party-by-none-picks = (refl, refl);
+  fgh-by-h-detects = (refl, refl);
+  fgh-by-k-refuses = (refl, refl);
+  afk-by-k-detects = (refl, refl);
+  afk-by-small-k-detects = refl;
+  ncf-stops-at-c = (refl, refl);
+  ncf-by-none-detects = (refl, refl);
+  ncf-by-c-goes-on = refl;
+  creditor-tells-the-last = refl;
+  creditor-by-a-goes-on = refl;
+  creditor-by-f-picks = (refl, refl);
+}
+
+pub field59-operations : Field59Operations
+unfolding padded textOf letter digit alphanumeric signs legal parseSwiftChars parseAccount bicLength parseBic upto onto starts lines isNumbered parseLine parseLines parseNameAndAddress fourTexts partyOf accountHead shortAccountHead afterHead read firstLine firstThat pickOf variantOf testLine field59 debtor field59By debtorBy
+field59-operations = record {
+  field59-by-k-refuses = (refl, refl);
+  debtor-takes-f = (refl, refl);
+  debtor-by-none-detects = (refl, refl);
+  debtor-by-f-picks = (refl, refl);
+}
