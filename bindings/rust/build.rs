@@ -1,0 +1,26 @@
+//! Links the static library that `rt staticlib exports` writes.
+
+use std::path::Path;
+
+/// Names another folder that holds the library. One that is not absolute is taken from the folder
+/// of this package.
+const FOLDER: &str = "YEWDOME_LIBRARY";
+
+fn main() {
+    let package = std::env::var("CARGO_MANIFEST_DIR").expect("cargo sets it");
+    let folder = std::env::var(FOLDER).unwrap_or_else(|_| "../../target/staticlib".to_string());
+    let folder = Path::new(&package).join(folder);
+    let library = folder.join("libexports.a");
+    println!("cargo:rerun-if-env-changed={FOLDER}");
+    println!("cargo:rerun-if-changed={}", library.display());
+    if !library.is_file() {
+        eprintln!("{} is not there.", library.display());
+        eprintln!(
+            "`rt staticlib exports`, run in the root of Yewdome, writes it to target/staticlib;"
+        );
+        eprintln!("the variable {FOLDER} may name another folder that holds it.");
+        std::process::exit(1);
+    }
+    println!("cargo:rustc-link-search=native={}", folder.display());
+    println!("cargo:rustc-link-lib=static=exports");
+}

@@ -1,0 +1,74 @@
+//! Party fields 50 and 59 of SWIFT MT messages, and pages of them.
+//!
+//! The types, their fields and their methods are those of `fields::field50` and `fields::field59`
+//! of swift-mt-message 3.1.5, under the same paths, so that a program changes its `use` lines. The
+//! reading and writing is done by the static library of Yewdome, whose functions are proved equal
+//! to written rules. What is not as in swift-mt-message:
+//!
+//! - [`SwiftField::to_swift_string`] gives a [`Result`]: a value that no reader gives is refused
+//!   with 22, and nothing is cut off;
+//! - [`ParseError`] is a number and a body line;
+//! - a body over 2,048 bytes is refused with 12, one with a byte above 127 with 13, and a variant
+//!   that is no letter from A to Z with 14;
+//! - the account of 50H takes bytes of any kind up to 127.
+//!
+//! # A field
+//!
+//! ```
+//! use yewdome::fields::{Field50K, Field50OrderingCustomerAFK};
+//! use yewdome::SwiftField;
+//!
+//! let customer = Field50OrderingCustomerAFK::parse("/DE89370400440532013000\nJOHN DOE")?;
+//! let Field50OrderingCustomerAFK::K(field) = &customer else {
+//!     panic!("read as another option");
+//! };
+//! assert_eq!(field.account.as_deref(), Some("DE89370400440532013000"));
+//! assert_eq!(field.name_and_address, ["JOHN DOE"]);
+//! assert_eq!(customer.to_swift_string()?, ":50K:/DE89370400440532013000\nJOHN DOE");
+//!
+//! let refusal = Field50K::parse("JOHN DOE\nCAF~").unwrap_err();
+//! assert_eq!((refusal.number(), refusal.line()), (3, 2));
+//! assert_eq!(refusal.to_string(), "illegal byte outside a BIC, in line 2 (refusal 3)");
+//! # Ok::<(), yewdome::ParseError>(())
+//! ```
+//!
+//! # A page
+//!
+//! ```
+//! use yewdome::fields::{Field50C, Field59NoOption};
+//! use yewdome::pages::{self, Answer};
+//!
+//! let sender = Field50C { bic: "BNPAFRPPXXX".to_string() };
+//! let receiver = Field59NoOption {
+//!     account: Some("12".to_string()),
+//!     name_and_address: vec!["BENEFICIARY SA".to_string()],
+//! };
+//!
+//! let mut buffer = [0; pages::LONGEST_PAGE];
+//! let position = pages::add(&sender, &mut buffer, 0)?;
+//! let position = pages::add(&receiver, &mut buffer, position)?;
+//! let length = pages::close(&mut buffer, position)?;
+//! let page = &buffer[..length];
+//! assert_eq!(page, b":50C:BNPAFRPPXXX\n:59:/12\nBENEFICIARY SA\n-\n");
+//!
+//! let mut answers = pages::answers(page).map(|read| read.answer);
+//! assert_eq!(answers.next(), Some(Answer::Record(sender.into())));
+//! assert_eq!(answers.next(), Some(Answer::Record(receiver.into())));
+//! assert_eq!(answers.next(), Some(Answer::End));
+//! assert_eq!(answers.next(), None);
+//! # Ok::<(), yewdome::ParseError>(())
+//! ```
+
+#![deny(unsafe_code)]
+#![warn(missing_docs)]
+
+pub mod errors;
+pub mod fields;
+#[allow(unsafe_code)]
+mod library;
+pub mod pages;
+mod record;
+pub mod traits;
+
+pub use errors::{ParseError, Result};
+pub use traits::SwiftField;

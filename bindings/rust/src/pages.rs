@@ -1,0 +1,143 @@
+//! Pages of fields: a field to a line or more, each opened by its tag, and a line `-` at the end.
+//!
+//! Reading a closed page from the start gives the records that were added, in their order, and then
+//! the end. A page is the bytes of a buffer before the position that the last call gave: it starts
+//! at 0, each call takes the position that the last one gave, and nothing is added after closing. A
+//! refusal changes no byte of the buffer.
+
+use crate::errors::{ParseError, Result};
+use crate::fields::*;
+use crate::library;
+use crate::record::one_of;
+pub use crate::record::Recorded;
+use std::iter::FusedIterator;
+
+/// The most bytes that a page has.
+pub const LONGEST_PAGE: usize = 32_768;
+/// The most bytes that a written field has, with its tag.
+pub const LONGEST_FIELD: usize = 188;
+/// The most bytes of a body that is read.
+pub const LONGEST_BODY: usize = 2_048;
+
+/// A record of a page, of any option.
+#[derive(Debug, Clone, PartialEq)]
+pub enum Party {
+    /// 50 without a letter.
+    Field50NoOption(Field50NoOption),
+    /// 50A.
+    Field50A(Field50A),
+    /// 50F.
+    Field50F(Field50F),
+    /// 50K.
+    Field50K(Field50K),
+    /// 50C.
+    Field50C(Field50C),
+    /// 50L.
+    Field50L(Field50L),
+    /// 50G.
+    Field50G(Field50G),
+    /// 50H.
+    Field50H(Field50H),
+    /// 59 without a letter.
+    Field59NoOption(Field59NoOption),
+    /// 59A.
+    Field59A(Field59A),
+    /// 59F.
+    Field59F(Field59F),
+}
+one_of!(Party {
+    Field50NoOption,
+    Field50A,
+    Field50F,
+    Field50K,
+    Field50C,
+    Field50L,
+    Field50G,
+    Field50H,
+    Field59NoOption,
+    Field59A,
+    Field59F,
+});
+
+impl Party {
+    /// Writes the field, tag and body. A value that no reader gives is refused with 22.
+    pub fn to_swift_string(&self) -> Result<String> {
+        library::write(&self.record())
+    }
+}
+
+/// What a read of a page answers.
+#[derive(Debug, Clone, PartialEq)]
+pub enum Answer {
+    /// The field is read.
+    Record(Party),
+    /// The field or the line is refused.
+    Refused(ParseError),
+    /// The page ends here.
+    End,
+}
+
+/// A read of a page.
+#[derive(Debug, Clone, PartialEq)]
+pub struct Read {
+    /// The position where it was.
+    pub at: usize,
+    /// What it answers.
+    pub answer: Answer,
+    /// The position of the next read; `at` where the refusal is 17, 18 or 21. At the end it is past
+    /// the line `-`.
+    pub next: usize,
+}
+
+/// Reads a page at a position, which is 0 or the `next` of the read before.
+pub fn read_at(page: &[u8], at: usize) -> Read {
+    let read = library::read_page(page, at);
+    let answer = match read.outcome.and_then(|record| record.map(|it| it.value()).transpose()) {
+        Ok(Some(party)) => Answer::Record(party),
+        Ok(None) => Answer::End,
+        Err(refusal) => Answer::Refused(refusal),
+    };
+    Read { at, answer, next: at + read.moved }
+}
+
+/// The reads of a page from its start.
+pub fn answers(page: &[u8]) -> Answers<'_> {
+    Answers { page, at: Some(0) }
+}
+
+/// The reads of a page. The last is the end, or a refusal that moves past no byte: 17, 18 or 21.
+#[derive(Debug, Clone)]
+pub struct Answers<'a> {
+    page: &'a [u8],
+    at: Option<usize>,
+}
+
+impl Iterator for Answers<'_> {
+    type Item = Read;
+
+    fn next(&mut self) -> Option<Read> {
+        let read = read_at(self.page, self.at?);
+        let is_last = read.answer == Answer::End || read.next == read.at;
+        self.at = (!is_last).then_some(read.next);
+        Some(read)
+    }
+}
+
+impl FusedIterator for Answers<'_> {}
+
+/// Adds a struct of an option, an enum of a choice or a [`Party`] to the page in a buffer at a
+/// position, and gives the position after.
+///
+/// Refused with 21 where the position is past the buffer or not at the start of a line, with 22
+/// where no reader gives the value, with 23 where a page cannot carry it, with 24 where it does not
+/// fit with the end of the page.
+pub fn add<P: Recorded>(party: &P, buffer: &mut [u8], position: usize) -> Result<usize> {
+    library::add(&party.record(), buffer, position)
+}
+
+/// Closes the page in a buffer at a position, and gives the page's length.
+///
+/// Refused with 21 as in [`add`], with 24 where the end does not fit.
+pub fn close(buffer: &mut [u8], position: usize) -> Result<usize> {
+    library::close(buffer, position)
+}

@@ -1,0 +1,217 @@
+//! Pages filed from typed values and read back, and every refusal of a page.
+
+use yewdome::fields::*;
+use yewdome::pages::{add, answers, close, read_at, Answer, Party, Read, Recorded, LONGEST_PAGE};
+use yewdome::{Result, SwiftField};
+
+const STALE: u8 = 0xa5;
+
+fn of_50k(account: &str, names: &[&str]) -> Field50K {
+    Field50K {
+        account: Some(account.to_string()),
+        name_and_address: names.iter().map(|name| name.to_string()).collect(),
+    }
+}
+
+fn refused<T: std::fmt::Debug>(answer: Result<T>) -> u8 {
+    answer.expect_err("this is refused").number()
+}
+
+fn parsed<T: SwiftField>(body: &str) -> T {
+    T::parse(body).expect("the body is good")
+}
+
+/// Number, line, and the bytes moved past, of the first read.
+fn first(page: &[u8]) -> (u8, u16, usize) {
+    match read_at(page, 0) {
+        Read { at: 0, answer: Answer::Refused(it), next } => (it.number(), it.line(), next),
+        other => panic!("not refused: {other:?}"),
+    }
+}
+
+/// A value for each of the structs and the enums, which all can be filed.
+fn all() -> Vec<Party> {
+    vec![
+        parsed::<Field50NoOption>("PLAIN\nSTREET").into(),
+        parsed::<Field50A>("/C/123\nDEUTDEFF").into(),
+        parsed::<Field50F>("/12\n1/JANE ROE\n2/LOW ROAD").into(),
+        parsed::<Field50K>("/DE89\nMUELLER GMBH").into(),
+        parsed::<Field50C>("BNPAFRPPXXX").into(),
+        parsed::<Field50L>("TREASURY 7").into(),
+        parsed::<Field50G>("/99\nCHASUS33").into(),
+        parsed::<Field50H>("/ACC~1\nHOLDER LTD").into(),
+        parsed::<Field59NoOption>("/12\nBENEFICIARY SA").into(),
+        parsed::<Field59A>("BNPAFRPP").into(),
+        parsed::<Field59F>("1/CARLA BIANCHI\n2/VIA ROMA 3").into(),
+        parsed::<Field50InstructingParty>("BNPAFRPP").into(),
+        parsed::<Field50OrderingCustomerFGH>("/99\nCHASUS33").into(),
+        parsed::<Field50OrderingCustomerAFK>("/12\nA").into(),
+        parsed::<Field50OrderingCustomerNCF>("A\nB").into(),
+        parsed::<Field50Creditor>("DEUTDEFF").into(),
+        parsed::<Field59>("1/A").into(),
+        parsed::<Field59Debtor>("A").into(),
+    ]
+}
+
+#[test]
+fn what_is_filed_reads_back() {
+    let mut buffer = [STALE; LONGEST_PAGE];
+    let mut expected = Vec::new();
+    let mut position = 0;
+    for party in all() {
+        let next = add(&party, &mut buffer, position).expect("a page carries it");
+        let field = party.to_swift_string().expect("a reader gave it");
+        assert_eq!(&buffer[position..next], format!("{field}\n").as_bytes());
+        expected.push(Read { at: position, answer: Answer::Record(party), next });
+        position = next;
+    }
+    let length = close(&mut buffer, position).expect("there is space");
+    assert_eq!(&buffer[position..length], b"-\n");
+    assert!(buffer[length..].iter().all(|&byte| byte == STALE));
+    expected.push(Read { at: position, answer: Answer::End, next: length });
+    assert_eq!(answers(&buffer[..length]).collect::<Vec<_>>(), expected);
+}
+
+#[test]
+fn structs_and_enums_are_filed_as_they_are() {
+    let customer: Field50OrderingCustomerAFK = parsed("/12\nA");
+    let field = Field59A { account: None, bic: "BNPAFRPP".to_string() };
+    let mut buffer = [STALE; 64];
+    let position = add(&customer, &mut buffer, 0).expect("a page carries it");
+    let position = add(&field, &mut buffer, position).expect("a page carries it");
+    let length = close(&mut buffer, position).expect("there is space");
+    assert_eq!(&buffer[..length], b":50K:/12\nA\n:59A:BNPAFRPP\n-\n");
+}
+
+#[test]
+fn the_reads_go_on_after_a_refusal() {
+    let page = b"junk\n:52A:X\n:59F:2/A\n:50C:BNPAFRPP\n-\n:50C:BNPAFRPP\n-\n";
+    let told: Vec<(usize, u8, u16)> = answers(page)
+        .map(|read| match read.answer {
+            Answer::Refused(refusal) => (read.at, refusal.number(), refusal.line()),
+            Answer::Record(_) => (read.at, 0, 0),
+            Answer::End => (read.at, 255, 0),
+        })
+        .collect();
+    assert_eq!(told, [(0, 16, 0), (5, 15, 0), (12, 6, 1), (21, 0, 0), (35, 255, 0)]);
+}
+
+#[test]
+fn the_reads_stop_where_they_cannot_go_on() {
+    let page = b":50C:BNPAFRPP\n";
+    let mut reads = answers(page);
+    assert!(matches!(reads.next(), Some(Read { at: 0, answer: Answer::Record(_), next: 14 })));
+    let last = reads.next().expect("the page has no end");
+    assert_eq!((last.at, last.next), (14, 14));
+    assert!(matches!(last.answer, Answer::Refused(refusal) if refusal.number() == 17));
+    assert_eq!(reads.next(), None);
+    assert_eq!(reads.next(), None);
+    assert_eq!(answers(&[b'\n'; LONGEST_PAGE + 1]).count(), 1);
+    assert_eq!(answers(b"").count(), 1);
+    let mut ended = answers(b"-\n");
+    assert_eq!(ended.next(), Some(Read { at: 0, answer: Answer::End, next: 2 }));
+    assert_eq!(ended.next(), None);
+}
+
+#[test]
+fn refusals_of_a_read() {
+    assert_eq!(first(b":52A:X\n-\n"), (15, 0, 7));
+    assert_eq!(first(b"junk\n-\n"), (16, 0, 5));
+    assert_eq!(first(b""), (17, 0, 0));
+    assert_eq!(first(&[b'\n'; LONGEST_PAGE + 1]), (18, 0, 0));
+    assert_eq!(first(b":50K:A\nB~\n-\n"), (3, 2, 10));
+    for at in [1, 3, usize::MAX] {
+        let read = read_at(b"-\n", at);
+        assert_eq!((read.at, read.next), (at, at));
+        assert!(matches!(read.answer, Answer::Refused(it) if it.number() == 21), "{at}");
+    }
+}
+
+/// Adds to a buffer, and looks that a refusal leaves it as it was.
+fn refused_add<P: Recorded>(party: &P, buffer: &mut [u8], position: usize) -> u8 {
+    let before = buffer.to_vec();
+    let number = refused(add(party, buffer, position));
+    assert_eq!(buffer, before);
+    number
+}
+
+#[test]
+fn refusals_of_an_add() {
+    let good = of_50k("12", &["A"]);
+    let field = b":50K:/12\nA\n";
+    let mut buffer = [STALE; 64];
+    assert_eq!(refused_add(&good, &mut buffer, 1), 21);
+    assert_eq!(refused_add(&good, &mut buffer, 65), 21);
+    for bad in [of_50k("12", &["A\nB"]), of_50k("12", &["A"; 5]), of_50k("12", &[&"A".repeat(39)])]
+    {
+        assert_eq!(refused_add(&bad, &mut buffer, 0), 22, "{bad:?}");
+        assert_eq!(refused_add(&bad, &mut buffer, 1), 21, "21 comes before 22: {bad:?}");
+        assert_eq!(refused_add(&bad, &mut [STALE; 1], 0), 22, "22 comes before 24: {bad:?}");
+    }
+    for not_carried in [of_50k("12", &["A", ""]), of_50k("12", &["A", "-"]), of_50k("1", &[":"])] {
+        assert_eq!(refused_add(&not_carried, &mut buffer, 0), 23, "{not_carried:?}");
+    }
+    let with_identifier: Field59F = parsed("/1\n1/A");
+    assert_eq!(refused_add(&with_identifier, &mut buffer, 0), 23);
+    assert_eq!(refused_add(&good, &mut buffer[..field.len() + 1], 0), 24);
+    assert_eq!(refused_add(&good, &mut [], 0), 24);
+    assert_eq!(add(&good, &mut buffer[..field.len() + 2], 0), Ok(field.len()));
+}
+
+#[test]
+fn refusals_of_a_closing() {
+    for (length, position, number) in [(8, 1, 21), (8, 9, 21), (1, 0, 24), (0, 0, 24)] {
+        let mut buffer = vec![STALE; length];
+        assert_eq!(refused(close(&mut buffer, position)), number);
+        assert_eq!(buffer, vec![STALE; length]);
+    }
+    let mut buffer = [STALE; 2];
+    assert_eq!(close(&mut buffer, 0), Ok(2));
+}
+
+#[test]
+fn a_page_takes_no_more_than_its_longest() {
+    let field = of_50k("1", &["A"]);
+    let mut buffer = vec![STALE; LONGEST_PAGE + 100];
+    let mut position = 0;
+    while let Ok(next) = add(&field, &mut buffer, position) {
+        position = next;
+    }
+    assert_eq!(refused_add(&field, &mut buffer, position), 24);
+    let length = close(&mut buffer, position).expect("there is space for the end");
+    assert!(length <= LONGEST_PAGE);
+    assert_eq!(answers(&buffer[..length]).count(), position / 10 + 1);
+}
+
+#[test]
+fn every_refusal_of_a_page_has_its_text() {
+    let read = |page: &[u8], at| match read_at(page, at).answer {
+        Answer::Refused(refusal) => refusal.to_string(),
+        other => panic!("not refused: {other:?}"),
+    };
+    let added = |names: &[&str], length| {
+        let answer = add(&of_50k("12", names), &mut vec![STALE; length], 0);
+        answer.expect_err("this is refused").to_string()
+    };
+    let texts = [
+        read(b":52A:X\n-\n", 0),
+        read(b"junk\n-\n", 0),
+        read(b"", 0),
+        read(&[b'\n'; LONGEST_PAGE + 1], 0),
+        read(b"-\n", 1),
+        added(&[], 64),
+        added(&["A", ""], 64),
+        added(&["A"], 1),
+    ];
+    let due = [
+        "tag of none of the eleven options (refusal 15)",
+        "line that neither opens a field nor ends the page (refusal 16)",
+        "read at the page's length (refusal 17)",
+        "page over 32,768 bytes (refusal 18)",
+        "position past the end or not at the start of a line (refusal 21)",
+        "value that no reader gives (refusal 22)",
+        "record that a page cannot carry (refusal 23)",
+        "too little space (refusal 24)",
+    ];
+    assert_eq!(texts, due);
+}

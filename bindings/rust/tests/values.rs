@@ -1,0 +1,184 @@
+//! Values that are refused, variants, and the text of refusals.
+
+use yewdome::fields::*;
+use yewdome::pages::Party;
+use yewdome::{Result, SwiftField};
+
+fn names(names: &[&str]) -> Vec<String> {
+    names.iter().map(|name| name.to_string()).collect()
+}
+
+/// Number and line of the refusal.
+fn refused<T: std::fmt::Debug>(answer: Result<T>) -> (u8, u16) {
+    let refusal = answer.expect_err("this is refused");
+    (refusal.number(), refusal.line())
+}
+
+fn of_50(name_and_address: Vec<String>) -> Field50NoOption {
+    Field50NoOption { name_and_address }
+}
+
+fn of_50k(account: Option<&str>, name: &str) -> Field50K {
+    Field50K { account: account.map(str::to_string), name_and_address: names(&[name]) }
+}
+
+#[test]
+fn values_at_the_limits_are_written() {
+    let four = of_50(vec!["A".repeat(35); 4]);
+    let lines = vec!["A".repeat(35); 4].join("\n");
+    assert_eq!(four.to_swift_string(), Ok(format!(":50:{lines}")));
+    let account = "1".repeat(34);
+    let field = of_50k(Some(&account), "A");
+    assert_eq!(field.to_swift_string(), Ok(format!(":50K:/{account}\nA")));
+}
+
+#[test]
+fn the_longest_field_is_written() {
+    let identifier = format!("AB/{}", "1".repeat(34));
+    let names: Vec<String> = (1..=4).map(|n| format!("{n}/{}", "A".repeat(33))).collect();
+    let due = format!(":59F:/{identifier}\n\n{}", names.join("\n"));
+    assert_eq!(due.len(), yewdome::pages::LONGEST_FIELD);
+    let field = Field59F { party_identifier: Some(identifier), name_and_address: names };
+    assert_eq!(field.to_swift_string(), Ok(due));
+}
+
+#[test]
+fn an_empty_account_is_not_none() {
+    assert_eq!(of_50k(Some(""), "A").to_swift_string(), Ok(":50K:/\nA".to_string()));
+    assert_eq!(of_50k(None, "A").to_swift_string(), Ok(":50K:A".to_string()));
+    assert_eq!(Field50K::parse("/\nA"), Ok(of_50k(Some(""), "A")));
+    assert_eq!(Field50K::parse("A"), Ok(of_50k(None, "A")));
+}
+
+#[test]
+fn values_that_no_reader_gives_are_22() {
+    let values: Vec<Party> = vec![
+        of_50(names(&[])).into(),
+        of_50(names(&["A\nB"])).into(),
+        of_50(names(&["A", "B", "C", "D", "E"])).into(),
+        of_50(vec!["A".to_string(); 257]).into(),
+        of_50k(None, "é").into(),
+        of_50k(None, "~").into(),
+        of_50k(Some("é"), "A").into(),
+        Field50L { party_identifier: String::new() }.into(),
+        Field50C { bic: "BNPAFRP".to_string() }.into(),
+        Field50C { bic: String::new() }.into(),
+        Field59F { party_identifier: None, name_and_address: names(&["2/A"]) }.into(),
+    ];
+    for value in values {
+        assert_eq!(refused(value.to_swift_string()), (22, 0), "{value:?}");
+    }
+}
+
+/// 36 is over the limit of a name, 39 over the room of a text in a record, 257 over a byte.
+#[test]
+fn texts_that_are_too_long_are_22() {
+    for length in [36, 37, 38, 39, 40, 255, 256, 257, 1000] {
+        let text = "A".repeat(length);
+        let values: Vec<Party> = vec![
+            of_50(vec![text.clone()]).into(),
+            of_50(vec!["A".to_string(), "A".to_string(), "A".to_string(), text.clone()]).into(),
+            of_50k(Some(&text), "A").into(),
+            Field50L { party_identifier: text.clone() }.into(),
+            Field50H { account: text.clone(), name_and_address: names(&["A"]) }.into(),
+            Field50C { bic: text.clone() }.into(),
+        ];
+        for value in values {
+            assert_eq!(refused(value.to_swift_string()), (22, 0), "{length}: {value:?}");
+        }
+    }
+}
+
+#[test]
+fn variants_that_are_no_letter_are_14() {
+    for variant in ["", "\0", "c", "0", "~", " ", "CC", "C\0", "50C", "é"] {
+        let answer =
+            Field50OrderingCustomerNCF::parse_with_variant("BNPAFRPP", Some(variant), None);
+        assert_eq!(refused(answer), (14, 0), "{variant:?}");
+    }
+    let answer = Field59::parse_with_variant(&"é".repeat(2000), Some("\0"), None);
+    assert_eq!(refused(answer), (14, 0), "14 comes before 12 and 13");
+}
+
+#[test]
+fn a_variant_picks_its_option() {
+    let body = "BNPAFRPP";
+    let bic = Field50C { bic: body.to_string() };
+    let plain = of_50(names(&[body]));
+    let read = |variant| Field50::parse_with_variant(body, variant, Some("50"));
+    assert_eq!(read(Some("C")), Ok(Field50::C(bic.clone())));
+    assert_eq!(read(Some("Z")), Ok(Field50::C(bic)));
+    assert_eq!(read(None), Ok(Field50::NoOption(plain)));
+    assert_eq!(refused(read(Some("F"))), (1, 0));
+}
+
+#[test]
+fn a_struct_takes_any_variant() {
+    for variant in [None, Some("K"), Some("a"), Some("\0"), Some("AB")] {
+        let read = Field50C::parse_with_variant("BNPAFRPP", variant, None);
+        assert_eq!(read, Field50C::parse("BNPAFRPP"), "{variant:?}");
+    }
+}
+
+fn tag<T: SwiftField>(body: &str) -> Option<&'static str> {
+    T::parse(body).expect("the body is good").get_variant_tag()
+}
+
+#[test]
+fn three_enums_tell_their_letter() {
+    assert_eq!(tag::<Field50OrderingCustomerAFK>("BNPAFRPP"), Some("A"));
+    assert_eq!(tag::<Field50OrderingCustomerAFK>("X\n1/A"), Some("F"));
+    assert_eq!(tag::<Field50OrderingCustomerAFK>("A"), Some("K"));
+    assert_eq!(tag::<Field50Creditor>("BNPAFRPP"), Some("A"));
+    assert_eq!(tag::<Field50Creditor>("A"), Some("K"));
+    assert_eq!(tag::<Field59>("BNPAFRPP"), Some("A"));
+    assert_eq!(tag::<Field59>("1/A"), Some("F"));
+    assert_eq!(tag::<Field59>("A"), None);
+    assert_eq!(tag::<Field50OrderingCustomerFGH>("X\n1/A"), None);
+    assert_eq!(tag::<Field50OrderingCustomerNCF>("BNPAFRPP"), None);
+    assert_eq!(tag::<Field50InstructingParty>("BNPAFRPP"), None);
+    assert_eq!(tag::<Field59Debtor>("BNPAFRPP"), None);
+    assert_eq!(tag::<Field50K>("A"), None);
+}
+
+fn text<T: std::fmt::Debug>(answer: Result<T>) -> String {
+    let error: Box<dyn std::error::Error> = Box::new(answer.expect_err("this is refused"));
+    error.to_string()
+}
+
+#[test]
+fn every_refusal_of_a_reader_has_its_text() {
+    let texts = [
+        text(Field50F::parse("X")),
+        text(Field50L::parse("")),
+        text(Field50K::parse("A\nB~")),
+        text(Field50K::parse(&"A".repeat(36))),
+        text(Field50F::parse("X\nA")),
+        text(Field59F::parse("2/A")),
+        text(Field50K::parse("/1")),
+        text(Field50A::parse("/1")),
+        text(Field50A::parse("/1\nA")),
+        text(Field50C::parse("BNPAFR~P")),
+        text(Field50Creditor::parse("")),
+        text(Field50K::parse(&"A".repeat(2049))),
+        text(Field50K::parse("é")),
+        text(Field50Creditor::parse_with_variant("A", Some("k"), None)),
+    ];
+    let due = [
+        "wrong number of lines (refusal 1)",
+        "account or identifier of a wrong form or length, in line 1 (refusal 2)",
+        "illegal byte outside a BIC, in line 2 (refusal 3)",
+        "name or numbered text too long, in line 1 (refusal 4)",
+        "not a numbered line, in line 2 (refusal 5)",
+        "number of a line of 59F out of turn, in line 1 (refusal 6)",
+        "no name, or more than four (refusal 7)",
+        "BIC line missing (refusal 8)",
+        "BIC of a wrong length, in line 2 (refusal 9)",
+        "illegal byte in a BIC, in line 1 (refusal 10)",
+        "no option of the choice accepts the body (refusal 11)",
+        "body over 2,048 bytes (refusal 12)",
+        "byte above 127 (refusal 13)",
+        "variant that is no letter from A to Z (refusal 14)",
+    ];
+    assert_eq!(texts, due);
+}
