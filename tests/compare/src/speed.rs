@@ -8,6 +8,9 @@
 //! The Rust has no pages. For it a page is written by `to_swift_string` and LF into one `String`,
 //! and read by its lines that start with a colon; it tests neither that a field reads back nor
 //! where the page ends.
+//!
+//! With the name of a row as argument it makes a thousand of our calls of that row and times nothing,
+//! for `valgrind --tool=callgrind` to count.
 
 use party_answers::model::{Choice, Opt};
 use party_compare::ours;
@@ -19,6 +22,7 @@ use swift_mt_message::traits::SwiftField;
 
 const ROUNDS: usize = 40;
 const CALLS: usize = 10_000;
+const COUNTED: usize = 1_000;
 const RECORD: usize = 237;
 const LONGEST_FIELD: usize = 188;
 const PAGE: usize = 32_768;
@@ -34,8 +38,10 @@ const BIC: &str = "DEUTDEFF500";
 const NAME: &str = "ACME TRADING GMBH";
 
 fn main() {
-    println!("| what | bytes | Rust, ns | ours, ns | times as fast |");
-    println!("|---|---|---|---|---|");
+    if only().is_none() {
+        println!("| what | bytes | Rust, ns | ours, ns | times as fast |");
+        println!("|---|---|---|---|---|");
+    }
     option::<Field50NoOption>(Opt::N50, NAMES);
     option::<Field50A>(Opt::A50, ACCOUNT_AND_BIC);
     option::<Field50F>(Opt::F50, ACCOUNT_AND_NUMBERED);
@@ -62,6 +68,9 @@ fn main() {
 /// An option's rows: a body read, and its record written.
 fn option<T: SwiftField>(option: Opt, body: &str) {
     let name = option.name();
+    if !is_asked(&format!("{name}, ")) {
+        return;
+    }
     let mut record = [0; RECORD];
     let value = T::parse(body).expect("the Rust reads it");
     assert_eq!(ours::read(option as u8, body.as_bytes(), &mut record), 0, "{name} is read");
@@ -91,8 +100,11 @@ fn option<T: SwiftField>(option: Opt, body: &str) {
 
 /// A choice's row: a body whose option it detects.
 fn choice<T: SwiftField>(choice: Choice, body: &str) {
-    let mut record = [0; RECORD];
     let name = choice.name();
+    if !is_asked(&format!("`{name}`")) {
+        return;
+    }
+    let mut record = [0; RECORD];
     T::parse(body).expect("the Rust reads it");
     assert_eq!(ours::parse(choice as u8, body.as_bytes(), &mut record), 0, "{name} is read");
     row(
@@ -112,6 +124,9 @@ fn choice<T: SwiftField>(choice: Choice, body: &str) {
 
 /// The rows of a page of so many fields 50K: filed and closed, and read to its end.
 fn page(fields: usize) {
+    if !is_asked(&format!("a page of {fields} ")) {
+        return;
+    }
     let value = Field50K::parse(ACCOUNT_AND_NAMES).expect("the Rust reads it");
     let mut record = [0; RECORD];
     ours::read(Opt::K50 as u8, ACCOUNT_AND_NAMES.as_bytes(), &mut record);
@@ -174,7 +189,24 @@ fn read(page: &[u8], record: &mut [u8]) -> usize {
     }
 }
 
+/// The row that is asked for.
+fn only() -> Option<String> {
+    std::env::args().nth(1)
+}
+
+/// Whether all rows are asked for, or one whose name starts so.
+fn is_asked(start: &str) -> bool {
+    only().is_none_or(|asked| asked.starts_with(start))
+}
+
 fn row(what: &str, bytes: usize, mut rust: impl FnMut(), mut ours: impl FnMut()) {
+    if let Some(asked) = only() {
+        if asked == what {
+            (0..COUNTED).for_each(|_| ours());
+            println!("{COUNTED} calls of {what}");
+        }
+        return;
+    }
     let (mut theirs, mut own) = (f64::MAX, f64::MAX);
     let calls = (CALLS * LONGEST_FIELD / bytes).clamp(1, CALLS);
     for _ in 0..ROUNDS {
