@@ -14,3 +14,4 @@ pub mod Accounts
 pub mod ChoiceFGH
 pub mod Equal
 pub mod Writing
+pub mod Values

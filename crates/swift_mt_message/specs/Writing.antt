@@ -1,18 +1,27 @@
--- What the Rust writes of a record: for every record that a reader can give, the text that ours writes. proofs/Writing.antt has the proof.
+-- What the Rust writes: of every record that a reader can give, and of every value that the Rust's readers give for a body, the text that
+-- ours writes. proofs/Writing.antt and proofs/Values.antt have the proofs.
+use Prim.Native.Nat.{ℕ}
 use mathlib.Core.Path.{_≡_}
 use mathlib.Core.Bool.{Bool, true, false}
 use mathlib.Core.List.{List, map}
 use mathlib.Core.Option.{Option, none, some}
+use Rattle.errors.specs.Refusals.{accepted}
 use Rattle.party.specs.declared.PartyOption.{PartyOption}
 use Rattle.party.specs.declared.PartyOption.the-variants.{Field50NoOption, Field50A, Field50F, Field50K, Field50C, Field50L, Field50G, Field50H, Field59NoOption, Field59A, Field59F}
 use Rattle.party.specs.declared.Party.{Party}
 use Rattle.party.specs.Text.{Used, used}
 use Rattle.party.specs.Party.{namesOf, said, Same}
+use Rattle.reader.specs.Reading.{Reading}
+use Rattle.reader.specs.Options.{read}
+use Rattle.choices.specs.Detection.{letterReply}
+use Rattle.field50.specs.Choices.{instructingParty, orderingCustomerFGH, orderingCustomerAFK, orderingCustomerNCF, creditor, instructingPartyBy, orderingCustomerFGHBy, orderingCustomerAFKBy, orderingCustomerNCFBy, creditorBy}
+use Rattle.field59.specs.Choices.{field59, debtor, field59By, debtorBy}
 use Rattle.writer.specs.Writing.{writtenField}
-use Rattle.swift_mt_message.specs.Std.{Str}
+use Rattle.writer.specs.Given.{Given}
+use Rattle.swift_mt_message.specs.Std.{Str, Result, Ok}
 use Rattle.swift_mt_message.specs.Field50 as rust50
 use Rattle.swift_mt_message.specs.Field59 as rust59
-use Rattle.swift_mt_message.specs.Equal.{as50, as50A, as50F, as50K, as50C, as50L, as50G, as50H, as59, as59A, as59F}
+use Rattle.swift_mt_message.specs.Equal.{as50, as50A, as50F, as50K, as50C, as50L, as50G, as50H, as59, as59A, as59F, variant}
 
 -- the Rust's struct of an option, what it writes, and its record
 abbrev pub Struct : PartyOption → Type 0
@@ -80,3 +89,53 @@ structIn p =
 pub record Writes (p : Party) : Type 0 where
   pub same : Same (recordOf (p .option) (structIn p)) p
   pub text : to-swift-string (p .option) (structIn p) ≡ writtenField (said p)
+
+-- the Rust's reader of an option
+abbrev pub parse : (o : PartyOption) → Str → Result (Struct o)
+parse Field50NoOption = rust50.Field50NoOption·parse
+parse Field50A = rust50.Field50A·parse
+parse Field50F = rust50.Field50F·parse
+parse Field50K = rust50.Field50K·parse
+parse Field50C = rust50.Field50C·parse
+parse Field50L = rust50.Field50L·parse
+parse Field50G = rust50.Field50G·parse
+parse Field50H = rust50.Field50H·parse
+parse Field59NoOption = rust59.Field59NoOption·parse
+parse Field59A = rust59.Field59A·parse
+parse Field59F = rust59.Field59F·parse
+
+-- our reading and a text of the Rust: ours accepts, a reader can give its record, so that 22 does not refuse it (`given-exact`), and ours
+-- writes that text of it
+pub record WrittenAs (r : Reading) (text : Str) : Type 0 where
+  pub accepts : r .reply ≡ accepted
+  pub given : Given (r .party)
+  pub same : text ≡ writtenField (said (r .party))
+
+-- where the Rust gives a value, what it writes of that value is what ours writes of our record
+abbrev pub ValueWritten : {A : Type 0} → (A → Str) → Result A → Reading → Type 0
+ValueWritten {A} text result r = (v : A) → result ≡ Ok v → WrittenAs r (text v)
+
+-- the same of a choice: detected, and by every letter, A to Z or none
+pub record ChoiceWritten {A : Type 0} (text : A → Str) (detected : Result A) (by : Option Str → Result A) (r : Reading) (r-by : ℕ → Reading) : Type 0 where
+  pub detects : ValueWritten text detected r
+  pub by-letter : (letter : ℕ) → letterReply letter ≡ accepted → ValueWritten text (by (variant letter)) (r-by letter)
+
+-- Demand 2, 'all eleven options, all seven choices among options .. our readers and writers equal the Rust', of a body that is read and
+-- then written; one that passes 12 and 13 is an 'ASCII body of at most 2,048 bytes'. 'Refusals included' is Equal's part, and it says
+-- where the Rust gives no value for 50H's account and ours gives a record.
+pub record ReadsAndWrites (body : Str) : Type 0 where
+  pub option : (o : PartyOption) → ValueWritten (to-swift-string o) (parse o body) (read o body)
+  pub instructing : ChoiceWritten rust50.Field50InstructingParty·to-swift-string (rust50.Field50InstructingParty·parse body)
+      (rust50.Field50InstructingParty·parse-with-variant body) (instructingParty body) (instructingPartyBy body)
+  pub fgh : ChoiceWritten rust50.Field50OrderingCustomerFGH·to-swift-string (rust50.Field50OrderingCustomerFGH·parse body)
+      (rust50.Field50OrderingCustomerFGH·parse-with-variant body) (orderingCustomerFGH body) (orderingCustomerFGHBy body)
+  pub afk : ChoiceWritten rust50.Field50OrderingCustomerAFK·to-swift-string (rust50.Field50OrderingCustomerAFK·parse body)
+      (rust50.Field50OrderingCustomerAFK·parse-with-variant body) (orderingCustomerAFK body) (orderingCustomerAFKBy body)
+  pub ncf : ChoiceWritten rust50.Field50OrderingCustomerNCF·to-swift-string (rust50.Field50OrderingCustomerNCF·parse body)
+      (rust50.Field50OrderingCustomerNCF·parse-with-variant body) (orderingCustomerNCF body) (orderingCustomerNCFBy body)
+  pub at-creditor : ChoiceWritten rust50.Field50Creditor·to-swift-string (rust50.Field50Creditor·parse body)
+      (rust50.Field50Creditor·parse-with-variant body) (creditor body) (creditorBy body)
+  pub at-field59 : ChoiceWritten rust59.Field59·to-swift-string (rust59.Field59·parse body) (rust59.Field59·parse-with-variant body)
+      (field59 body) (field59By body)
+  pub at-debtor : ChoiceWritten rust59.Field59Debtor·to-swift-string (rust59.Field59Debtor·parse body)
+      (rust59.Field59Debtor·parse-with-variant body) (debtor body) (debtorBy body)
