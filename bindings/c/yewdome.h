@@ -7,7 +7,8 @@
  * C cannot say: a pointer is valid for its length and not null, also where the length is 0, and what
  * is written overlaps nothing else that is lent in the same call.
  *
- * A refusal changes no byte. Its number and line are those of the README's paper, document 01.
+ * A refusal changes no byte. Its number and line are those of the README's paper, document 01; but 41, no
+ * such option or choice, and 42, a lent record of under 237 bytes, are this interface's own.
  */
 #ifndef YEWDOME_H
 #define YEWDOME_H
@@ -72,8 +73,8 @@ static inline unsigned yewdome_line(uint32_t answer)
 }
 
 /*
- * Reads a body by an option, and stores the record. Gives 0, or the refusal: 24 where `record` has
- * under 237 bytes, 15 where there is no such option, else 1 to 13.
+ * Reads a body by an option, and stores the record. Gives 0, or the refusal: 42 where `record` has
+ * under 237 bytes, 41 where there is no such option, else 1 to 13.
  */
 uint32_t party_read(uint8_t option, const uint8_t *body, size_t body_length,
                     uint8_t *record, size_t record_length);
@@ -96,7 +97,7 @@ uint32_t party_write(const uint8_t *record, size_t record_length,
 /*
  * Reads the page at a position, 0 at first, and stores the record, if it gives one; the end changes
  * no byte. The functions below take apart what it gives. The next read is at the position and the
- * bytes moved past; 17, 18, 21 and 24 (`record` has under 237 bytes) move past none.
+ * bytes moved past; 17, 18, 21 and 42 (`record` has under 237 bytes) move past none.
  */
 uint64_t page_read(const uint8_t *page, size_t page_length, size_t at,
                    uint8_t *record, size_t record_length);

@@ -8,7 +8,7 @@ pub type Result<T> = std::result::Result<T, ParseError>;
 /// A refusal: a number, and the line of the body that it names.
 ///
 /// 1 to 14 are of a body and its variant, 15 to 18 of a page that is read, 21 to 24 of a position,
-/// a value or a buffer.
+/// a value or a buffer. 41 and 42 are of a call that this crate does not make.
 #[derive(Debug, Clone, Copy, PartialEq, Eq)]
 pub struct ParseError {
     number: u8,
@@ -19,7 +19,7 @@ impl ParseError {
     /// A variant that is none of A to Z.
     pub(crate) const NOT_A_LETTER: Self = Self::new(14, 0);
     /// An option that was not asked for.
-    pub(crate) const OTHER_OPTION: Self = Self::new(15, 0);
+    pub(crate) const OTHER_OPTION: Self = Self::new(41, 0);
 
     pub(crate) const fn new(number: u8, line: u16) -> Self {
         Self { number, line }
@@ -59,6 +59,8 @@ impl ParseError {
             22 => "value that no reader gives",
             23 => "record that a page cannot carry",
             24 => "too little space",
+            41 => "no such option or choice",
+            42 => "lent record too short",
             _ => "unknown refusal",
         }
     }

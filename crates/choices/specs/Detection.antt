@@ -82,6 +82,7 @@ abbrev pub pickBy : Reply → Pick → Pick
 pickBy accepted p = p
 pickBy (refused k n) p = NotALetter
 
+-- what a letter picks among some options
 unfoldable pub variantOf : ℕ → List PartyOption → Pick
 variantOf letter os = pickBy (letterReply letter) (pickOf letter os)
 

@@ -122,7 +122,7 @@ pub fn last_is_bic(body: &[u8]) -> bool
     is_bic_like(trim(last_line(body)))
 }
 
-// An option, where its test holds.
+// What an option reads, where its test holds; else 11.
 fn attempt(wanted: bool, option: PartyOption, body: &[u8]) -> Answer
     ensures { λ r. ⌜ toldAnswer r ≡ firstThat (when wanted option) (now (body .entry)) ⌝ }
 {

@@ -94,6 +94,7 @@ impl ParseError {
     }
 }
 
+// A number and a line.
 fn at(number: u8, line: usize) -> Refusal
     ensures { λ r. ⌜ r ≡ refusalAt number line ⌝ }
 {

@@ -20,11 +20,11 @@ abbrev refusing : ℕ → ℕ → List ℕ → Called
 refusing k n bytes = record { code = codeOf (refused k n); bytes = bytes }
 
 module _ (known : Bool) (r : Reading) (bytes : List ℕ) where
-  pub no-space : length bytes < 237 → refusing 24 0 bytes ≡ given known r bytes
+  pub no-space : length bytes < 237 → refusing 42 0 bytes ≡ given known r bytes
   no-space h = rw (lt-leb 237 (length bytes) h)
 
   module _ (h : 237 ≤ length bytes) where
-    pub unknown : known ≡ false → refusing 15 0 bytes ≡ given known r bytes
+    pub unknown : known ≡ false → refusing 41 0 bytes ≡ given known r bytes
     unknown e = rw (le-leb 237 (length bytes) h, e)
 
     pub refuses : (k n : ℕ) → known ≡ true → r .reply ≡ refused k n → refusing k n bytes ≡ given known r bytes

@@ -23,9 +23,8 @@ use Rattle.reader.specs.Reading.{Reading}
 use Rattle.reader.specs.Options.{read}
 use Rattle.pages.specs.declared.PageRead.{PageRead as Read}
 use Rattle.pages.specs.declared.Filed.{Filed as FiledAt}
-use Rattle.pages.specs.Pages.{pageMost, lineAt, opens, endsPage, runs, onward, Tagged, untagged, tagged, tagIn, PageRead, readTagged, readField, readLine, readPlace, readable, readAt}
-use Rattle.pages.specs.Filing.{isCarried, writable, hasSpace, withLf, endLine, Filed, filing, recordReply, add, close}
-use Rattle.pages.specs.Code.{toldRead, toldFiled}
+use Rattle.pages.specs.Pages.{pageMost, lineAt, opens, endsPage, runs, onward, Tagged, untagged, tagged, tagIn, PageRead, readTagged, readField, readLine, readPlace, readable, readAt, toldRead}
+use Rattle.pages.specs.Filing.{isCarried, writable, hasSpace, withLf, endLine, Filed, filing, recordReply, add, close, toldFiled}
 use Rattle.pages.proofs.Fold.{reply-space}
 use Rattle.pages.proofs.Moves.{stays-or-moves}
 use Rattle.exports.specs.Exports.{Called, codeOf, storing, given, lineOf, lengthOr, readCode, readInto, pageRead, filed}
@@ -121,7 +120,7 @@ storing-is accepted p bytes = refl
 storing-is (refused k n) p bytes = refl
 
 module _ (page : List ℕ) (at : ℕ) (bytes : List ℕ) where
-  pub short : length bytes < 237 → (record { code = codeOf (refused 24 0) * 4294967296; bytes = bytes }) ≡ pageRead page at bytes
+  pub short : length bytes < 237 → (record { code = codeOf (refused 42 0) * 4294967296; bytes = bytes }) ≡ pageRead page at bytes
   short h = rw (lt-leb 237 (length bytes) h, pageRead)
 
   module _ (r : Read) (e : toldRead r (readAt page at .body) ≡ readAt page at) where

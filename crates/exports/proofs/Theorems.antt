@@ -173,8 +173,8 @@ record Passed (space : Bool) (p : Party) (bytes after : List ℕ) : Type 0 where
 
 passed :
     (space known : Bool) (t : Reply) (p : Party) (bytes : List ℕ) → Named 2048 t →
-    storing (must space 24 0 then must known 15 0 then t) p bytes .code ≡ 0 →
-    Passed space p bytes (storing (must space 24 0 then must known 15 0 then t) p bytes .bytes)
+    storing (must space 42 0 then must known 41 0 then t) p bytes .code ≡ 0 →
+    Passed space p bytes (storing (must space 42 0 then must known 41 0 then t) p bytes .bytes)
 passed true true accepted p bytes h e = record { room = refl; is = refl }
 passed true true (refused k n) p bytes h e = absurd (omega (arith, h .0))
 passed true false t p bytes h e = absurd (omega arith)

@@ -14,9 +14,8 @@ use Rattle.party.specs.Party.{said}
 use Rattle.flat.specs.declared.Loaded.{Loaded}
 use Rattle.flat.specs.Flat.{unflatten}
 use Rattle.writer.specs.declared.Written.{Written}
-use Rattle.writer.specs.Writing.{Writing, writing, writtenField, fits}
+use Rattle.writer.specs.Writing.{Writing, writing, writtenField, fits, toldWritten}
 use Rattle.writer.specs.Given.{isGiven, written}
-use Rattle.writer.specs.Code.{toldWritten}
 use Rattle.writer.proofs.Theorems.{given-exact, written-most}
 use Rattle.exports.specs.Exports.{codeOf, lengthOr, wrote, writing as writingOf, partyWrite, lineOf}
 

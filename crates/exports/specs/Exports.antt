@@ -35,9 +35,10 @@ abbrev pub storing : Reply → Party → List ℕ → Called
 storing accepted p bytes = record { code = codeOf accepted; bytes = stored p bytes }
 storing (refused k n) p bytes = record { code = codeOf (refused k n); bytes = bytes }
 
--- a reading into a lent record: 24 where that has under 237 bytes, 15 where the option or choice is none, then the reading's own
+-- a reading into a lent record: 42 where that has under 237 bytes, 41 where the option or choice is none, which are numbers of the
+-- interface and not of document 01; then the reading's own
 abbrev pub given : Bool → Reading → List ℕ → Called
-given known r bytes = storing (must (leb 237 (length bytes)) 24 0 then must known 15 0 then r .reply) (r .party) bytes
+given known r bytes = storing (must (leb 237 (length bytes)) 42 0 then must known 41 0 then r .reply) (r .party) bytes
 
 -- `party_read`: the option by its place in the table, 0 to 10
 abbrev pub partyRead : ℕ → List ℕ → List ℕ → Called
@@ -113,19 +114,19 @@ readInto r at bytes = record {
   bytes = elim (r .ended) [ true ↦ bytes | false ↦ storing (r .reading .reply) (r .reading .party) bytes .bytes ];
 }
 
--- `page_read`: 24 where the lent record has under 237 bytes, else the read
+-- `page_read`: 42 where the lent record has under 237 bytes, else the read
 abbrev pub pageRead : List ℕ → ℕ → List ℕ → Called
 pageRead page at bytes =
     elim (leb 237 (length bytes)) [
       | true ↦ readInto (readAt page at) at bytes
-      | false ↦ record { code = codeOf (refused 24 0) * 4294967296; bytes = bytes }
+      | false ↦ record { code = codeOf (refused 42 0) * 4294967296; bytes = bytes }
     ]
 
 -- what adding and closing give, in these terms: the position after, or the refusal
 abbrev pub filed : Filed → Called
 filed f = record { code = lengthOr (f .reply) (f .position); bytes = f .buffer }
 
--- `page_add`: bytes that are no record load as the blank one, which no reader gives: 22
+-- `page_add`: bytes that are no record load as the blank one, which no reader gives: 22, after 21
 abbrev pub pageAdd : List ℕ → List ℕ → ℕ → Called
 pageAdd bytes buffer at = filed (add buffer at (said (unflatten bytes .party)))
 

@@ -27,6 +27,11 @@ ghost use Rattle.errors.specs.Refusals.{refusalOf, toldError, told};
 ghost use Rattle.reader.specs.Reading.{toldAnswer};
 ghost use Rattle.exports.specs.Exports.{codeOf, given, partyRead, choiceAt, parse as parseOf, parseWithVariant, partyParse, partyParseWithVariant, partyWrite, pageRead, pageAdd, pageClose, lengthOr, lineOf};
 
+// The interface's own numbers, × 65,536: 41 no such option or choice, 42 a lent record of under 237 bytes. Document 01 has neither.
+const NONE_SUCH: u32 = 2686976;
+
+const SHORT_RECORD: u32 = 2752512;
+
 // The seven choices, under the names of the Rust's enums.
 pub enum Choice {
     Field50InstructingParty,
@@ -54,6 +59,7 @@ fn choice_at(place: u8) -> Choice
     }
 }
 
+// `parse` of a choice.
 fn parse(choice: Choice, body: &[u8]) -> Answer
     ensures { λ r. ⌜ toldAnswer r ≡ parseOf choice (now (body .entry)) ⌝ }
 {
@@ -68,6 +74,7 @@ fn parse(choice: Choice, body: &[u8]) -> Answer
     }
 }
 
+// `parse_with_variant` of a choice.
 fn parse_with_variant(choice: Choice, body: &[u8], letter: u8) -> Answer
     ensures { λ r. ⌜ toldAnswer r ≡ parseWithVariant choice (now (body .entry)) letter ⌝ }
 {
@@ -105,10 +112,10 @@ fn give(known: bool, answer: Answer, out: &mut [u8]) -> u32
     ensures { λ r. ⌜ (record { code = r; bytes = now (out .exit) }) ≡ given known (toldAnswer answer) (now (out .entry)) ⌝ }
 {
     if out.len() < 237 {
-        return code(ParseError::NoSpace);
+        return SHORT_RECORD;
     }
     if !known {
-        return code(ParseError::UnknownTag);
+        return NONE_SUCH;
     }
     let outcome = answer.outcome;
     if let Outcome::Refused(e) = outcome {
@@ -171,13 +178,13 @@ pub extern "C" fn party_write(record: &[u8], buf: &mut [u8]) -> u32
 }
 
 // Reads the page at a position and stores the record that it gives; the end changes no byte. Gives the number × 4,294,967,296, 65,536 more
-// at the end, and how many bytes the read moved past, 0 at 17, 18, 21 and 24.
+// at the end, and how many bytes the read moved past, 0 at 17, 18, 21 and 42.
 #[no_mangle]
 pub extern "C" fn page_read(page: &[u8], at: usize, record: &mut [u8]) -> u64
     ensures { λ r. ⌜ (record { code = r; bytes = now («record» .exit) }) ≡ pageRead (now (page .entry)) at (now («record» .entry)) ⌝ }
 {
     if record.len() < 237 {
-        return (code(ParseError::NoSpace) as u64) * 4294967296;
+        return (SHORT_RECORD as u64) * 4294967296;
     }
     let got = read_at(page, at);
     let moved = (got.next - at) as u64;

@@ -43,7 +43,7 @@ orderingCustomerNCF body =
 unfoldable pub creditor : List ℕ → Reading
 creditor body = detected body (firstThat (when (lastIsBic (lines body)) Field50A ++ (Field50K ∷ [])) body)
 
--- by a letter
+-- each by a letter, with its options ('A letter an option has picks that option')
 unfoldable pub instructingPartyBy : List ℕ → ℕ → Reading
 instructingPartyBy body letter = withVariant letter (Field50C ∷ Field50L ∷ []) body (instructingParty body)
 

@@ -110,6 +110,7 @@ impl Field50H {
     }
 }
 
+// Whether both hold.
 fn both(a: bool, b: bool) -> bool
     ensures { λ r. ⌜ r ≡ (a && b) ⌝ }
 {

@@ -21,7 +21,7 @@ field59 body = detected body (firstThat (Field59A ∷ when (isNumbered (testLine
 unfoldable pub debtor : List ℕ → Reading
 debtor body = detected body (firstThat (Field59A ∷ Field59NoOption ∷ []) body)
 
--- by a letter
+-- each by a letter, with its options ('A letter an option has picks that option')
 unfoldable pub field59By : List ℕ → ℕ → Reading
 field59By body letter = withVariant letter (Field59A ∷ Field59F ∷ Field59NoOption ∷ []) body (field59 body)
 

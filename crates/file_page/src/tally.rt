@@ -9,7 +9,7 @@ pub struct Tally {
     refused: u64,
 }
 
-// A page has too few lines for these to wrap.
+// A page has too few lines for these to wrap; that is not proved, and only what is printed hangs on it.
 fn sum(a: u64, b: u64) -> u64 {
     std::num::wrapping_add_u64(a, b)
 }

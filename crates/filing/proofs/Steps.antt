@@ -10,9 +10,8 @@ use Rattle.errors.specs.Refusals.{Reply, accepted, refused, told}
 use Rattle.errors.specs.declared.Outcome.{Outcome}
 use Rattle.party.specs.Party.{said}
 use Rattle.pages.specs.declared.PageRead.{PageRead as Read}
-use Rattle.pages.specs.Pages.{PageRead, readAt}
+use Rattle.pages.specs.Pages.{PageRead, readAt, toldRead}
 use Rattle.pages.specs.Filing.{Filed, add}
-use Rattle.pages.specs.Code.{toldRead}
 use Rattle.pages.proofs.Moves.{stays-or-moves}
 use Rattle.filing.specs.Filing.{Step, givesRecord, fileRead, fileNext}
 

@@ -1,4 +1,5 @@
--- One read of a page, and the record that it gives added to another (document 01, 'Pages (added)').
+-- One read of a page, and the record that it gives added to another. Document 01 has the read and the add ('Pages (added)'); that one
+-- follows the other, up to the end, is ours.
 use Prim.Native.Nat.{ℕ, zero, suc}
 use mathlib.Core.Path.{_≡_}
 use mathlib.Core.Bool.{Bool, true, false, not, _||_}
@@ -54,6 +55,7 @@ pub record Filling : Type 0 where
   pub buffer : List ℕ
   pub position : ℕ
 
+-- the two as one value
 abbrev pub filling : List ℕ → ℕ → Filling
 filling buffer position = record { buffer = buffer; position = position }
 
@@ -86,5 +88,6 @@ recordsFrom (suc n) page at =
     let r = readAt page at in
     recordOf r (elim (isLast (r .ended) (r .next) at) [ true ↦ [] | false ↦ recordsFrom n page (r .next) ])
 
+-- those of the whole page
 abbrev pub recordsOf : List ℕ → List Party
 recordsOf page = recordsFrom (suc (length page)) page 0

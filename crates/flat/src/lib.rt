@@ -27,6 +27,7 @@ fn byte_of(n: usize) -> u8
     if n < 255 { n as u8 } else { 255 }
 }
 
+// A yes or no as a byte.
 fn bit(b: bool) -> u8
     ensures { λ r. ⌜ r ≡ bitOf b ⌝ }
 {

@@ -17,7 +17,7 @@ pub struct Reads {
     differ: u64,
 }
 
-// There are too few records for these to wrap.
+// There are too few records for these to wrap; that is not proved, and only what is printed hangs on it.
 fn more(n: u64) -> u64 {
     std::num::wrapping_add_u64(n, 1)
 }

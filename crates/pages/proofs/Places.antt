@@ -16,9 +16,9 @@ use Rattle.swift_utils.proofs.Parts.{part}
 use Rattle.pages.specs.declared.PageRead.{PageRead as Read}
 use Rattle.pages.specs.declared.Place.{Place}
 use Rattle.pages.specs.declared.Place.the-variants.{TooLong, NoPlace, AtLength, Opening, End, Stray}
-use Rattle.pages.specs.Pages.{pageMost, lineAt, opens, endsPage, runs, onward, pastLine, Tagged, untagged, tagged, tagIn, PageRead, readTagged, readField, readLine, readPlace, startsLine, readable, readAt}
+use Rattle.pages.specs.Pages.{pageMost, lineAt, opens, endsPage, runs, onward, pastLine, Tagged, untagged, tagged, tagIn, PageRead, readTagged, readField, readLine, readPlace, startsLine, readable, readAt, toldRead}
 use Rattle.party.specs.Limits.{options}
-use Rattle.pages.specs.Code.{toldRead, isOpening, lineAtPlace, restAtPlace, placeAt, readRest, readBy}
+use Rattle.pages.specs.Code.{isOpening, lineAtPlace, restAtPlace, placeAt, readRest, readBy}
 use Rattle.pages.proofs.Runs.{followed}
 
 -- ---- the line at a place

@@ -180,11 +180,11 @@ exact len at p g space =
     go true e r =
         let a = alone-exact p g .yes e in
         let y : recordReply len at (said p) ≡ accepted = r ∙ rw e in
-        record { filed = λ b. y; refusal = λ n. absurd (n a); either = λ b. a }
+        record { filed = λ b. y; refusal = λ n. absurd (n a); only = λ b. a }
     go false e r =
         let n = alone-exact p g .no e in
         let y : recordReply len at (said p) ≡ refused 23 0 = r ∙ rw e in
-        record { filed = λ a. absurd (n a); refusal = λ b. y; either = λ b. absurd (refused≢accepted (sym y ∙ b)) }
+        record { filed = λ a. absurd (n a); refusal = λ b. y; only = λ b. absurd (refused≢accepted (sym y ∙ b)) }
 
 each : (ps : List Party) (len at : ℕ) → Turns ps len at
 unfolding Turns

@@ -1,27 +1,19 @@
--- What the answers of the functions of pages mean, and the working forms of the private ones.
+-- The working forms of the private functions of pages.
 use Prim.Native.Nat.{ℕ, _+_}
 use mathlib.Core.Bool.{Bool, true, false, not, _&&_}
 use mathlib.Core.List.{List, [], _∷_}
 use lib.Dec.{leb, eqb}
 use lib.ListN.{length, take, drop, getD}
-use Rattle.errors.specs.Refusals.{told}
 use Rattle.party.specs.declared.PartyOption.{PartyOption}
 use Rattle.party.specs.declared.PartyOption.the-variants.{Field50NoOption, Field50A, Field50F, Field50K, Field50C, Field50L, Field50G, Field50H, Field59NoOption, Field59A, Field59F}
 use Rattle.party.specs.Limits.{limitsOf}
 use Rattle.writer.specs.Writing.{tagOf}
 use Rattle.writer.specs.ReadBack.{isEmpty, endsCr}
-use Rattle.pages.specs.declared.PageRead.{PageRead as Read}
-use Rattle.pages.specs.declared.Filed.{Filed as FiledAt}
 use Rattle.pages.specs.declared.Place.{Place}
 use Rattle.pages.specs.declared.Place.the-variants.{TooLong, NoPlace, AtLength, Opening, End, Stray}
 use Rattle.pages.specs.declared.Tag.{Tag}
 use Rattle.pages.specs.declared.Tag.the-variants.{Unknown, Known}
-use Rattle.pages.specs.Filing.{Filed}
 use Rattle.pages.specs.Pages.{pageMost, lineAt, opens, endsPage, marks, runs, onward, pastLine, Tagged, untagged, tagged, PageRead, refusing, ending, readField, readable}
-
--- a read, with the part of the page that is the body
-abbrev pub toldRead : Read → List ℕ → PageRead
-toldRead r body = record { ended = r .ended; reading = record { reply = told (r .outcome); party = r .party }; body = body; next = r .next }
 
 -- a tag found in a text, whose body starts after so many bytes
 abbrev pub toldTag : List ℕ → Tag → Tagged
@@ -89,7 +81,3 @@ is59F Field50H = false
 is59F Field59NoOption = false
 is59F Field59A = false
 is59F Field59F = true
-
--- an answer of adding or closing, with the buffer that it left
-abbrev pub toldFiled : FiledAt → List ℕ → Filed
-toldFiled r buffer = record { reply = told (r .outcome); position = r .position; buffer = buffer }

@@ -32,13 +32,15 @@ use Rattle.pages.specs.Pages.{pageMost}
 use Rattle.pages.specs.Filing.{hasSpace, withLf, Filed, recordReply, close}
 use Rattle.pages.specs.WholePage.{Run, run, Model, model, Field, pageOf, ReadsAs, asFiled, Alone, Overwrites}
 
--- the adds, from an empty page; the model beside them; the closing, at the position and in the buffer that they left
+-- the adds, from an empty page
 abbrev pub adds : List Party → List ℕ → Run
 adds ps buffer = run ps buffer 0
 
+-- the model beside them, by the buffer's length
 abbrev pub beside : List Party → List ℕ → Model
 beside ps buffer = model ps (length buffer) 0
 
+-- the closing, at the position and in the buffer that they left
 abbrev pub closing : List Party → List ℕ → Filed
 closing ps buffer = close (adds ps buffer .buffer) (adds ps buffer .position)
 
@@ -50,7 +52,7 @@ page ps buffer = take (closing ps buffer .position) (closing ps buffer .buffer)
 pub record Exactly (len at : ℕ) (p : Party) : Type 0 where
   pub filed : Alone p → recordReply len at (said p) ≡ accepted
   pub refusal : (Alone p → ⊥) → recordReply len at (said p) ≡ refused 23 0
-  pub either : recordReply len at (said p) ≡ accepted → Alone p
+  pub only : recordReply len at (said p) ≡ accepted → Alone p
 
 -- what is claimed of a record at its turn
 abbrev pub Turn : ℕ → ℕ → Party → Type 0

@@ -4,12 +4,13 @@ use mathlib.Core.Bool.{Bool, false, not, _&&_, _||_}
 use mathlib.Core.List.{List, [], _∷_, _++_}
 use lib.Dec.{leb}
 use lib.ListN.{length}
-use Rattle.errors.specs.Refusals.{Reply, accepted, refused, must, _then_}
+use Rattle.errors.specs.Refusals.{Reply, accepted, refused, told, must, _then_}
 use Rattle.party.specs.Party.{Said}
 use Rattle.swift_utils.specs.Bytes.{bytes}
 use Rattle.writer.specs.Writing.{writtenBody, writtenField, pieces, put}
 use Rattle.writer.specs.Given.{isGiven}
 use Rattle.writer.specs.ReadBack.{lastEmpty, earlierCr, identified59F}
+use Rattle.pages.specs.declared.Filed.{Filed as FiledAt}
 use Rattle.pages.specs.Pages.{pageMost, marks, startsLine}
 
 -- a line starts with `:` or is `-`
@@ -30,11 +31,11 @@ isCarried s =
     && not (identified59F s)
     && not (laterMark (pieces (writtenBody s)))
 
--- 21: a write position past the buffer, or neither 0 nor after an LF
+-- a position to write at, else 21: within the buffer, and 0 or after an LF
 unfoldable pub writable : List ℕ → ℕ → Bool
 writable buffer at = leb at (length buffer) && startsLine buffer at
 
--- 24: a position passes the buffer or 32,768
+-- a position has space before it, else 24: it passes neither the buffer nor 32,768
 abbrev pub hasSpace : ℕ → ℕ → Bool
 hasSpace len to = leb to (min len pageMost)
 
@@ -72,3 +73,7 @@ add buffer at s =
 -- closing: 21, 24; writes `-` and LF
 unfoldable pub close : List ℕ → ℕ → Filed
 close buffer at = filing (must (writable buffer at) 21 0 then must (hasSpace (length buffer) (at + 2)) 24 0) buffer at endLine
+
+-- what the code's answer says, with the buffer that it left
+abbrev pub toldFiled : FiledAt → List ℕ → Filed
+toldFiled r buffer = record { reply = told (r .outcome); position = r .position; buffer = buffer }

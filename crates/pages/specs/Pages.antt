@@ -4,7 +4,7 @@ use mathlib.Core.Bool.{Bool, true, false, _&&_, _||_}
 use mathlib.Core.List.{List, [], _∷_}
 use lib.Dec.{leb, eqb}
 use lib.ListN.{length, take, drop, getD}
-use Rattle.errors.specs.Refusals.{accepted, refused}
+use Rattle.errors.specs.Refusals.{accepted, refused, told}
 use Rattle.party.specs.declared.PartyOption.{PartyOption}
 use Rattle.party.specs.Limits.{options}
 use Rattle.party.specs.Party.{blank}
@@ -13,6 +13,7 @@ use Rattle.reader.specs.Reading.{Reading}
 use Rattle.reader.specs.Options.{read}
 use Rattle.writer.specs.Writing.{tagOf}
 use Rattle.writer.specs.ReadBack.{isEmpty}
+use Rattle.pages.specs.declared.PageRead.{PageRead as Read}
 
 -- at most 32,768 bytes
 abbrev pub pageMost : ℕ
@@ -60,6 +61,7 @@ pub data Tagged : Type 0 where
   untagged : Tagged
   tagged : PartyOption → List ℕ → Tagged
 
+-- the first of some options whose tag the text begins with
 unfoldable pub tagIn : List PartyOption → List ℕ → Tagged
 tagIn [] text = untagged
 tagIn (o ∷ os) text = elim (begins (tagOf o) text) [ true ↦ tagged o (drop (length (tagOf o)) text) | false ↦ tagIn os text ]
@@ -84,6 +86,7 @@ abbrev pub readTagged : Tagged → ℕ → PageRead
 readTagged untagged next = refusing 15 next
 readTagged (tagged o body) next = record { ended = false; reading = read o body; body = body; next = next }
 
+-- by the tags of the eleven
 unfoldable pub readField : List ℕ → ℕ → PageRead
 readField text next = readTagged (tagIn options text) next
 
@@ -105,7 +108,7 @@ abbrev pub startsLine : List ℕ → ℕ → Bool
 startsLine page zero = true
 startsLine page (suc at) = eqb (getD page at 0) 10
 
--- 21: a read position past the length, or neither 0, the length nor after an LF
+-- a position to read at, else 21: within the page, and 0, the length or after an LF
 abbrev pub readable : List ℕ → ℕ → Bool
 readable page at = leb at (length page) && (eqb at (length page) || startsLine page at)
 
@@ -116,3 +119,7 @@ readAt page at =
       | true ↦ elim (readable page at) [ true ↦ readPlace (drop at page) at | false ↦ refusing 21 at ]
       | false ↦ refusing 18 at
     ]
+
+-- what the code's answer says, with the part of the page that is the body
+abbrev pub toldRead : Read → List ℕ → PageRead
+toldRead r body = record { ended = r .ended; reading = record { reply = told (r .outcome); party = r .party }; body = body; next = r .next }

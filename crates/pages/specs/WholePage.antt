@@ -22,9 +22,11 @@ pub record Run : Type 0 where
   pub position : ℕ
   pub buffer : List ℕ
 
+-- an answer before those of a run
 abbrev pub after : Answer → Run → Run
 after a r = record { answers = a ∷ r .answers; position = r .position; buffer = r .buffer }
 
+-- the adds of a list, one after the other, from a position on
 unfoldable pub run : List Party → List ℕ → ℕ → Run
 run [] buffer at = record { answers = []; position = at; buffer = buffer }
 run (p ∷ ps) buffer at =
@@ -48,6 +50,7 @@ step (refused k n) p at later =
     let m = later at in
     record { answers = record { reply = refused k n; position = at } ∷ m .answers; position = m .position; list = m .list }
 
+-- the model of a list of adds, by the buffer's length
 unfoldable pub model : List Party → ℕ → ℕ → Model
 model [] len at = record { answers = []; position = at; list = [] }
 model (p ∷ ps) len at = step (recordReply len at (said p)) p at (model ps len)
@@ -57,6 +60,7 @@ pub data Field : Type 0 where
   filed : Party → Field
   overwritten : List ℕ → Field
 
+-- a field's text: tag and body, or a colon and the new bytes
 abbrev pub textOf : Field → List ℕ
 textOf (filed p) = writtenField (said p)
 textOf (overwritten new) = 58 ∷ new
@@ -86,7 +90,8 @@ asFiled (p ∷ ps) = filed p ∷ asFiled ps
 abbrev pub Alone : Party → Type 0
 Alone p = ReadsAs (pageOf (filed p ∷ [])) 0 (filed p ∷ [])
 
--- which fields of a page are overwritten: no line after their first starts with a colon or is a lone hyphen
+-- the fields of a page of which some are overwritten: as many and in the same order, each as it was filed, or overwritten with bytes of
+-- which no line after the first starts with a colon or is a lone hyphen
 unfoldable pub Overwrites : List Party → List Field → Type 0
 Overwrites [] [] = Unit {0}
 Overwrites [] (f ∷ fs) = ⊥

@@ -1,4 +1,5 @@
-// Pages of fields, which are ours: no Rust file has them. A page is read at a position, field by field.
+// Pages of fields, which are ours: no Rust file has them. A page is read at a position, field by field; records are added to it, and it
+// is closed.
 use errors::Outcome;
 use errors::ParseError;
 use field_utils::lines::find_lf;
@@ -19,13 +20,13 @@ ghost use Rattle.errors.specs.declared.Outcome.the-variants.{Accepted, Refused}
 ghost use Rattle.errors.specs.Refusals.{toldError};
 ghost use Rattle.party.specs.Party.{blank as blankParty, said};
 ghost use Rattle.pages.specs.declared.Tag.the-variants.{Known};
-ghost use Rattle.pages.specs.Pages.{pageMost, lineAt, opens, endsPage, runs, onward, pastLine, tagIn, readField, readable, readAt};
+ghost use Rattle.pages.specs.Pages.{pageMost, lineAt, opens, endsPage, runs, onward, pastLine, tagIn, readField, readable, readAt, toldRead};
 ghost use Rattle.party.specs.Limits.{options};
 ghost use Rattle.writer.specs.Writing.{pieces, writtenField};
 ghost use Rattle.writer.specs.Code.{Puts};
 ghost use Rattle.writer.specs.ReadBack.{endsCr, identified59F};
-ghost use Rattle.pages.specs.Filing.{isCarried, writable, hasSpace, withLf, add as addTo, close as closeAt};
-ghost use Rattle.pages.specs.Code.{areCarried, is59F, toldFiled, toldRead, toldTag, knownIn, isOpening, placeAt};
+ghost use Rattle.pages.specs.Filing.{isCarried, writable, hasSpace, withLf, add as addTo, close as closeAt, toldFiled};
+ghost use Rattle.pages.specs.Code.{areCarried, is59F, toldTag, knownIn, isOpening, placeAt};
 
 // What a read gives: the end, or accepted with the record, or refused with the blank record; and the next position.
 pub struct PageRead {
@@ -103,7 +104,7 @@ fn runs_to(page: &[u8], at: usize) -> usize
     }
 }
 
-// The place after the LF at a place, or the length where none stands there.
+// The place after a place, at most the length.
 fn past(page: &[u8], lf: usize) -> usize
     ensures { λ r. ⌜ r ≡ min (length (now (page .entry))) (suc lf) ⌝ }
 {
@@ -126,6 +127,7 @@ fn is_readable(page: &[u8], at: usize) -> bool
     page[at - 1] == b'\n'
 }
 
+// A tag that is known.
 fn tagged(option: PartyOption, skip: usize) -> Tag
     ensures { λ r. ⌜ r ≡ Known option skip ⌝ }
 {
@@ -469,6 +471,7 @@ fn put_line(buf: &mut [u8], at: usize, text: &[u8]) -> usize
     end + 1
 }
 
+// A refusal, with the position that was handed in.
 fn refuse_at(e: ParseError, position: usize) -> Filed
     ensures { λ r. ⌜ r ≡ record { outcome = Refused e; position = position } ⌝ }
 {
@@ -478,6 +481,7 @@ fn refuse_at(e: ParseError, position: usize) -> Filed
     }
 }
 
+// Accepted, with the position after.
 fn accept_at(position: usize) -> Filed
     ensures { λ r. ⌜ r ≡ record { outcome = Accepted; position = position } ⌝ }
 {

@@ -21,8 +21,8 @@ row field letter least most shortest longest bic names name =
     }
 
 -- An option's limits (field50.rs and field59.rs): the field of its tag, the letter (0 for none); the lines counted first (0 and
--- 2,048 where they are not, which no body of at most 2,048 bytes exceeds); the account, or the identifier after its slashes; the BIC;
--- the names, and the text of a name.
+-- 2,048 where they are not, which no body of at most 2,048 bytes exceeds); the account, or the identifier after its slashes (50F and 50L:
+-- the whole line); the BIC, of which only 0 for none is used; the names, and the text of a name.
 abbrev pub limitsOf : PartyOption → Limits
 limitsOf Field50NoOption = row 50 0 1 4 0 0 0 4 35
 limitsOf Field50A = row 50 65 1 2048 0 34 11 0 0

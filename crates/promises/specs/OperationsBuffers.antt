@@ -110,11 +110,11 @@ pub record ExportsOperations : Type 0 where
   -- gives the number alone, without the line: an empty 50C is 9, line 1
   pub party-read-drops-the-line : partyRead (placeOf Field50C) [] lent .code ≡ 9 * 65536 + 1
   -- reads by the first option where there is none
-  pub party-read-takes-11 : partyRead 11 (bytes "A") lent .code ≡ 15 * 65536
+  pub party-read-takes-11 : partyRead 11 (bytes "A") lent .code ≡ 41 * 65536
   -- counts the choices from 1: 2 is AFK, and the record a 50A
   pub party-parse-counts-from-1 : getD (partyParse 2 (bytes "ABCDEFGH") lent .bytes) 0 0 ≡ placeOf Field50A
-  -- tests 15 before 24
-  pub party-parse-tests-space-last : partyParse 7 (bytes "A") [] .code ≡ 24 * 65536
+  -- tests 41 before 42
+  pub party-parse-tests-space-last : partyParse 7 (bytes "A") [] .code ≡ 42 * 65536
   -- stores the blank record beside a refusal
   pub party-parse-with-variant-stores : partyParseWithVariant 2 (bytes "A") 97 lent .bytes ≡ lent
   -- detects without a letter, and stores a 59A

@@ -48,7 +48,7 @@ pub record PartyOperations : Type 0 where
   pub index-of-starts-anew : placeOf Field59NoOption ≡ 8
   -- lets a text of 50F have 35 bytes, as a name of 50K has
   pub limits-of-takes-35 : limitsOf Field50F .name ≡ 33
-  -- gives nothing, and only its promise could be empty: a record of three names, or with a text of 37 bytes, does not have it
+  -- promises nothing: but a record of three names, or with a text of 37 bytes, does not have what it promises
   pub sized-takes-three : (p : Party) → length (p .«name_and_address») ≡ 3 → IsParty p → ⊥
   pub sized-takes-37 : (p : Party) → length (p .account .bytes) ≡ 37 → IsParty p → ⊥
   -- gives the length of the slice, though only 38 bytes are kept
@@ -82,10 +82,6 @@ pub record SwiftUtilsOperations : Type 0 where
   pub class-table-is-late : getD classTable 65 0 ≡ 4
   -- takes every printable byte
   pub is-legal-takes-tilde : legal 126 ≡ false
-  -- takes capitals alone
-  pub is-letter-refuses-a : letter 97 ≡ true
-  -- goes one past Z
-  pub is-letter-takes-bracket : letter 91 ≡ false
   -- goes one past 9
   pub is-digit-takes-colon : digit 58 ≡ false
   -- begins at 1
@@ -114,8 +110,6 @@ unfolding letter digit alphanumeric signs legal classOf classTable parseSwiftCha
 swift-utils-operations = record {
   class-table-is-late = refl;
   is-legal-takes-tilde = refl;
-  is-letter-refuses-a = refl;
-  is-letter-takes-bracket = refl;
   is-digit-takes-colon = refl;
   is-digit-refuses-0 = refl;
   all-at-least-asks-for-more = refl;

@@ -21,7 +21,7 @@ use Rattle.reader.specs.declared.Layout.{Layout}
 use Rattle.reader.specs.declared.Layout.the-variants.{BicOnly, TextOnly, ByLines}
 use Rattle.reader.specs.Reading.{Reading, giving, Found, partyOf}
 
--- what the first line is to an option
+-- what the first line is to an option; 50C and 50L have no lines, and are not asked
 abbrev pub firstOf : PartyOption → First
 firstOf Field50NoOption = Name
 firstOf Field50A = Identified
@@ -41,9 +41,11 @@ pub record Head : Type 0 where
   pub text : List ℕ
   pub reply : Reply
 
+-- none is there
 abbrev pub noHead : Head
 noHead = record { present = false; text = []; reply = accepted }
 
+-- one is there
 abbrev pub head : List ℕ → Reply → Head
 head text reply = record { present = true; text = text; reply = reply }
 
@@ -68,7 +70,7 @@ slashHead l reply = head (drop 1 l) (must (starts 47 l) 2 1 then reply)
 unfoldable pub accountHead : PartyOption → List ℕ → Head
 accountHead o l = elim (starts 47 l) [ true ↦ head (drop 1 l) (accountReply o (drop 1 l)) | false ↦ noHead ]
 
--- 59, 59A: account as 50K, but `/` with over 34 bytes is taken for a name
+-- 59, 59A: account as 50K, but `/` with over 34 bytes is none: 59 takes the line for a name, 59A for the BIC
 unfoldable pub shortAccountHead : PartyOption → List ℕ → Head
 shortAccountHead o l = elim (leb (length (drop 1 l)) (limitsOf o .longest)) [ true ↦ accountHead o l | false ↦ noHead ]
 

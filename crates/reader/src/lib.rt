@@ -60,6 +60,7 @@ pub enum Layout {
     ByLines,
 }
 
+// What the first line is to an option.
 pub fn first_of(option: PartyOption) -> First
     ensures { λ r. ⌜ r ≡ firstOf option ⌝ }
 {
@@ -78,6 +79,7 @@ pub fn first_of(option: PartyOption) -> First
     }
 }
 
+// What a body is to an option.
 fn layout_of(option: PartyOption) -> Layout
     ensures { λ r. ⌜ r ≡ layoutOf option ⌝ }
 {
@@ -96,6 +98,7 @@ fn layout_of(option: PartyOption) -> Layout
     }
 }
 
+// Accepted, with the record.
 fn accept(party: Party) -> Answer
     ensures { λ r. ⌜ r ≡ record { outcome = Accepted; party = party } ⌝ }
 {
@@ -135,6 +138,7 @@ struct HeadAt {
     skip: usize,
 }
 
+// None is there.
 fn no_head() -> HeadAt
     ensures { λ r. ⌜ r ≡ record { outcome = Accepted; present = false; skip = 0 } ⌝ }
 {
@@ -145,6 +149,7 @@ fn no_head() -> HeadAt
     }
 }
 
+// One is there.
 fn head(outcome: Outcome, skip: usize) -> HeadAt
     ensures { λ r. ⌜ r ≡ record { outcome = outcome; present = true; skip = skip } ⌝ }
 {
@@ -155,6 +160,7 @@ fn head(outcome: Outcome, skip: usize) -> HeadAt
     }
 }
 
+// 50A, 59F: identifier or none.
 fn identifier_head(line: &[u8], option: PartyOption) -> HeadAt
     ensures { λ r. ⌜ toldHead (now (line .entry)) r ≡ headBy Identified option (now (line .entry)) ⌝ }
 {
@@ -189,6 +195,7 @@ pub fn account_length(text: &[u8], option: PartyOption) -> Outcome
     Outcome::Accepted
 }
 
+// 50K: a first line with a slash is an account.
 fn account_head(line: &[u8], option: PartyOption) -> HeadAt
     ensures { λ r. ⌜ toldHead (now (line .entry)) r ≡ headBy Account option (now (line .entry)) ⌝ }
 {
@@ -198,6 +205,7 @@ fn account_head(line: &[u8], option: PartyOption) -> HeadAt
     head(account(behind(line, 1), option), 1)
 }
 
+// 59, 59A: the same, but one that is too long is none.
 fn short_account_head(line: &[u8], option: PartyOption) -> HeadAt
     ensures { λ r. ⌜ toldHead (now (line .entry)) r ≡ headBy ShortAccount option (now (line .entry)) ⌝ }
 {
@@ -372,6 +380,7 @@ fn counts(option: PartyOption, body: &[u8]) -> bool
     n <= limits.most
 }
 
+// A body by its lines: how many there are, the first, and the others.
 fn read_lines(option: PartyOption, body: &[u8]) -> Answer
     requires { ⌜ length (now body) ≤ 2048 ⌝ }
     ensures { λ r. ⌜ toldAnswer r ≡ readingOf option (byLines option (lines (now (body .entry)))) ⌝ }

@@ -3,7 +3,7 @@ use errors::Outcome;
 use errors::ParseError;
 ghost use mathlib.Core.Path.{_≡_};
 ghost use Rattle.errors.specs.Refusals.{told};
-ghost use Rattle.swift_utils.specs.Bytes.{legal, letter, digit, alphanumeric, all};
+ghost use Rattle.swift_utils.specs.Bytes.{legal, digit, alphanumeric, all};
 ghost use Rattle.swift_utils.specs.Checks.{parseSwiftChars, parseAccount, bicLength, parseBic};
 ghost use Rattle.swift_utils.specs.Classes.{classOf, classTable, entryAtLeast};
 
@@ -290,13 +290,6 @@ pub fn is_legal(b: u8) -> bool
     1 <= class(b)
 }
 
-// Whether a byte is an ASCII letter.
-pub fn is_letter(b: u8) -> bool
-    ensures { λ r. ⌜ r ≡ letter b ⌝ }
-{
-    4 <= class(b)
-}
-
 // Whether a byte is an ASCII digit.
 pub fn is_digit(b: u8) -> bool
     ensures { λ r. ⌜ r ≡ digit b ⌝ }
@@ -339,7 +332,8 @@ pub fn parse_swift_chars(input: &[u8], line: usize) -> Outcome
     }
 }
 
-// An account or identifier of a length from shortest to longest, else 2, and of legal bytes, else 3, at the line that is handed in.
+// An account or identifier of a length from shortest to longest, else 2, and of legal bytes, else 3, at the line that is handed in. The
+// Rust tests each option's by hand; its `parse_account` is for other fields.
 pub fn parse_account(input: &[u8], shortest: usize, longest: usize, line: usize) -> Outcome
     ensures { λ r. ⌜ told r ≡ parseAccount shortest longest line (now (input .entry)) ⌝ }
 {

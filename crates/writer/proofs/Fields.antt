@@ -1,5 +1,5 @@
 -- The written field by its parts: tag, account or identifier, and a BIC or names. Assumes nothing.
-use Prim.Native.Nat.{ℕ, _+_, _/_, _%_}
+use Prim.Native.Nat.{ℕ, _+_, _/_, _%_, _≤_}
 use mathlib.Core.Path.{_≡_, refl, _∙_, sym, ap}
 use mathlib.Core.Bool.{Bool, true, false}
 use mathlib.Core.List.{List, [], _∷_, _++_, map, append-assoc, append-nil}
@@ -139,6 +139,20 @@ module _ (o : PartyOption) {l : Limits} (e : l ≡ limitsOf o) where
 
   pub tag-lettered : (l .letter ≡ 0 → ⊥) → (58 ∷ (48 + l .field / 10) ∷ (48 + l .field % 10) ∷ l .letter ∷ 58 ∷ []) ≡ tagOf o
   tag-lettered h = lettered l h ∙ ap tagBy e ∙ sym (tag-by o)
+
+-- a tag has at most 5 bytes
+pub tag-most : (o : PartyOption) → length (tagOf o) ≤ 5
+tag-most Field50NoOption = omega arith
+tag-most Field50A = omega arith
+tag-most Field50F = omega arith
+tag-most Field50K = omega arith
+tag-most Field50C = omega arith
+tag-most Field50L = omega arith
+tag-most Field50G = omega arith
+tag-most Field50H = omega arith
+tag-most Field59NoOption = omega arith
+tag-most Field59A = omega arith
+tag-most Field59F = omega arith
 
 -- ---- the slash as a part of an array
 pub slash-part : (o : PartyOption) → take (length (slashOf o)) (47 ∷ []) ≡ slashOf o

@@ -19,6 +19,7 @@ use Rattle.reader.specs.Options.{firstOf}
 use Rattle.writer.specs.Writing.{tagOf, slashOf, gapOf, nameLines, headLines, writtenLines, joined, writtenBody, writtenField}
 use Rattle.writer.specs.Given.{every, isAccount, isBic, areNames}
 use Rattle.writer.specs.ReadBack.{identified59F}
+use Rattle.writer.proofs.Fields.{tag-most}
 use Rattle.writer.proofs.Tests.{both-left}
 use Rattle.writer.proofs.Relined.{weight, closed}
 use Rattle.writer.proofs.Sayings.{saidWith, bytesOf}
@@ -116,19 +117,6 @@ table-180 Field59NoOption e = refl
 table-180 Field59A e = refl
 table-180 Field59F e = absurd (true≢false e)
 
-tag-most : (o : PartyOption) → leb (length (tagOf o)) 5 ≡ true
-tag-most Field50NoOption = refl
-tag-most Field50A = refl
-tag-most Field50F = refl
-tag-most Field50K = refl
-tag-most Field50C = refl
-tag-most Field50L = refl
-tag-most Field50G = refl
-tag-most Field50H = refl
-tag-most Field59NoOption = refl
-tag-most Field59A = refl
-tag-most Field59F = refl
-
 -- only 59F has an empty line after its identifier
 pub gap-none : (o : PartyOption) → eqb (placeOf o) (placeOf Field59F) ≡ false → gapOf o ≡ []
 gap-none Field50NoOption e = refl
@@ -219,7 +207,7 @@ module _ (o : PartyOption) (present : Bool) (count : ℕ) (u v : Used) (us : Lis
         arith,
         joined-most (writtenLines S) 183 (omega (arith, written-weight, gap-one, bare-183)),
         length-append (tagOf o) (joined (writtenLines S)),
-        leb-true (length (tagOf o)) 5 (tag-most o),
+        tag-most o,
       )
 
   written-180 : (t q : Bool) → eqb (placeOf o) (placeOf Field59F) ≡ t → present ≡ q → (t && q) ≡ false → weight (writtenLines S) ≤ 180
@@ -246,5 +234,5 @@ module _ (o : PartyOption) (present : Bool) (count : ℕ) (u v : Used) (us : Lis
         arith,
         joined-most (writtenLines S) 179 (written-180 (eqb (placeOf o) (placeOf Field59F)) present refl refl n),
         length-append (tagOf o) (joined (writtenLines S)),
-        leb-true (length (tagOf o)) 5 (tag-most o),
+        tag-most o,
       )

@@ -1,11 +1,11 @@
--- What the answers of the writer's functions mean, and the parts that they write.
+-- The working forms of the writer's private functions: the parts that they write and test.
 use Prim.Native.Nat.{ℕ, suc, _+_, _≤_, min}
 use mathlib.Core.Path.{_≡_}
 use mathlib.Core.Bool.{Bool, true, false, not, _&&_}
 use mathlib.Core.List.{List, [], _∷_, _++_, map}
 use lib.Dec.{ltb}
 use lib.ListN.{length}
-use Rattle.errors.specs.Refusals.{Reply, told}
+use Rattle.errors.specs.Refusals.{Reply}
 use Rattle.party.specs.declared.PartyOption.{PartyOption}
 use Rattle.party.specs.declared.Party.{Party}
 use Rattle.party.specs.Limits.{limitsOf}
@@ -16,13 +16,8 @@ use Rattle.field_utils.specs.declared.Numbering.{Numbering}
 use Rattle.field_utils.specs.declared.Numbering.the-variants.{Unnumbered, Numbered, InTurn}
 use Rattle.field_utils.specs.Lines.{starts}
 use Rattle.field_utils.specs.Names.{numberingOf, parseLine}
-use Rattle.writer.specs.declared.Written.{Written}
-use Rattle.writer.specs.Writing.{Writing, slashOf, gapOf, numberOf, nameLines, put}
+use Rattle.writer.specs.Writing.{slashOf, gapOf, numberOf, nameLines, put}
 use Rattle.writer.specs.Given.{passes, isLine}
-
--- an answer, with the buffer that it left
-abbrev pub toldWritten : Written → List ℕ → Writing
-toldWritten r buffer = record { reply = told (r .outcome); len = r .len; buffer = buffer }
 
 -- the length of a text, which is at most a bound
 pub record Counted (bound : ℕ) (text : List ℕ) (n : ℕ) : Type 0 where

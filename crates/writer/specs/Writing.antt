@@ -5,7 +5,7 @@ use mathlib.Core.List.{List, [], _∷_, _++_, map}
 use lib.Dec.{leb, eqb}
 use lib.ListN.{length}
 use lib.Seq.{paste}
-use Rattle.errors.specs.Refusals.{Reply, accepted, refused}
+use Rattle.errors.specs.Refusals.{Reply, accepted, refused, told}
 use Rattle.party.specs.declared.PartyOption.{PartyOption}
 use Rattle.party.specs.declared.PartyOption.the-variants.{Field50NoOption, Field50A, Field50F, Field50K, Field50C, Field50L, Field50G, Field50H, Field59NoOption, Field59A, Field59F}
 use Rattle.party.specs.Text.{Used}
@@ -15,6 +15,7 @@ use Rattle.field_utils.specs.declared.Numbering.{Numbering}
 use Rattle.field_utils.specs.declared.Numbering.the-variants.{Unnumbered, Numbered, InTurn}
 use Rattle.field_utils.specs.Lines.{onto}
 use Rattle.field_utils.specs.Names.{numberingOf}
+use Rattle.writer.specs.declared.Written.{Written}
 
 -- an option's tag ('Its tag is `:50` or `:59`, an optional capital, `:`')
 abbrev pub tagOf : PartyOption → List ℕ
@@ -87,10 +88,11 @@ joined [] = []
 joined (l ∷ []) = l
 joined (l ∷ m ∷ ls) = l ++ 10 ∷ joined (m ∷ ls)
 
--- the written body, and the written field: tag and body
+-- the written body: its lines with an LF between them
 unfoldable pub writtenBody : Said → List ℕ
 writtenBody s = joined (writtenLines s)
 
+-- tag and body
 unfoldable pub writtenField : Said → List ℕ
 writtenField s = tagOf (s .option) ++ writtenBody s
 
@@ -103,7 +105,7 @@ pieces (b ∷ l) = elim (eqb b 10) [ true ↦ [] ∷ pieces l | false ↦ onto b
 abbrev pub put : List ℕ → ℕ → List ℕ → List ℕ
 put buffer at text = paste buffer at text (length text)
 
--- 24: the text from a place on passes the buffer
+-- a text fits from a place on, else 24: it does not pass the buffer
 abbrev pub fits : List ℕ → ℕ → List ℕ → Bool
 fits buffer at text = leb (at + length text) (length buffer)
 
@@ -121,3 +123,7 @@ pub record Writing : Type 0 where
 abbrev pub writing : Reply → List ℕ → List ℕ → Writing
 writing accepted text buffer = record { reply = accepted; len = length text; buffer = put buffer 0 text }
 writing (refused k n) text buffer = record { reply = refused k n; len = 0; buffer = buffer }
+
+-- what the code's answer says, with the buffer that it left
+abbrev pub toldWritten : Written → List ℕ → Writing
+toldWritten r buffer = record { reply = told (r .outcome); len = r .len; buffer = buffer }

@@ -35,9 +35,9 @@ ghost use Rattle.swift_utils.specs.Classes.{classTable};
 ghost use Rattle.field_utils.specs.Names.{numberingOf, parseNumber};
 ghost use Rattle.reader.specs.Options.{firstOf, accountReply};
 ghost use Rattle.reader.specs.declared.First.the-variants.{Identified, AnyAccount};
-ghost use Rattle.writer.specs.Writing.{tagOf, slashOf, numberOf, writtenField, fits, placed};
+ghost use Rattle.writer.specs.Writing.{tagOf, slashOf, numberOf, writtenField, fits, placed, toldWritten};
 ghost use Rattle.writer.specs.Given.{passes, every, textReply, isAccount, isPresence, isBic, areNames, isTaken, isGiven, written};
-ghost use Rattle.writer.specs.Code.{toldWritten, Counted, Puts, lead, hasGap, hasHead, headOf, marks, nameCount, namesOn, restOn, lineReply, numberIn, isName, allNames, slashName};
+ghost use Rattle.writer.specs.Code.{Counted, Puts, lead, hasGap, hasHead, headOf, marks, nameCount, namesOn, restOn, lineReply, numberIn, isName, allNames, slashName};
 
 // What writing gives: accepted with the length written, or refused with 0.
 pub struct Written {
@@ -133,7 +133,7 @@ fn lf_count(later: bool) -> usize
 
 // How many bytes the option's tag has: 4 or 5.
 pub fn tag_length(option: PartyOption) -> usize
-    ensures { λ r. ⌜ Counted 5 (tagOf option) r ⌝ }
+    ensures { λ r. ⌜ r ≡ length (tagOf option) ⌝ }
 {
     let limits = limits_of(option);
     if limits.letter == 0 { 4 } else { 5 }
@@ -191,7 +191,7 @@ pub fn written_length(p: Party) -> usize
     tag_length(option) + head_length(option, later, account) + rest_length(p, later)
 }
 
-// Puts a slice into the buffer at a place, and gives the place after it, as each of the functions below does.
+// Puts a slice into the buffer at a place, and gives the place after it, as each function with `Puts` in its contract does.
 fn put_bytes(buf: &mut [u8], at: usize, s: &[u8]) -> usize
     requires { ⌜ at + length (now s) ≤ length (now buf) ⌝ }
     ensures { λ r. ⌜ Puts (now (buf .entry)) at (now (s .entry)) (now (buf .exit)) r ⌝ }
@@ -589,6 +589,7 @@ pub fn is_given(p: Party) -> bool
     !is_taken(p)
 }
 
+// A refusal, with the length 0.
 fn refuse(e: ParseError) -> Written
     ensures { λ r. ⌜ r ≡ record { outcome = Refused e; len = 0 } ⌝ }
 {

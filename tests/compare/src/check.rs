@@ -221,19 +221,19 @@ impl Checker {
         let body = b"/1\nABCDEFGH";
         for lent in 0..flat::LENGTH {
             for place in [0, 6, 7, 255] {
-                self.edge(24, |room| ours::read(place, body, &mut room[..lent]))?;
-                self.edge(24, |room| ours::parse(place, body, &mut room[..lent]))?;
-                self.edge(24, |room| {
+                self.edge(42, |room| ours::read(place, body, &mut room[..lent]))?;
+                self.edge(42, |room| ours::parse(place, body, &mut room[..lent]))?;
+                self.edge(42, |room| {
                     ours::parse_with_variant(place, body, b'c', &mut room[..lent])
                 })?;
             }
         }
         for place in 7..=255 {
             if place > 10 {
-                self.edge(15, |room| ours::read(place, body, &mut room[..flat::LENGTH]))?;
+                self.edge(41, |room| ours::read(place, body, &mut room[..flat::LENGTH]))?;
             }
-            self.edge(15, |room| ours::parse(place, body, &mut room[..flat::LENGTH]))?;
-            self.edge(15, |room| {
+            self.edge(41, |room| ours::parse(place, body, &mut room[..flat::LENGTH]))?;
+            self.edge(41, |room| {
                 ours::parse_with_variant(place, body, b'c', &mut room[..flat::LENGTH])
             })?;
         }

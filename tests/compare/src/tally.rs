@@ -81,7 +81,7 @@ impl Tally {
         line(&mut text, "damaged records, still records", &self.damaged.to_string());
         line(&mut text, "damaged records, 22 by the rule", &self.no_such.to_string());
         line(&mut text, "buffers", &self.buffers.to_string());
-        line(&mut text, "calls outside the tables (14, 15, 22, 24)", &self.edges.to_string());
+        line(&mut text, "calls outside the tables (14, 22, 41, 42)", &self.edges.to_string());
         text.push_str("answers by a rule, where the Rust's is not ours or was not asked\n");
         for class in Class::ALL {
             line(&mut text, class.name(), &self.rules[class as usize].to_string());

@@ -9,35 +9,28 @@ use Rattle.exports.proofs.Answers.{no-space, unknown, refuses, accepts}
 use Rattle.exports.proofs.give.Statement.{statement}
 use Rattle.exports.proofs.give.Tie as tie
 
-code-requires : tie.Need-code-requires
-code-requires c κs = search needs
-
 returns : tie.Need-returns
 returns c =
-    let a = c .before .before .before .args in
-    rw (c .code .ensures) (no-space (a .known) (toldAnswer (a .answer)) (a .out .now) (c .before .if1 .taken))
-
-code-requires-2 : tie.Need-code-requires-2
-code-requires-2 c κs = search needs
+    let a = c .before .before .args in
+    no-space (a .known) (toldAnswer (a .answer)) (a .out .now) (c .if1 .taken)
 
 returns-2 : tie.Need-returns-2
 returns-2 c =
-    let a = c .before .before .before .before .args in
-    rw (c .code2 .ensures)
-    (unknown (a .known) (toldAnswer (a .answer)) (a .out .now) (c .before .before .if1 .left) (not-true _ (c .before .if2 .taken)))
+    let a = c .before .before .before .args in
+    unknown (a .known) (toldAnswer (a .answer)) (a .out .now) (c .before .if1 .left) (not-true _ (c .if2 .taken))
 
 enum-known-outcome : tie.Need-enum-known-outcome
 enum-known-outcome c = search needs
 
-code-requires-3 : tie.Need-code-requires-3
-code-requires-3 c κs = rw (c .before .outcome .given .1) at (c .before .before .before .before .before .before .pre)
+code-requires : tie.Need-code-requires
+code-requires c κs = rw (c .before .outcome .given .1) at (c .before .before .before .before .before .before .pre)
 
 returns-3 : tie.Need-returns-3
 returns-3 c =
     let told-it = c .before .before in
     let tested = told-it .before .before in
     let a = tested .before .before .before .args in
-    rw (c .code3 .ensures)
+    rw (c .code .ensures)
     (refuses (a .known) (toldAnswer (a .answer)) (a .out .now) (tested .before .if1 .left) _ _ (not-false _ (tested .if2 .left))
     (ap told (told-it .outcome .given .1)))
 
@@ -64,12 +57,10 @@ pub give-spec : {M : Type 1} → statement M
 give-spec =
     tie.close
     (tie.spec
-    code-requires
     returns
-    code-requires-2
     returns-2
     enum-known-outcome
-    code-requires-3
+    code-requires
     returns-3
     enum-told
     store-requires

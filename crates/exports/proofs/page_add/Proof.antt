@@ -5,8 +5,7 @@ use borrow.Author.Needs.{needs}
 use Rattle.party.specs.Party.{said}
 use Rattle.flat.specs.declared.Loaded.{Loaded}
 use Rattle.flat.specs.Flat.{unflatten}
-use Rattle.pages.specs.Filing.{add}
-use Rattle.pages.specs.Code.{toldFiled}
+use Rattle.pages.specs.Filing.{add, toldFiled}
 use Rattle.exports.proofs.Pages.{add-numbered, filed-asked, filed-told}
 use Rattle.exports.proofs.page_add.Statement.{statement}
 use Rattle.exports.proofs.page_add.Tie as tie

@@ -6,9 +6,6 @@ use Rattle.exports.proofs.Pages.{short, answer-line, answer-next, read-
 use Rattle.exports.proofs.page_read.Statement.{statement}
 use Rattle.exports.proofs.page_read.Tie as tie
 
-code-requires : tie.Need-code-requires
-code-requires c κs = search needs
-
 cast-result : tie.Need-cast-result
 cast-result c = search needs
 
@@ -17,8 +14,8 @@ mul-result c = search needs
 
 returns : tie.Need-returns
 returns c =
-    let a = c .before .before .before .before .args in
-    rw (c .code .ensures) (short (a .page .now) (a .at) (a .«record» .now) (c .before .if1 .taken))
+    let a = c .before .before .before .args in
+    short (a .page .now) (a .at) (a .«record» .now) (c .if1 .taken)
 
 read-at-requires : tie.Need-read-at-requires
 read-at-requires c κs = search needs
@@ -74,7 +71,6 @@ pub page-read-spec : {M : Type 1} → statement M
 page-read-spec =
     tie.close
     (tie.spec
-    code-requires
     cast-result
     mul-result
     returns

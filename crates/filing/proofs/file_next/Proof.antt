@@ -3,7 +3,7 @@ use mathlib.Core.Path.{refl, sym, _∙_}
 use denote.Ref.{now}
 use borrow.Author.Needs.{needs}
 use Rattle.errors.specs.Refusals.{told}
-use Rattle.pages.specs.Code.{toldFiled}
+use Rattle.pages.specs.Filing.{toldFiled}
 use Rattle.filing.proofs.Steps.{end-gives, passes, files, onward}
 use Rattle.filing.proofs.file_next.Statement.{statement}
 use Rattle.filing.proofs.file_next.Tie as tie

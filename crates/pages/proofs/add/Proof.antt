@@ -14,8 +14,7 @@ use Rattle.writer.specs.Writing.{writtenField, put}
 use Rattle.writer.specs.Given.{isGiven}
 use Rattle.pages.specs.declared.Filed.{Filed as FiledAt}
 use Rattle.pages.specs.Pages.{pageMost}
-use Rattle.pages.specs.Filing.{isCarried, writable, hasSpace, withLf}
-use Rattle.pages.specs.Code.{toldFiled}
+use Rattle.pages.specs.Filing.{isCarried, writable, hasSpace, withLf, toldFiled}
 use Rattle.pages.proofs.Filings.{add-21, add-22, add-23, add-24, add-filed, field-most, room-length, room-field, filed-as}
 use Rattle.pages.proofs.add.Statement.{statement}
 use Rattle.pages.proofs.add.Tie as tie

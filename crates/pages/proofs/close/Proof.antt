@@ -9,8 +9,7 @@ use borrow.Author.Needs.{needs}
 use borrow.Author.Tests.{leb-true, not-true, not-false}
 use Rattle.pages.specs.declared.Filed.{Filed as FiledAt}
 use Rattle.pages.specs.Pages.{pageMost}
-use Rattle.pages.specs.Filing.{writable}
-use Rattle.pages.specs.Code.{toldFiled}
+use Rattle.pages.specs.Filing.{writable, toldFiled}
 use Rattle.pages.proofs.Filings.{close-21, close-24, close-filed, end-bytes, filed-as}
 use Rattle.pages.proofs.close.Statement.{statement}
 use Rattle.pages.proofs.close.Tie as tie

@@ -18,7 +18,7 @@ use Rattle.pages.proofs.is_carried.Tie as tie
 within : (t : tie.After-tag-length) → t .tag-length .result ≤ length (now (t .before .before .before .before .args .field))
 within t =
     let s = t .before .before .before .before in
-    omega (arith, t .tag-length .ensures .is, tag-within (s .args .p), ap length (s .pre))
+    omega (arith, t .tag-length .ensures, tag-within (s .args .p), ap length (s .pre))
 
 is-identified-59f-requires : tie.Need-is-identified-59f-requires
 is-identified-59f-requires c κs = search needs
@@ -48,7 +48,7 @@ returns-2 c =
     let s = e .before .before .before in
     let p = s .args .p in
     c .are-carried .ensures
-    ∙ ap (λ (b : List ℕ). areCarried (pieces b)) (part-end (now (s .args .field)) (t .tag-length .result) ∙ ap (λ (k : ℕ). drop k (now (s .args .field))) (t .tag-length .ensures .is) ∙ field-body p (s .pre))
+    ∙ ap (λ (b : List ℕ). areCarried (pieces b)) (part-end (now (s .args .field)) (t .tag-length .result) ∙ ap (λ (k : ℕ). drop k (now (s .args .field))) (t .tag-length .ensures) ∙ field-body p (s .pre))
     ∙ sym (carried-pieces (said p) (sym (e .before .is-identified-59f .ensures) ∙ e .if1 .left))
 
 pub is-carried-spec : {M : Type 1} → statement M

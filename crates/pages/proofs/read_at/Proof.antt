@@ -8,8 +8,8 @@ use denote.Ref.{now}
 use borrow.Author.Needs.{needs}
 use Rattle.pages.specs.declared.PageRead.{PageRead as Read}
 use Rattle.pages.specs.declared.Place.the-variants.{Opening, End, Stray}
-use Rattle.pages.specs.Pages.{refusing, ending, runs, readField}
-use Rattle.pages.specs.Code.{toldRead, placeAt}
+use Rattle.pages.specs.Pages.{refusing, ending, runs, readField, toldRead}
+use Rattle.pages.specs.Code.{placeAt}
 use Rattle.pages.proofs.Places.{place-in, text-within, told-by, text-part, onward-at, past-at}
 use Rattle.pages.proofs.read_at.Statement.{statement}
 use Rattle.pages.proofs.read_at.Tie as tie

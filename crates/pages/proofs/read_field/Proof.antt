@@ -8,8 +8,8 @@ use borrow.Author.Needs.{needs}
 use Rattle.reader.specs.Reading.{Reading}
 use Rattle.reader.specs.Options.{read}
 use Rattle.pages.specs.declared.PageRead.{PageRead as Read}
-use Rattle.pages.specs.Pages.{PageRead}
-use Rattle.pages.specs.Code.{toldRead, toldTag}
+use Rattle.pages.specs.Pages.{PageRead, toldRead}
+use Rattle.pages.specs.Code.{toldTag}
 use Rattle.pages.proofs.Places.{tagged-told}
 use Rattle.pages.proofs.read_field.Statement.{statement}
 use Rattle.pages.proofs.read_field.Tie as tie

@@ -1,6 +1,5 @@
 -- `writer::tag_length` meets its contract. Assumes nothing.
 use mathlib.Core.Path.{_≡_}
-use native.Mathlib.Omega.{arith}
 use borrow.Author.Tests.{ne-eqb}
 use Rattle.party.specs.Limits.{limitsOf}
 use Rattle.writer.proofs.Fields.{tag-by}
@@ -15,13 +14,13 @@ returns : tie.Need-returns
 returns c =
     let o = c .before .before .before .args .option in
     let e : limitsOf o .letter ≡ 0 = rw (c .before .before .limits-of .ensures) at (c .if1 .taken) in
-    record { is = rw (tag-by o, e); most = omega arith }
+    rw (tag-by o, e)
 
 returns-2 : tie.Need-returns-2
 returns-2 c =
     let o = c .before .before .before .args .option in
     let e = rw (c .before .before .limits-of .ensures) at (c .if1 .left) in
-    record { is = rw (tag-by o, ne-eqb (limitsOf o .letter) 0 e); most = omega arith }
+    rw (tag-by o, ne-eqb (limitsOf o .letter) 0 e)
 
 pub tag-length-spec : {M : Type 1} → statement M
 tag-length-spec = tie.close (tie.spec limits-of-requires returns returns-2)

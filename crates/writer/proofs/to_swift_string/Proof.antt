@@ -6,7 +6,7 @@ use borrow.Author.Tests.{not-true, not-false}
 use Rattle.party.specs.Party.{said}
 use Rattle.writer.specs.declared.Written.{Written}
 use Rattle.writer.specs.Given.{isGiven}
-use Rattle.writer.specs.Code.{toldWritten}
+use Rattle.writer.specs.Writing.{toldWritten}
 use Rattle.writer.proofs.Records.{written-22, written-24, written-all}
 use borrow.Author.Needs.{needs}
 use Rattle.writer.proofs.to_swift_string.Statement.{statement}

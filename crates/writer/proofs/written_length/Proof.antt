@@ -1,7 +1,7 @@
 -- `writer::written_length` meets its contract. Assumes nothing.
 use native.Mathlib.Omega.{arith}
 use lib.ListN.{length-append}
-use Rattle.writer.proofs.Fields.{field-parts}
+use Rattle.writer.proofs.Fields.{field-parts, tag-most}
 use borrow.Author.Needs.{needs}
 use Rattle.writer.proofs.written_length.Statement.{statement}
 use Rattle.writer.proofs.written_length.Tie as tie
@@ -16,20 +16,24 @@ head-length-requires : tie.Need-head-length-requires
 head-length-requires c κs = search needs
 
 add-result : tie.Need-add-result
-add-result c = search needs
+add-result c =
+    let t = c .before in
+    omega (arith, t .tag-length .ensures, tag-most (t .before .before .before .args .p .option), c .head-length .ensures .most)
 
 rest-length-requires : tie.Need-rest-length-requires
 rest-length-requires c κs = search needs
 
 add-result-2 : tie.Need-add-result-2
-add-result-2 c = search needs
+add-result-2 c =
+    let t = c .before .before in
+    omega (arith, t .tag-length .ensures, tag-most (t .before .before .before .args .p .option), c .before .head-length .ensures .most, c .rest-length .ensures .most)
 
 returns : tie.Need-returns
 returns c =
     let t = c .before .before in
     let h = t .before in
     let a = h .before .before .args in
-    rw (field-parts (a .p), ← h .has-head .ensures) (simp length-append (omega (arith, t .tag-length .ensures .is, c .before .head-length .ensures .is, c .rest-length .ensures .is)))
+    rw (field-parts (a .p), ← h .has-head .ensures) (simp length-append (omega (arith, t .tag-length .ensures, c .before .head-length .ensures .is, c .rest-length .ensures .is)))
 
 pub written-length-spec : {M : Type 1} → statement M
 written-length-spec =
