@@ -23,6 +23,11 @@ pub then-second : (r s : Reply) → (r then s) ≡ accepted → s ≡ accepted
 then-second accepted s e = e
 then-second (refused k n) s e = absurd (refused≢accepted e)
 
+-- checks in order, grouped either way
+pub then-assoc : (r s t : Reply) → ((r then s) then t) ≡ (r then (s then t))
+then-assoc accepted s t = refl
+then-assoc (refused k n) s t = refl
+
 -- what holds passes; checks that pass pass together
 pub must-passes : (b : Bool) (k n : ℕ) → b ≡ true → must b k n ≡ accepted
 must-passes b k n e = rw e

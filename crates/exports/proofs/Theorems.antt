@@ -15,13 +15,13 @@ use Rattle.party.specs.declared.PartyOption.{PartyOption}
 use Rattle.party.specs.declared.Text.{Text}
 use Rattle.party.specs.declared.Party.{Party}
 use Rattle.party.specs.Limits.{limitsOf}
-use Rattle.party.specs.Text.{padded, textOf, Used}
+use Rattle.party.specs.Text.{padded, textOf, fourTexts, Used}
 use Rattle.party.specs.Party.{blank, where-limit, namesOf, said}
 use Rattle.flat.specs.declared.Loaded.{Loaded}
 use Rattle.flat.specs.Flat.{textsOf, flatten, stored, optionAt, isFlat, unflatten}
 use Rattle.flat.proofs.Laws.{none, Sizes, flat-size, loaded-not, stored-whole}
 use Rattle.flat.proofs.Theorems.{loads-back}
-use Rattle.reader.specs.Reading.{Reading, giving, fourTexts, partyOf, Found}
+use Rattle.reader.specs.Reading.{Reading, giving, partyOf, Found}
 use Rattle.reader.specs.Options.{layoutOf, foundBy, bodyReply, read}
 use Rattle.field_utils.specs.Names.{parseLines, parseNameAndAddress}
 use Rattle.writer.specs.Writing.{Writing, writing, writtenField, nameLines, fits}

@@ -2,3 +2,5 @@ pub mod Places
 pub mod Trims
 pub mod Identifiers
 pub mod NameLines
+pub mod NameTexts
+pub mod NameBytes

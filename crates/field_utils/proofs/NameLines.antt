@@ -1,23 +1,28 @@
 -- The cases of a line of names, of the lines of names, and of their count. Assumes nothing.
-use mathlib.Core.Path.{_≡_, refl}
-use mathlib.Core.Bool.{Bool, true, false≢true}
-use mathlib.Core.List.{List, [], _∷_}
-use Prim.Native.Nat.{ℕ, suc, _+_, _≤_, _<_}
+use mathlib.Core.Path.{_≡_, refl, sym, _∙_, ap}
+use mathlib.Core.Bool.{Bool, true, false, _&&_, or-true, false≢true}
+use mathlib.Core.List.{List, [], _∷_, map}
+use Prim.Native.Nat.{ℕ, suc, _+_, _≤_}
 use native.Mathlib.Numerals.{add-one}
 use native.Mathlib.Omega.{arith}
-use lib.ListN.{length, drop}
-use borrow.Author.Tests.{le-leb, lt-leb}
-use Rattle.errors.specs.Refusals.{accepted, refused, must}
-use Rattle.errors.proofs.Replies.{must-held, then-first}
+use lib.Dec.{leb, eqb}
+use lib.ListN.{length, drop, length-map}
+use borrow.Author.Tests.{eqb-true, eq-eqb, ne-eqb}
+use Rattle.errors.specs.Refusals.{Reply, accepted, refused, must, _then_}
+use Rattle.errors.proofs.Replies.{must-held, then-first, then-assoc}
 use Rattle.party.specs.declared.PartyOption.{PartyOption}
 use Rattle.party.specs.declared.Limits.{Limits}
+use Rattle.party.specs.declared.Text.{Text}
 use Rattle.party.specs.Limits.{limitsOf}
-use Rattle.swift_utils.specs.Bytes.{all, legal}
+use Rattle.party.specs.Text.{fourTexts}
+use Rattle.swift_utils.specs.Bytes.{all, letter, digit, alphanumeric, signs, legal}
+use Rattle.swift_utils.specs.Checks.{parseSwiftChars}
 use Rattle.swift_utils.proofs.Checks.{chars}
 use Rattle.field_utils.specs.declared.Numbering.{Numbering}
 use Rattle.field_utils.specs.declared.Numbering.the-variants.{Unnumbered, Numbered, InTurn}
 use Rattle.field_utils.specs.Identifier.{isNumbered}
-use Rattle.field_utils.specs.Names.{skipOf, numberingOf, parseNumber, parseLine, parseLines, parseCount, parseNameAndAddress}
+use Rattle.field_utils.specs.Names.{skipOf, numberingOf, parseNumber, parseLine, parseLines, parseCount, parseNameAndAddress, kept, namesOr, readNames}
+use Rattle.field_utils.specs.Code.{keptFrom, parseShape, parseRest, givenNames}
 
 -- a numbered line has room for its digit and slash
 room : (l : List ℕ) → isNumbered l ≡ true → 2 ≤ length l
@@ -31,20 +36,66 @@ number-room Unnumbered n k l e = omega arith
 number-room Numbered n k l e = room l (must-held (isNumbered l) 5 n e)
 number-room InTurn n k l e = room l (must-held (isNumbered l) 5 n (then-first _ _ e))
 
--- a line of names
+-- both of two tests that pass together
+pub and-first : (p q : Bool) → (p && q) ≡ true → p ≡ true
+and-first true q e = refl
+and-first false q e = e
+
+and-second : (p q : Bool) → (p && q) ≡ true → q ≡ true
+and-second true q e = e
+and-second false q e = absurd (false≢true e)
+
+digit-legal : (d : ℕ) → digit d ≡ true → legal d ≡ true
+unfolding alphanumeric legal
+digit-legal d e = rw (e, or-true (letter d))
+
+slash-legal : legal 47 ≡ true
+unfolding letter digit alphanumeric signs legal
+slash-legal = refl
+
+-- a number is legal
+pub number-legal : (x : List ℕ) → isNumbered x ≡ true → all legal (drop 2 x) ≡ all legal x
+unfolding isNumbered
+number-legal [] e = refl
+number-legal (d ∷ []) e = absurd (false≢true e)
+number-legal (d ∷ s ∷ l) e =
+    let slash = eqb-true s 47 (and-second (digit d) (eqb s 47) e) in
+    rw (digit-legal d (and-first (digit d) (eqb s 47) e), slash, slash-legal)
+
+-- where its number passed, a line's text is legal where the line is
+text-legal : (f : Numbering) (n k : ℕ) (l : List ℕ) → parseNumber f n k l ≡ accepted → all legal (drop (skipOf f) l) ≡ all legal l
+text-legal Unnumbered n k l e = refl
+text-legal Numbered n k l e = number-legal l (must-held (isNumbered l) 5 n e)
+text-legal InTurn n k l e = number-legal l (must-held (isNumbered l) 5 n (then-first _ _ e))
+
+-- what is not kept of a line stands before its text
+kept-least : (f : Numbering) → keptFrom f ≤ skipOf f
+kept-least Unnumbered = omega arith
+kept-least Numbered = omega arith
+kept-least InTurn = omega arith
+
+-- a line of names: before its bytes, and whole
 module _ (f : Numbering) (longest n k : ℕ) (l : List ℕ) where
-  pub line-number : {r m : ℕ} → parseNumber f n k l ≡ refused r m → parseLine f longest n k l ≡ refused r m
-  unfolding parseLine
-  line-number e = rw e
+  pub shape-number : {r m : ℕ} → parseNumber f n k l ≡ refused r m → parseShape f longest n k l ≡ refused r m
+  shape-number e = rw e
 
-  pub line-long : parseNumber f n k l ≡ accepted → longest < length (drop (skipOf f) l) → parseLine f longest n k l ≡ refused 4 n
-  unfolding parseLine
-  line-long e h = rw (e, lt-leb _ _ h)
+  pub shape-length : {t : Bool} → parseNumber f n k l ≡ accepted → leb (length (drop (skipOf f) l)) longest ≡ t → parseShape f longest n k l ≡ must t 4 n
+  shape-length e g = rw (e, g)
 
-  pub line-bytes : {t : Bool} → parseNumber f n k l ≡ accepted → length (drop (skipOf f) l) ≤ longest → all legal (drop (skipOf f) l) ≡ t
-      → parseLine f longest n k l ≡ must t 3 n
+  pub kept-room : parseShape f longest n k l ≡ accepted → keptFrom f ≤ length l
+  kept-room e = omega (arith, number-room f n k l (then-first _ _ e), kept-least f)
+
+  by-shape : {r : Reply} → parseShape f longest n k l ≡ r → parseLine f longest n k l ≡ (r then parseSwiftChars n (drop (skipOf f) l))
   unfolding parseLine
-  line-bytes e h t = rw (e, le-leb _ _ h) (chars n _ t)
+  by-shape e =
+      sym (then-assoc (parseNumber f n k l) (must (leb (length (drop (skipOf f) l)) longest) 4 n) (parseSwiftChars n (drop (skipOf f) l)))
+      ∙ ap (λ (r : Reply). r then parseSwiftChars n (drop (skipOf f) l)) e
+
+  pub line-refused : {r m : ℕ} → parseShape f longest n k l ≡ refused r m → parseLine f longest n k l ≡ refused r m
+  line-refused e = by-shape e
+
+  pub line-bytes : {t : Bool} → parseShape f longest n k l ≡ accepted → all legal l ≡ t → parseLine f longest n k l ≡ must t 3 n
+  line-bytes e g = by-shape e ∙ chars n _ (text-legal f n k l (then-first _ _ e) ∙ g)
 
 -- the lines of names, where the next is the one after count others, as the code counts
 module _ (f : Numbering) (longest start count : ℕ) (l : List ℕ) (ls : List (List ℕ)) where
@@ -65,12 +116,38 @@ pub lines-none : (f : Numbering) (longest n k : ℕ) → parseLines f longest n 
 unfolding parseLines
 lines-none f longest n k = refl
 
+-- after the lines: one had an illegal byte, or none
+module _ (illegal most count : ℕ) where
+  pub rest-illegal : (illegal ≡ 0 → ⊥) → parseRest illegal most count ≡ refused 3 illegal
+  rest-illegal h = rw (ne-eqb illegal 0 h)
+
+  pub rest-counted : illegal ≡ 0 → parseRest illegal most count ≡ parseCount most count
+  rest-counted e = rw (eq-eqb illegal 0 e)
+
+-- what names give, by their count and their texts
+given : (r : Reply) (ns : List (List ℕ)) → namesOr r ns ≡ givenNames r (length ns) (fourTexts ns)
+given accepted ns = refl
+given (refused k n) ns = refl
+
 -- names, by what their lines say; f and m are what the code holds of the option
 module _ (o : PartyOption) {f : Numbering} {m : Limits} (e : f ≡ numberingOf o) (g : m ≡ limitsOf o) (n : ℕ) (ls : List (List ℕ)) where
-  pub names-refused : {r j : ℕ} → parseLines f (m .name) n 1 ls ≡ refused r j → parseNameAndAddress o n ls ≡ refused r j
+  names-refused : {r j : ℕ} → parseLines f (m .name) n 1 ls ≡ refused r j → parseNameAndAddress o n ls ≡ refused r j
   unfolding parseNameAndAddress
   names-refused h = rw (← e, ← g, h)
 
-  pub names-counted : parseLines f (m .name) n 1 ls ≡ accepted → parseNameAndAddress o n ls ≡ parseCount (m .names) (length ls)
+  names-counted : parseLines f (m .name) n 1 ls ≡ accepted → parseNameAndAddress o n ls ≡ parseCount (m .names) (length ls)
   unfolding parseNameAndAddress
   names-counted h = rw (← e, ← g, h)
+
+  -- what they give: none where a line is refused, else what their count says
+  pub read-refused : {r j : ℕ} → parseLines f (m .name) n 1 ls ≡ refused r j → readNames o n ls ≡ (record { reply = refused r j; count = 0; texts = fourTexts [] })
+  unfolding readNames
+  read-refused h = ap (λ (r : Reply). namesOr r (map (kept (numberingOf o)) ls)) (names-refused h)
+
+  pub read-counted : {count : ℕ} {texts : List Text} → parseLines f (m .name) n 1 ls ≡ accepted → count ≡ length ls → texts ≡ fourTexts (map (kept f) ls)
+      → readNames o n ls ≡ givenNames (parseCount (m .names) count) count texts
+  unfolding readNames
+  read-counted h c t =
+      ap (λ (r : Reply). namesOr r (map (kept (numberingOf o)) ls)) (names-counted h)
+      ∙ given (parseCount (m .names) (length ls)) (map (kept (numberingOf o)) ls)
+      ∙ rw (length-map ls (kept (numberingOf o)), ← e, ← t, ← c)

@@ -3,7 +3,7 @@ use mathlib.Core.Path.{_≡_, refl, sym, _∙_, ap, subst}
 use mathlib.Core.Bool.{Bool, true, false, _&&_, and-false, false≢true}
 use mathlib.Core.List.{List, [], _∷_}
 use Prim.Native.Nat.{ℕ, zero, suc, _+_, _-_, _≤_, _<_}
-use native.Mathlib.Nat.{add-sub-cancel-left}
+use native.Mathlib.Nat.{zero-add, add-sub-cancel-left}
 use native.Mathlib.Numerals.{add-one}
 use native.Mathlib.Omega.{arith}
 use lib.Dec.{ltb, eqb}
@@ -44,6 +44,27 @@ upto-length b (a ∷ l) = go (eqb a b) refl (upto-length b l)
     go : (t : Bool) → eqb a b ≡ t → upto b l ≤ length l → upto b (a ∷ l) ≤ suc (length l)
     go true e h = rw (e, upto) (omega arith)
     go false e h = rw (e, upto) (omega arith)
+
+-- `upto` from a place on that is not past the first b
+upto-from : (b k : ℕ) (l : List ℕ) → k ≤ upto b l → upto b l ≡ k + upto b (drop k l)
+unfolding upto
+upto-from b zero l h = sym (zero-add (upto b l))
+upto-from b (suc k) [] h = absurd (omega arith)
+upto-from b (suc k) (a ∷ l) h = go (eqb a b) refl (upto-from b k l)
+  where
+    go : (t : Bool) → eqb a b ≡ t → (k ≤ upto b l → upto b l ≡ k + upto b (drop k l)) → upto b (a ∷ l) ≡ suc k + upto b (drop k l)
+    go true e ih = absurd (omega (arith, h, upto-at b l a (eqb-true a b e)))
+    go false e ih =
+        let past = upto-past b l a (eqb-false a b e) in
+        let few : k ≤ upto b l = omega (arith, h, past) in
+        omega (arith, past, ih few)
+
+-- the same between two places of a list
+pub upto-between : (b : ℕ) (s : List ℕ) (at i : ℕ) → at ≤ i → i - at ≤ upto b (drop at s) → at + upto b (drop at s) ≡ i + upto b (drop i s)
+upto-between b s at i h k =
+    let e : at + (i - at) ≡ i = omega arith in
+    let whole : upto b (drop at s) ≡ (i - at) + upto b (drop (at + (i - at)) s) = upto-from b (i - at) (drop at s) k ∙ rw drop-drop in
+    omega (arith, rw e at whole)
 
 -- `lines` by the first byte: an LF, a CR that closes a line with the LF after it, any other
 lines-at : (b : ℕ) (l : List ℕ) → eqb b 10 ≡ true → lines (b ∷ l) ≡ [] ∷ lines l
@@ -175,11 +196,12 @@ module _ (s : List ℕ) (at : ℕ) where
     unfolding nextLine lineOf
     next-lf k = rw (lt-ltb _ _ h, nextLine) (rw (lt-ltb _ _ k, lineOf))
 
--- what a found line says: the line is the part from start to end, and the lines from the place on are it and those from rest on
+-- what a found line says: the line is the part from start to end, without LF, and the lines from the place on are it and those from rest on
 pub record Found (s : List ℕ) (at start end rest : ℕ) : Type 0 where
   pub from : start ≡ at
   pub line : lines (drop at s) ≡ part start end s ∷ lines (drop rest s)
   pub forward : start ≤ end
+  pub unbroken : end ≤ start + upto 10 (drop start s)
   pub before : end ≤ rest
   pub moved : at < rest
   pub within : rest ≤ length s
@@ -202,6 +224,7 @@ fits-last s at n h u k =
       from = refl;
       line = rw k (lines-end (drop at s) (omega (arith, length-drop at s)) (omega (arith, length-drop at s)) ∙ rw (part-end s at, drop-length));
       forward = omega arith;
+      unbroken = omega arith;
       before = omega arith;
       moved = omega arith;
       within = omega arith;
@@ -216,6 +239,7 @@ fits-lf s at n h u k =
       from = refl;
       line = rw (add-sub-cancel-left, onwards, first) (ap (λ (l : List ℕ). l ∷ lines (drop (at + suc n) s)) whole);
       forward = omega arith;
+      unbroken = omega (arith, short);
       before = omega (arith, short);
       moved = omega arith;
       within = omega arith;

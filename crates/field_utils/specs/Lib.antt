@@ -2,4 +2,5 @@ pub mod Lines
 pub mod Trim
 pub mod Identifier
 pub mod Names
+pub mod Code
 pub mod Examples

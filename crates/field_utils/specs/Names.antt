@@ -1,16 +1,19 @@
 -- Names (document 01, field_utils.rs and 'Checks in this order' of field50.rs). n is a body line, k its place among the names from 1.
 use Prim.Native.Nat.{ℕ, suc, _+_}
-use mathlib.Core.List.{List, [], _∷_}
+use mathlib.Core.List.{List, [], _∷_, map}
 use lib.Dec.{leb, eqb}
 use lib.ListN.{length, drop, getD}
-use Rattle.errors.specs.Refusals.{Reply, accepted, must, _then_}
+use Rattle.errors.specs.Refusals.{Reply, accepted, refused, told, must, _then_}
 use Rattle.party.specs.declared.PartyOption.{PartyOption}
 use Rattle.party.specs.declared.PartyOption.the-variants.{Field50NoOption, Field50A, Field50F, Field50K, Field50C, Field50L, Field50G, Field50H, Field59NoOption, Field59A, Field59F}
+use Rattle.party.specs.declared.Text.{Text}
 use Rattle.party.specs.Limits.{limitsOf}
+use Rattle.party.specs.Text.{fourTexts}
 use Rattle.swift_utils.specs.Bytes.{between}
 use Rattle.swift_utils.specs.Checks.{parseSwiftChars}
 use Rattle.field_utils.specs.declared.Numbering.{Numbering}
 use Rattle.field_utils.specs.declared.Numbering.the-variants.{Unnumbered, Numbered, InTurn}
+use Rattle.field_utils.specs.declared.Names.{Names}
 use Rattle.field_utils.specs.Identifier.{isNumbered}
 
 -- 50F: each line is numbered; 59F: lines are numbered 1, 2, 3 .. in order
@@ -58,3 +61,27 @@ parseCount most count = must (between 1 most count) 7 0
 -- names: the lines from body line n on, tested in order and counted last
 unfoldable pub parseNameAndAddress : PartyOption → ℕ → List (List ℕ) → Reply
 parseNameAndAddress o n ls = parseLines (numberingOf o) (limitsOf o .name) n 1 ls then parseCount (limitsOf o .names) (length ls)
+
+-- what is kept of a line of names: 50F's digits are not, 59F's are
+abbrev pub kept : Numbering → List ℕ → List ℕ
+kept Unnumbered l = l
+kept Numbered l = drop 2 l
+kept InTurn l = l
+
+-- what the names give: the reply, how many there are, and the first four by value; none where they are refused
+pub record NamesRead : Type 0 where
+  pub reply : Reply
+  pub count : ℕ
+  pub texts : List Text
+
+abbrev pub namesOr : Reply → List (List ℕ) → NamesRead
+namesOr accepted ns = record { reply = accepted; count = length ns; texts = fourTexts ns }
+namesOr (refused k n) ns = record { reply = refused k n; count = 0; texts = fourTexts [] }
+
+-- names from body line n on, as they are kept
+unfoldable pub readNames : PartyOption → ℕ → List (List ℕ) → NamesRead
+readNames o n ls = namesOr (parseNameAndAddress o n ls) (map (kept (numberingOf o)) ls)
+
+-- the names that the code gives, in document 01's terms
+abbrev pub toldNames : Names → NamesRead
+toldNames w = record { reply = told (w .outcome); count = w .count; texts = w .texts }

@@ -4,8 +4,11 @@ use errors::ParseError;
 use lines::Line;
 use lines::Lines;
 use lines::find;
+use party::NOTHING;
 use party::PartyOption;
+use party::Text;
 use party::limits_of;
+use party::text_of;
 use swift_utils::all_alphanumeric;
 use swift_utils::class_table;
 use swift_utils::is_digit;
@@ -14,13 +17,17 @@ use swift_utils::parse_account;
 pub mod lines;
 
 ghost use mathlib.Core.Path.{_≡_};
+ghost use mathlib.Core.List.{[]};
 ghost use Prim.Native.Nat.{suc, _+_, _<_, _^_};
 ghost use lib.Dec.{eqb};
 ghost use lib.ListN.{length, drop, getD};
+ghost use Rattle.errors.specs.declared.Outcome.the-variants.{Refused};
 ghost use Rattle.errors.specs.Refusals.{told, must};
+ghost use Rattle.party.specs.Text.{fourTexts};
 ghost use Rattle.field_utils.specs.Lines.{starts, lines as linesOf};
 ghost use Rattle.field_utils.specs.Identifier.{isNumbered, toldIdentifier, parsePartyIdentifier, identifierReply};
-ghost use Rattle.field_utils.specs.Names.{numberingOf, skipOf, parseNumber, parseCount, parseNameAndAddress};
+ghost use Rattle.field_utils.specs.Names.{numberingOf, skipOf, parseNumber, parseCount, readNames, toldNames};
+ghost use Rattle.field_utils.specs.Code.{keptFrom, parseShape, parseRest, givenNames};
 
 // Whether a line starts with a slash.
 pub fn starts_with_slash(line: &[u8]) -> bool
@@ -179,48 +186,116 @@ pub fn parse_count(count: usize, most: usize) -> Outcome
     Outcome::Accepted
 }
 
+// A line of names before its bytes: its number, then the length of its text (4).
+fn parse_line(
+    input: &[u8],
+    line: usize,
+    turn: usize,
+    numbering: Numbering,
+    longest: usize,
+) -> Outcome
+    requires { ⌜ turn < 2 ^ 63 ⌝ }
+    ensures { λ r. ⌜ told r ≡ parseShape numbering longest line turn (now (input .entry)) ⌝ }
+{
+    let outcome = parse_number(input, line, turn, numbering);
+    if let Outcome::Refused(e) = outcome {
+        return Outcome::Refused(e);
+    }
+    let skip = skip_of(numbering);
+    if longest < input.len() - skip {
+        return Outcome::Refused(ParseError::TooLong(line));
+    }
+    Outcome::Accepted
+}
+
+// How many bytes of a line of names are not kept.
+fn kept_from(numbering: Numbering) -> usize
+    ensures { λ r. ⌜ r ≡ keptFrom numbering ⌝ }
+{
+    match numbering {
+        Numbering::Unnumbered => 0,
+        Numbering::Numbered => 2,
+        Numbering::InTurn => 0,
+    }
+}
+
+// What the names give: accepted with how many there are and their texts, or refused with none.
+pub struct Names {
+    pub outcome: Outcome,
+    pub count: usize,
+    pub texts: [Text; 4],
+}
+
+// A refusal, with no names beside it.
+fn refuse_names(e: ParseError) -> Names
+    ensures { λ r. ⌜ r ≡ record { outcome = Refused e; count = 0; texts = fourTexts [] } ⌝ }
+{
+    Names {
+        outcome: Outcome::Refused(e),
+        count: 0,
+        texts: [NOTHING; 4],
+    }
+}
+
+// The names, after the lines: the one of an illegal byte, or 0 (3), then the count (7).
+fn counted(illegal: usize, count: usize, most: usize, texts: [Text; 4]) -> Names
+    ensures { λ r. ⌜ toldNames r ≡ givenNames (parseRest illegal most count) count texts ⌝ }
+{
+    if illegal != 0 {
+        return refuse_names(ParseError::IllegalByte(illegal));
+    }
+    let outcome = parse_count(count, most);
+    if let Outcome::Refused(e) = outcome {
+        return refuse_names(e);
+    }
+    Names {
+        outcome: Outcome::Accepted,
+        count,
+        texts,
+    }
+}
+
 // The lines of names from a place on, which start_idx lines precede: each tested in order, its number, its length, then its bytes; and
 // counted last. The Rust writes this loop out in 50, 50F, 50K, 50H and 59F.
-pub fn parse_name_and_address(
-    body: &[u8],
-    from: Lines,
-    start_idx: u8,
-    option: PartyOption,
-) -> Outcome
-    ensures { λ r. ⌜ told r ≡ parseNameAndAddress option (suc «start_idx») (linesOf (drop (from .at) (now (body .entry)))) ⌝ }
+pub fn parse_name_and_address(body: &[u8], from: Lines, start_idx: u8, option: PartyOption) -> Names
+    ensures { λ r. ⌜ toldNames r ≡ readNames option (suc «start_idx») (linesOf (drop (from .at) (now (body .entry)))) ⌝ }
 {
     let limits = limits_of(option);
     let numbering = numbering_of(option);
-    let skip = skip_of(numbering);
+    let kept = kept_from(numbering);
     let classes = class_table();
+    let mut texts = [NOTHING; 4];
     let mut cursor = from;
     let mut count = 0;
     let illegal = 'lines: loop {
-        let found = cursor.next(body);
-        let Line::Next { start, end, rest } = found else {
-            break 'lines 0;
-        };
-        count += 1;
-        let line = start_idx as usize + count;
-        let number = parse_number(&body[start..end], line, count, numbering);
-        if let Outcome::Refused(e) = number {
-            return Outcome::Refused(e);
-        }
-        let mut i = start + skip;
-        if limits.name < end - i {
-            return Outcome::Refused(ParseError::TooLong(line));
-        }
-        while i < end {
+        // the bytes up to the first that is illegal or an LF
+        let mut i = cursor.at;
+        while i < body.len() {
             let b = body[i] as usize;
-            if classes[b] < 1 {
-                break 'lines line;
+            if classes[b] < 2 {
+                break;
             }
             i += 1;
         }
+        let found = cursor.next_from(body, i);
+        let Line::Next { start, end, rest } = found else {
+            break 'lines 0;
+        };
+        let turn = count + 1;
+        let line = start_idx as usize + turn;
+        let outcome = parse_line(&body[start..end], line, turn, numbering, limits.name);
+        if let Outcome::Refused(e) = outcome {
+            return refuse_names(e);
+        }
+        if i < end {
+            break 'lines line;
+        }
+        if count < 4 {
+            let first = start + kept;
+            texts[count] = text_of(&body[first..end]);
+        }
+        count = turn;
         cursor = rest;
     };
-    if illegal != 0 {
-        return Outcome::Refused(ParseError::IllegalByte(illegal));
-    }
-    parse_count(count, limits.names)
+    counted(illegal, count, limits.names, texts)
 }

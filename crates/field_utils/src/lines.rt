@@ -47,10 +47,19 @@ impl Lines {
         ensures { λ r. ⌜ r ≡ nextLine (now (s .entry)) (self .at) ⌝ }
     {
         let at = self.at;
+        self.next_from(s, at)
+    }
+
+    // The next line, whose LF is not before a place.
+    pub(crate) fn next_from(self, s: &[u8], from: usize) -> Line
+        requires { ⌜ (self .at ≤ from) × (from - self .at ≤ upto 10 (drop (self .at) (now s))) ⌝ }
+        ensures { λ r. ⌜ r ≡ nextLine (now (s .entry)) (self .at) ⌝ }
+    {
+        let at = self.at;
         if s.len() <= at {
             return Line::Done;
         }
-        let lf = find_lf(s, at);
+        let lf = find_lf(s, from);
         if s.len() <= lf {
             return Line::Next {
                 start: at,

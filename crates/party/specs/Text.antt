@@ -1,7 +1,7 @@
 -- A text by value: an array of 38 bytes and a length (document 01, 'Rust forms and their Rattle stand-ins').
 use Prim.Native.Nat.{ℕ, _-_, _<_, _^_}
 use mathlib.Core.Path.{_≡_}
-use mathlib.Core.List.{List, _++_}
+use mathlib.Core.List.{List, [], _∷_, _++_, map}
 use lib.ListN.{length, getD, take, replicate}
 use Rattle.party.specs.declared.Text.{Text}
 
@@ -12,6 +12,10 @@ padded l = l ++ replicate (38 - length l) 0
 -- the text of a list's first 38 bytes ('each with its length, at most 38 bytes')
 unfoldable pub textOf : List ℕ → Text
 textOf l = record { bytes = padded (take 38 l); len = length (take 38 l) }
+
+-- four texts by value: those of a list, then empty ones
+unfoldable pub fourTexts : List (List ℕ) → List Text
+fourTexts names = take 4 (map textOf names ++ (textOf [] ∷ textOf [] ∷ textOf [] ∷ textOf [] ∷ []))
 
 -- what a text holds: its length, and the bytes that it uses ('used bytes agree')
 pub record Used : Type 0 where

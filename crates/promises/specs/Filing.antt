@@ -7,13 +7,13 @@ use lib.ListN.{replicate}
 use Rattle.errors.specs.Refusals.{accepted, refused}
 use Rattle.party.specs.declared.PartyOption.the-variants.{Field50K}
 use Rattle.party.specs.declared.Party.{Party}
-use Rattle.party.specs.Text.{padded, textOf}
+use Rattle.party.specs.Text.{padded, textOf, fourTexts}
 use Rattle.party.specs.Party.{said}
 use Rattle.swift_utils.specs.Bytes.{bytes, letter, digit, alphanumeric, signs, legal}
 use Rattle.swift_utils.specs.Checks.{parseSwiftChars, parseAccount}
 use Rattle.field_utils.specs.Lines.{upto, onto, starts}
 use Rattle.field_utils.specs.Names.{parseLine, parseLines, parseNameAndAddress}
-use Rattle.reader.specs.Reading.{fourTexts, partyOf}
+use Rattle.reader.specs.Reading.{partyOf}
 use Rattle.writer.specs.Writing.{nameLines, writtenLines, joined, writtenBody, writtenField, pieces}
 use Rattle.writer.specs.Given.{isLine, areNames, isGiven}
 use Rattle.writer.specs.ReadBack.{endsCr, lastEmpty, earlierCr, identified59F}

@@ -8,7 +8,7 @@ use lib.ListN.{length, getD, replicate}
 use Rattle.errors.specs.Refusals.{refused}
 use Rattle.party.specs.declared.PartyOption.the-variants.{Field50NoOption, Field50A, Field50F, Field50C, Field59NoOption, Field59A, Field59F}
 use Rattle.party.specs.Limits.{placeOf}
-use Rattle.party.specs.Text.{padded, textOf}
+use Rattle.party.specs.Text.{padded, textOf, fourTexts}
 use Rattle.party.specs.Party.{blank, said}
 use Rattle.swift_utils.specs.Bytes.{bytes, letter, digit, alphanumeric, signs, legal}
 use Rattle.swift_utils.specs.Checks.{parseSwiftChars, parseAccount, bicLength, parseBic}
@@ -16,7 +16,7 @@ use Rattle.field_utils.specs.Lines.{upto, onto, starts, lines}
 use Rattle.field_utils.specs.Trim.{white, trimmedStart, keep, trimmedEnd, trimmed}
 use Rattle.field_utils.specs.Identifier.{isNumbered, secondSlash, identifierReply, parsePartyIdentifier}
 use Rattle.field_utils.specs.Names.{parseLine, parseLines, parseNameAndAddress}
-use Rattle.reader.specs.Reading.{fourTexts, partyOf}
+use Rattle.reader.specs.Reading.{partyOf}
 use Rattle.reader.specs.Options.{accountHead, shortAccountHead, afterHead, read}
 use Rattle.choices.specs.Detection.{anyNumbered, firstLine, lastLine, bicLike, firstThat, pickOf, variantOf}
 use Rattle.field50.specs.Choices.{orderingCustomerAFK, orderingCustomerAFKBy}

@@ -11,7 +11,7 @@ use Rattle.errors.specs.declared.Outcome.the-variants.{Refused}
 use Rattle.errors.specs.Refusals.{Reply, accepted, refused}
 use Rattle.party.specs.declared.PartyOption.{PartyOption}
 use Rattle.party.specs.declared.PartyOption.the-variants.{Field50NoOption, Field50A, Field50F, Field50K, Field50C, Field50L, Field50G, Field50H, Field59NoOption, Field59A, Field59F}
-use Rattle.party.specs.Text.{padded, textOf}
+use Rattle.party.specs.Text.{padded, textOf, fourTexts}
 use Rattle.party.specs.Party.{blank}
 use Rattle.swift_utils.specs.Bytes.{bytes, all, letter, digit, alphanumeric, signs, legal}
 use Rattle.swift_utils.specs.Checks.{parseSwiftChars, parseAccount, bicLength, parseBic}
@@ -21,7 +21,7 @@ use Rattle.field_utils.specs.Identifier.{isNumbered, secondSlash, identifierRep
 use Rattle.field_utils.specs.Names.{parseLine, parseLines, parseNameAndAddress}
 use Rattle.reader.specs.declared.Answer.{Answer}
 use Rattle.reader.specs.declared.First.the-variants.{ShortAccount, AnyAccount}
-use Rattle.reader.specs.Reading.{fourTexts, partyOf, toldAnswer}
+use Rattle.reader.specs.Reading.{partyOf, toldAnswer}
 use Rattle.reader.specs.Options.{firstOf, lengthReply, accountHead, shortAccountHead, afterHead, ascii, bodyReply, read}
 use Rattle.choices.specs.declared.Pick.the-variants.{NotALetter, Detect}
 use Rattle.choices.specs.Detection.{anyNumbered, firstLine, lastLine, bicLike, lastIsBic, refusing, when, firstThat, detected, pickOf, variantOf}

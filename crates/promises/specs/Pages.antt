@@ -6,12 +6,12 @@ use Prim.Native.Nat.{ℕ, zero, suc, _≤_, _<_}
 use lib.ListN.{length, drop}
 use borrow.Author.Tests.{le-leb, lt-leb}
 use Rattle.party.specs.declared.PartyOption.the-variants.{Field50K}
-use Rattle.party.specs.Text.{padded, textOf}
+use Rattle.party.specs.Text.{padded, textOf, fourTexts}
 use Rattle.swift_utils.specs.Bytes.{bytes, letter, digit, alphanumeric, signs, legal}
 use Rattle.swift_utils.specs.Checks.{parseSwiftChars, parseAccount, bicLength, parseBic}
 use Rattle.field_utils.specs.Lines.{upto, onto, starts, lines}
 use Rattle.field_utils.specs.Names.{parseLine, parseLines, parseNameAndAddress}
-use Rattle.reader.specs.Reading.{fourTexts, partyOf}
+use Rattle.reader.specs.Reading.{partyOf}
 use Rattle.reader.specs.Options.{accountHead, afterHead, read}
 use Rattle.pages.specs.Pages.{pageMost, lineAt, endsPage, runs, begins, tagIn, PageRead, refusing, ending, readField, readLine, readPlace, readable, readAt}
 use Rattle.promises.specs.Starred.{gives}

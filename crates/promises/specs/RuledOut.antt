@@ -8,7 +8,7 @@ use lib.ListN.{getD, replicate}
 use Rattle.errors.specs.Refusals.{accepted, refused}
 use Rattle.party.specs.declared.PartyOption.{PartyOption}
 use Rattle.party.specs.declared.PartyOption.the-variants.{Field50NoOption, Field50A, Field50F, Field50K, Field50C, Field50L, Field50G, Field50H, Field59NoOption, Field59A, Field59F}
-use Rattle.party.specs.Text.{padded, textOf, Used}
+use Rattle.party.specs.Text.{padded, textOf, fourTexts, Used}
 use Rattle.party.specs.Party.{Said, said, Same}
 use Rattle.swift_utils.specs.Bytes.{bytes, letter, digit, alphanumeric, signs, legal}
 use Rattle.swift_utils.specs.Checks.{parseSwiftChars, parseAccount, bicLength, parseBic}
@@ -16,7 +16,7 @@ use Rattle.field_utils.specs.Lines.{upto, onto, starts, lines}
 use Rattle.field_utils.specs.Trim.{white, trimmedStart, keep, trimmedEnd, trimmed}
 use Rattle.field_utils.specs.Identifier.{isNumbered, secondSlash, identifierReply, parsePartyIdentifier}
 use Rattle.field_utils.specs.Names.{parseLine, parseLines, parseNameAndAddress}
-use Rattle.reader.specs.Reading.{Reading, fourTexts, partyOf}
+use Rattle.reader.specs.Reading.{Reading, partyOf}
 use Rattle.reader.specs.Options.{accountHead, shortAccountHead, afterHead, read}
 use Rattle.choices.specs.Detection.{anyNumbered, firstLine, lastLine, bicLike, firstThat, pickOf, variantOf}
 use Rattle.promises.specs.Starred.{gives}

@@ -6,7 +6,7 @@ use Prim.Native.Nat.{ℕ}
 use Rattle.errors.specs.Refusals.{Reply, accepted, refused}
 use Rattle.party.specs.declared.PartyOption.{PartyOption}
 use Rattle.party.specs.declared.PartyOption.the-variants.{Field50NoOption, Field50A, Field50F, Field50K, Field50C, Field50G, Field50H, Field59F}
-use Rattle.party.specs.Text.{padded, textOf}
+use Rattle.party.specs.Text.{padded, textOf, fourTexts}
 use Rattle.party.specs.Party.{said}
 use Rattle.swift_utils.specs.Bytes.{bytes, letter, digit, alphanumeric, signs, legal}
 use Rattle.swift_utils.specs.Checks.{parseSwiftChars, parseAccount, bicLength, parseBic}
@@ -14,7 +14,7 @@ use Rattle.field_utils.specs.Lines.{upto, onto, starts, lines}
 use Rattle.field_utils.specs.Trim.{white, trimmedStart, keep, trimmedEnd, trimmed}
 use Rattle.field_utils.specs.Identifier.{isNumbered, secondSlash, identifierReply, parsePartyIdentifier}
 use Rattle.field_utils.specs.Names.{parseLine, parseLines, parseNameAndAddress}
-use Rattle.reader.specs.Reading.{Reading, fourTexts, partyOf}
+use Rattle.reader.specs.Reading.{Reading, partyOf}
 use Rattle.reader.specs.Options.{accountHead, shortAccountHead, afterHead, read}
 use Rattle.writer.specs.Writing.{nameLines, writtenLines, joined, writtenBody, writtenField, pieces}
 use Rattle.writer.specs.Given.{isLine, areNames, isGiven}

@@ -10,11 +10,9 @@ use Rattle.party.specs.declared.PartyOption.the-variants.{Field50NoOption, Fiel
 use Rattle.party.specs.Limits.{limitsOf}
 use Rattle.swift_utils.specs.Bytes.{all, among, between}
 use Rattle.swift_utils.specs.Checks.{parseAccount, parseBic}
-use Rattle.field_utils.specs.declared.Numbering.{Numbering}
-use Rattle.field_utils.specs.declared.Numbering.the-variants.{Unnumbered, Numbered, InTurn}
 use Rattle.field_utils.specs.Lines.{lines, starts}
 use Rattle.field_utils.specs.Identifier.{Identifier, absent, given, parsePartyIdentifier}
-use Rattle.field_utils.specs.Names.{numberingOf, parseNameAndAddress}
+use Rattle.field_utils.specs.Names.{numberingOf, kept, parseNameAndAddress}
 use Rattle.reader.specs.declared.First.{First}
 use Rattle.reader.specs.declared.First.the-variants.{Name, Identified, Account, ShortAccount, SlashAccount, AnyAccount, WholeLine}
 use Rattle.reader.specs.declared.Layout.{Layout}
@@ -87,12 +85,6 @@ headBy SlashAccount o l = slashHead l (accountReply o (drop 1 l))
 headBy AnyAccount o l = slashHead l (lengthReply o (drop 1 l))
 -- 50F: first is 1 to 35 legal bytes
 headBy WholeLine o l = head l (accountReply o l)
-
--- what is kept of a line of names: 50F's digits are not, 59F's are
-abbrev pub kept : Numbering → List ℕ → List ℕ
-kept Unnumbered l = l
-kept Numbered l = drop 2 l
-kept InTurn l = l
 
 -- the lines after the head, the first of them body line n: names
 abbrev pub withNames : PartyOption → ℕ → Head → List (List ℕ) → Found

@@ -1,13 +1,12 @@
 -- What a reader gives: a record or a refusal (document 01, 'From the input' and 'Rust forms and their Rattle stand-ins').
 use Prim.Native.Nat.{ℕ}
 use mathlib.Core.Bool.{Bool}
-use mathlib.Core.List.{List, [], _∷_, _++_, map}
-use lib.ListN.{length, take}
+use mathlib.Core.List.{List}
+use lib.ListN.{length}
 use Rattle.errors.specs.Refusals.{Reply, accepted, refused, told}
 use Rattle.party.specs.declared.PartyOption.{PartyOption}
-use Rattle.party.specs.declared.Text.{Text}
 use Rattle.party.specs.declared.Party.{Party}
-use Rattle.party.specs.Text.{textOf}
+use Rattle.party.specs.Text.{textOf, fourTexts}
 use Rattle.party.specs.Party.{blank}
 use Rattle.reader.specs.declared.Answer.{Answer}
 
@@ -33,10 +32,6 @@ pub record Found : Type 0 where
   pub account : List ℕ
   pub bic : List ℕ
   pub names : List (List ℕ)
-
--- four texts by value: those of a list, then empty ones
-unfoldable pub fourTexts : List (List ℕ) → List Text
-fourTexts names = take 4 (map textOf names ++ (textOf [] ∷ textOf [] ∷ textOf [] ∷ textOf [] ∷ []))
 
 -- the record of what an option found
 unfoldable pub partyOf : PartyOption → Found → Party

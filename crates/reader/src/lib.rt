@@ -2,20 +2,17 @@
 // is here in parts: the first line, then a BIC or names.
 use errors::Outcome;
 use errors::ParseError;
-use field_utils::Numbering;
 use field_utils::PartyIdentifier;
 use field_utils::lines::Line;
 use field_utils::lines::Lines;
 use field_utils::lines::count_lines;
 use field_utils::lines::find_lf;
-use field_utils::numbering_of;
 use field_utils::parse_name_and_address;
 use field_utils::parse_party_identifier;
 use field_utils::starts_with_slash;
 use party::NOTHING;
 use party::Party;
 use party::PartyOption;
-use party::Text;
 use party::blank;
 use party::limits_of;
 use party::text_of;
@@ -34,7 +31,7 @@ ghost use Rattle.reader.specs.Reading.{toldAnswer, partyOf};
 ghost use Rattle.reader.specs.declared.First.the-variants.{Identified, Account, ShortAccount, SlashAccount, AnyAccount};
 ghost use Rattle.errors.specs.Refusals.{told};
 ghost use Rattle.reader.specs.Options.{firstOf, layoutOf, lengthReply, accountReply, slashHead, headBy, withNames, withBic, afterHead, byLines, bicOnly, textOnly, ascii, bodyReply, read as readOf};
-ghost use Rattle.reader.specs.Code.{toldHead, passedHead, nameless, keptFrom, namesFrom, readingOf};
+ghost use Rattle.reader.specs.Code.{toldHead, passedHead, nameless, readingOf};
 
 // What a reader gives: accepted with the record, or refused with the blank record.
 pub struct Answer {
@@ -116,12 +113,6 @@ pub fn refuse(e: ParseError) -> Answer
         outcome: Outcome::Refused(e),
         party: blank(),
     }
-}
-
-// Names by value: the first four lines, and how many they are.
-struct Names {
-    count: usize,
-    texts: [Text; 4],
 }
 
 // The bytes of a slice from a place on, none where it is past the end.
@@ -243,37 +234,6 @@ fn parse_head(first: First, line: &[u8], option: PartyOption) -> HeadAt
     }
 }
 
-// How many bytes of a line of names are not kept.
-fn kept_from(numbering: Numbering) -> usize
-    ensures { λ r. ⌜ r ≡ keptFrom numbering ⌝ }
-{
-    match numbering {
-        Numbering::Unnumbered => 0,
-        Numbering::Numbered => 2,
-        Numbering::InTurn => 0,
-    }
-}
-
-// The lines from a place on as names by value, the first four.
-fn fill(body: &[u8], from: Lines, numbering: Numbering) -> Names
-    ensures { λ r. ⌜ r ≡ namesFrom numbering (lines (drop (from .at) (now (body .entry)))) ⌝ }
-{
-    let skip = kept_from(numbering);
-    let mut texts = [NOTHING; 4];
-    let mut cursor = from;
-    let mut count = 0;
-    while count < 4 {
-        let found = cursor.next(body);
-        let Line::Next { start, end, rest } = found else {
-            return Names { count, texts };
-        };
-        texts[count] = text_of(behind(&body[start..end], skip));
-        cursor = rest;
-        count += 1;
-    }
-    Names { count, texts }
-}
-
 // A record without names.
 fn nameless_party(option: PartyOption, present: bool, account: &[u8], bic: &[u8]) -> Party
     ensures { λ r. ⌜ r ≡ partyOf option (nameless present (now (account .entry)) (now (bic .entry))) ⌝ }
@@ -299,11 +259,11 @@ fn read_names(
 ) -> Answer
     ensures { λ r. ⌜ toldAnswer r ≡ readingOf option (withNames option (suc «start_idx») (passedHead present (now (account .entry))) (lines (drop (from .at) (now (body .entry))))) ⌝ }
 {
-    let outcome = parse_name_and_address(body, from, start_idx, option);
+    let names = parse_name_and_address(body, from, start_idx, option);
+    let outcome = names.outcome;
     if let Outcome::Refused(e) = outcome {
         return refuse(e);
     }
-    let names = fill(body, from, numbering_of(option));
     let texts = names.texts;
     accept(Party {
         option,

@@ -8,6 +8,7 @@ use lib.Dec.{ltb, leb, leb·zero}
 use lib.ListN.{length}
 use borrow.Author.Tests.{le-leb, lt-leb}
 use Rattle.errors.specs.Refusals.{Reply, accepted, refused, must, _then_}
+use Rattle.errors.proofs.Replies.{then-assoc}
 use Rattle.party.specs.declared.PartyOption.{PartyOption}
 use Rattle.party.specs.declared.Party.{Party}
 use Rattle.party.specs.Limits.{limitsOf}
@@ -15,8 +16,9 @@ use Rattle.swift_utils.specs.Bytes.{between}
 use Rattle.swift_utils.specs.Checks.{parseSwiftChars, parseAccount}
 use Rattle.field_utils.specs.declared.Numbering.the-variants.{Unnumbered}
 use Rattle.field_utils.specs.Lines.{lines}
+use Rattle.field_utils.specs.Names.{kept}
 use Rattle.reader.specs.Reading.{Reading, giving, Found, partyOf}
-use Rattle.reader.specs.Options.{Head, kept, firstOf, headBy, withBic, fromHead, after, byLines, layoutOf, foundBy, bodyReply, read}
+use Rattle.reader.specs.Options.{Head, firstOf, headBy, withBic, fromHead, after, byLines, layoutOf, foundBy, bodyReply, read}
 use Rattle.reader.specs.Code.{nameless, readingOf}
 use Rattle.reader.proofs.Bodies.{body-passed, body-length}
 use Rattle.reader.proofs.LineCounts.{lines-most}
@@ -24,7 +26,7 @@ use Rattle.swift_mt_message.specs.Std.{Str, Result, Ok, _and-then_, err-
 use Rattle.swift_mt_message.specs.Std as S
 use Rattle.swift_mt_message.specs.SwiftUtils.{parse-swift-chars, parse-bic}
 use Rattle.swift_mt_message.specs.Equal.{told}
-use Rattle.swift_mt_message.proofs.Results.{Is, ok, err, result, must-is, then-is, last-and, reply-is, then-assoc}
+use Rattle.swift_mt_message.proofs.Results.{Is, ok, err, result, must-is, then-is, last-and, reply-is}
 use Rattle.swift_mt_message.proofs.Lines.{collected}
 use Rattle.swift_mt_message.proofs.Std.{at-most, at-least, counted}
 use Rattle.swift_mt_message.proofs.SwiftUtils.{swift-chars, bics}

@@ -9,7 +9,7 @@ use lib.Dec.{leb, eqb}
 use lib.ListN.{length, drop}
 use borrow.Author.Tests.{le-leb, lt-leb, leb-true, eqb-true, eqb-false}
 use Rattle.errors.specs.Refusals.{Reply, accepted, must, _then_}
-use Rattle.errors.proofs.Replies.{must-held}
+use Rattle.errors.proofs.Replies.{must-held, then-assoc}
 use Rattle.party.specs.declared.PartyOption.the-variants.{Field50NoOption, Field50A, Field50F, Field50K, Field50C, Field50L, Field50G, Field50H}
 use Rattle.party.specs.declared.Party.{Party}
 use Rattle.swift_utils.specs.Bytes.{among, between, all, legal}
@@ -28,7 +28,7 @@ use Rattle.reader.proofs.Heads.{account-none, account-some}
 use Rattle.swift_mt_message.specs.Std.{Str, slash, newline, Ok}
 use Rattle.swift_mt_message.specs.Field50 as rust
 use Rattle.swift_mt_message.specs.Equal.{told, as50, as50A, as50F, as50K, as50C, as50L, as50G, as50H, illegalAccount, byAccount}
-use Rattle.swift_mt_message.proofs.Results.{by-test, ok, must-is, then-is, and-is, last-and, reply-is, then-assoc, then-accepted, passed-is}
+use Rattle.swift_mt_message.proofs.Results.{by-test, ok, must-is, then-is, and-is, last-and, reply-is, then-accepted, passed-is}
 use Rattle.swift_mt_message.proofs.Std.{contained, started, at-least, counted}
 use Rattle.swift_mt_message.proofs.SwiftUtils.{bics}
 use Rattle.swift_mt_message.proofs.FieldUtils.{no-identifier, identifier}

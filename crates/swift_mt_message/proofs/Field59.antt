@@ -16,10 +16,10 @@ use Rattle.swift_utils.specs.Bytes.{between}
 use Rattle.field_utils.specs.declared.Numbering.the-variants.{Unnumbered}
 use Rattle.field_utils.specs.Lines.{starts}
 use Rattle.field_utils.specs.Identifier.{identifierReply}
-use Rattle.field_utils.specs.Names.{parseNameAndAddress}
+use Rattle.field_utils.specs.Names.{parseNameAndAddress, kept}
 use Rattle.field_utils.proofs.Identifiers.{identifier-absent, identifier-given}
 use Rattle.reader.specs.Reading.{Reading, partyOf}
-use Rattle.reader.specs.Options.{noHead, head, identifierHead, accountReply, shortAccountHead, kept, withNames, withBic, afterHead, after, bodyReply, read}
+use Rattle.reader.specs.Options.{noHead, head, identifierHead, accountReply, shortAccountHead, withNames, withBic, afterHead, after, bodyReply, read}
 use Rattle.reader.specs.Code.{readingOf}
 use Rattle.reader.proofs.Heads.{short-long, short-fits, account-none, account-some}
 use Rattle.swift_mt_message.specs.Std.{Str, slash, Result, Ok, starts-with}

@@ -8,22 +8,21 @@ use lib.Dec.{ltb, leb, eqb}
 use lib.ListN.{length, drop, getD, length-map}
 use borrow.Author.Tests.{le-leb, leb-true, eqb-true, eqb-false, eq-eqb, ne-eqb, le-ltb}
 use Rattle.errors.specs.Refusals.{Reply, must, _then_}
-use Rattle.errors.proofs.Replies.{must-held}
+use Rattle.errors.proofs.Replies.{must-held, then-assoc}
 use Rattle.swift_utils.specs.Bytes.{between, digit}
 use Rattle.party.specs.declared.PartyOption.{PartyOption}
 use Rattle.party.specs.Limits.{limitsOf}
 use Rattle.field_utils.specs.declared.Numbering.{Numbering}
 use Rattle.field_utils.specs.declared.Numbering.the-variants.{Unnumbered, Numbered, InTurn}
 use Rattle.field_utils.specs.Identifier.{isNumbered}
-use Rattle.field_utils.specs.Names.{numberingOf, parseLine, parseLines, parseCount, parseNameAndAddress}
-use Rattle.reader.specs.Options.{kept}
+use Rattle.field_utils.specs.Names.{numberingOf, parseLine, parseLines, parseCount, parseNameAndAddress, kept}
 use Rattle.swift_mt_message.specs.Std.{Str, slash, Result, Ok, _and-then_, err-if, for-from, is-empty, push, nth, is-some-and, equals, unwrap, to-digit, is-digit}
 use Rattle.swift_mt_message.specs.Std as S
 use Rattle.swift_mt_message.specs.SwiftUtils.{parse-swift-chars}
 use Rattle.swift_mt_message.specs.FieldUtils.{name-line}
 use Rattle.swift_mt_message.specs.Field50.{Field50NoOption·line, Field50F·line, Field50K·line, Field50H·line, numbered}
 use Rattle.swift_mt_message.specs.Field59.{Field59F·line}
-use Rattle.swift_mt_message.proofs.Results.{Is, ok, err, must-is, must-at, then-is, and-is, last-is, reply-is, value-is, then-assoc}
+use Rattle.swift_mt_message.proofs.Results.{Is, ok, err, must-is, must-at, then-is, and-is, last-is, reply-is, value-is}
 use Rattle.swift_mt_message.proofs.Std.{digits, at-most}
 use Rattle.swift_mt_message.proofs.SwiftUtils.{swift-chars, chars-at}
 

@@ -61,10 +61,6 @@ pub value-is : {A : Type 0} {x : Result A} {r : Reply} {v w : A} → Is x r v �
 value-is {r = r} e f = record { is = e .is ∙ ap (result r) f }
 
 -- checks in order
-pub then-assoc : (r s t : Reply) → ((r then s) then t) ≡ (r then (s then t))
-then-assoc accepted s t = refl
-then-assoc (refused k n) s t = refl
-
 pub then-same : (r : Reply) {s t : Reply} → (r ≡ accepted → s ≡ t) → (r then s) ≡ (r then t)
 then-same accepted e = e refl
 then-same (refused k n) e = refl

@@ -16,14 +16,14 @@ use Rattle.party.specs.declared.PartyOption.{PartyOption}
 use Rattle.party.specs.declared.PartyOption.the-variants.{Field50NoOption, Field50A, Field50F, Field50K, Field50C, Field50L, Field50G, Field50H, Field59NoOption, Field59A, Field59F}
 use Rattle.party.specs.declared.Party.{Party}
 use Rattle.party.specs.Limits.{limitsOf}
-use Rattle.party.specs.Text.{padded, textOf, Used, used}
+use Rattle.party.specs.Text.{padded, textOf, fourTexts, Used, used}
 use Rattle.party.specs.Party.{where-limit, said}
 use Rattle.swift_utils.specs.Bytes.{between}
 use Rattle.field_utils.specs.declared.Numbering.{Numbering}
 use Rattle.field_utils.specs.declared.Numbering.the-variants.{Unnumbered, Numbered, InTurn}
 use Rattle.field_utils.specs.Lines.{lines}
 use Rattle.field_utils.specs.Names.{numberingOf, skipOf}
-use Rattle.reader.specs.Reading.{Reading, giving, fourTexts, partyOf}
+use Rattle.reader.specs.Reading.{Reading, giving, partyOf}
 use Rattle.reader.specs.Options.{firstOf, bodyReply, layoutOf, foundBy, read}
 use Rattle.choices.specs.declared.Pick.{Pick}
 use Rattle.choices.specs.declared.Pick.the-variants.{NotALetter, Picked, Detect}

@@ -17,8 +17,7 @@ use Rattle.swift_utils.specs.Checks.{parseSwiftChars}
 use Rattle.field_utils.specs.declared.Numbering.{Numbering}
 use Rattle.field_utils.specs.declared.Numbering.the-variants.{Unnumbered, Numbered, InTurn}
 use Rattle.field_utils.specs.Identifier.{isNumbered}
-use Rattle.field_utils.specs.Names.{numberingOf, skipOf, parseNumber, parseLine, parseLines, parseNameAndAddress}
-use Rattle.reader.specs.Options.{kept}
+use Rattle.field_utils.specs.Names.{numberingOf, skipOf, parseNumber, parseLine, parseLines, parseNameAndAddress, kept}
 use Rattle.writer.specs.Writing.{numberOf, nameLines}
 use Rattle.writer.specs.Given.{every, isLine}
 use Rattle.writer.proofs.Tests.{both-left, both-right, both, none-more, rest-not}

@@ -17,13 +17,13 @@ use Rattle.party.specs.Party.{Said}
 use Rattle.swift_utils.specs.Bytes.{all, among, between, letter, digit, alphanumeric}
 use Rattle.swift_utils.specs.Checks.{bicLength, parseBic}
 use Rattle.field_utils.specs.Lines.{onto, starts, lines}
-use Rattle.field_utils.specs.Names.{numberingOf, parseNameAndAddress}
+use Rattle.field_utils.specs.Names.{numberingOf, parseNameAndAddress, kept}
 use Rattle.reader.specs.declared.First.{First}
 use Rattle.reader.specs.declared.First.the-variants.{Name, Identified, Account, ShortAccount, SlashAccount, AnyAccount, WholeLine}
 use Rattle.reader.specs.declared.Layout.{Layout}
 use Rattle.reader.specs.declared.Layout.the-variants.{BicOnly, TextOnly, ByLines}
 use Rattle.reader.specs.Reading.{Found}
-use Rattle.reader.specs.Options.{Head, noHead, headBy, firstOf, kept, accountReply, withNames, withBic, afterHead, fromHead, byLines, bicOnly, textOnly, foundBy, layoutOf, ascii}
+use Rattle.reader.specs.Options.{Head, noHead, headBy, firstOf, accountReply, withNames, withBic, afterHead, fromHead, byLines, bicOnly, textOnly, foundBy, layoutOf, ascii}
 use Rattle.reader.specs.Code.{passedHead}
 use Rattle.reader.proofs.Bodies.{head-there, head-none}
 use Rattle.reader.proofs.Readings.{rest-bic, rest-names}

@@ -1,12 +1,12 @@
 -- The test of a record by its parts. Assumes nothing.
 use Prim.Native.Nat.{ℕ, zero, suc, _+_, _≤_, _<_}
 use mathlib.Core.Path.{_≡_, refl, sym, _∙_, ap}
-use mathlib.Core.Bool.{Bool, true, false, not, _&&_, and-true, and-false, and-assoc, and-comm, or-true, false≢true}
+use mathlib.Core.Bool.{Bool, true, false, not, _&&_, and-true, and-false, and-assoc, and-comm, false≢true}
 use mathlib.Core.List.{List, [], _∷_, _++_}
 use native.Mathlib.Omega.{arith}
 use lib.Dec.{leb, eqb}
 use lib.ListN.{length, take, drop, getD}
-use borrow.Author.Tests.{lt-ltb, le-leb, lt-leb, eqb-true, eq-eqb, ne-eqb}
+use borrow.Author.Tests.{lt-ltb, le-leb, lt-leb, eq-eqb, ne-eqb}
 use Rattle.errors.specs.Refusals.{Reply, accepted, refused, must, _then_}
 use Rattle.party.specs.declared.PartyOption.{PartyOption}
 use Rattle.party.specs.declared.Text.{Text}
@@ -14,14 +14,14 @@ use Rattle.party.specs.declared.Party.{Party}
 use Rattle.party.specs.Limits.{limitsOf}
 use Rattle.party.specs.Text.{Used, used}
 use Rattle.party.specs.Party.{Said, said, where-limit}
-use Rattle.swift_utils.specs.Bytes.{all, among, letter, digit, alphanumeric, signs, legal}
+use Rattle.swift_utils.specs.Bytes.{all, among, digit, legal}
 use Rattle.swift_utils.specs.Checks.{parseSwiftChars, parseAccount}
 use Rattle.swift_utils.specs.Classes.{plain}
 use Rattle.field_utils.specs.declared.Numbering.{Numbering}
 use Rattle.field_utils.specs.declared.Numbering.the-variants.{Unnumbered, Numbered, InTurn}
 use Rattle.field_utils.specs.Identifier.{isNumbered}
 use Rattle.field_utils.specs.Names.{numberingOf, skipOf, parseNumber, parseLine, parseLines, parseCount, parseNameAndAddress}
-use Rattle.field_utils.proofs.NameLines.{number-room}
+use Rattle.field_utils.proofs.NameLines.{and-first, number-room, number-legal}
 use Rattle.reader.specs.declared.First.the-variants.{Account, ShortAccount, AnyAccount}
 use Rattle.reader.specs.Options.{firstOf, accountReply, lengthReply, ascii}
 use Rattle.writer.specs.Writing.{numberOf, nameLines, writtenField, put, fits, placed}
@@ -95,31 +95,6 @@ turn-room Numbered k x e = omega arith
 turn-room InTurn k x e = number-room InTurn k k x (passes-true (parseNumber InTurn k k x) e)
 
 -- ---- the k-th name
-and-first : (p q : Bool) → (p && q) ≡ true → p ≡ true
-and-first true q e = refl
-and-first false q e = e
-
-and-second : (p q : Bool) → (p && q) ≡ true → q ≡ true
-and-second true q e = e
-and-second false q e = absurd (false≢true e)
-
-digit-legal : (d : ℕ) → digit d ≡ true → legal d ≡ true
-unfolding alphanumeric legal
-digit-legal d e = rw (e, or-true (letter d))
-
-slash-legal : legal 47 ≡ true
-unfolding letter digit alphanumeric signs legal
-slash-legal = refl
-
--- a kept number is legal
-number-legal : (x : List ℕ) → isNumbered x ≡ true → all legal (drop 2 x) ≡ all legal x
-unfolding isNumbered
-number-legal [] e = refl
-number-legal (d ∷ []) e = absurd (false≢true e)
-number-legal (d ∷ s ∷ l) e =
-    let slash = eqb-true s 47 (and-second (digit d) (eqb s 47) e) in
-    rw (digit-legal d (and-first (digit d) (eqb s 47) e), slash, slash-legal)
-
 kept-legal : (f : Numbering) (k : ℕ) (x : List ℕ) → inTurn f k x ≡ true → all legal (drop (numberIn f) x) ≡ all legal x
 kept-legal Unnumbered k x e = refl
 kept-legal Numbered k x e = refl

@@ -10,11 +10,11 @@ use borrow.Author.Tests.{eqb-true, eq-eqb, not-true}
 use Rattle.party.specs.declared.PartyOption.{PartyOption}
 use Rattle.party.specs.declared.Party.{Party}
 use Rattle.party.specs.Limits.{limitsOf}
-use Rattle.party.specs.Text.{textOf, Used, used}
+use Rattle.party.specs.Text.{textOf, fourTexts, Used, used}
 use Rattle.party.specs.Party.{where-limit, namesOf, Said, said}
 use Rattle.party.proofs.Theorems.{used-text}
 use Rattle.swift_utils.specs.Bytes.{among}
-use Rattle.reader.specs.Reading.{Found, fourTexts, partyOf}
+use Rattle.reader.specs.Reading.{Found, partyOf}
 use Rattle.writer.specs.Given.{every, isLine}
 use Rattle.writer.proofs.Tests.{both-left, both-right, both, is-not}
 use Rattle.writer.proofs.Relined.{All, Line}

@@ -19,8 +19,8 @@ use Rattle.swift_utils.specs.Checks.{bicLength, parseBic}
 use Rattle.field_utils.specs.declared.Numbering.{Numbering}
 use Rattle.field_utils.specs.declared.Numbering.the-variants.{Unnumbered, Numbered, InTurn}
 use Rattle.field_utils.specs.Identifier.{isNumbered}
-use Rattle.field_utils.specs.Names.{numberingOf}
-use Rattle.reader.specs.Options.{firstOf, ascii, kept}
+use Rattle.field_utils.specs.Names.{numberingOf, kept}
+use Rattle.reader.specs.Options.{firstOf, ascii}
 use Rattle.writer.specs.Writing.{slashOf, nameLines}
 use Rattle.writer.specs.Given.{every, isLine, isAccount, isBic, areNames}
 use Rattle.writer.proofs.Tests.{both-left, both-right, both, none-more}

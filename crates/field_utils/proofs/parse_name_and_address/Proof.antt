@@ -1,9 +1,9 @@
--- `parse_name_and_address` meets its contract. Of the lines: what all of them say is what those from the cursor on say, and as many
--- passed as were counted. Of the bytes: those that are left say whether the text is legal. Assumes nothing.
-use mathlib.Core.Path.{_≡_, refl, sym, _∙_, ap}
+-- `parse_name_and_address` meets its contract. Of the bytes: those passed are legal and no LF. Of the lines: what all of them say is what
+-- those from the cursor on say, and those passed are filled. Assumes nothing.
+use mathlib.Core.Path.{_≡_, refl, sym, _∙_, ap, subst}
 use mathlib.Core.Logic.{⊎-elim}
-use mathlib.Core.Bool.{Bool}
-use mathlib.Core.List.{List, _∷_}
+use mathlib.Core.Bool.{Bool, false}
+use mathlib.Core.List.{List, [], _∷_}
 use Prim.Native.Nat.{ℕ, suc, _+_, _-_, _≤_, _<_}
 use native.Mathlib.Nat.{add-zero}
 use native.Mathlib.Omega.{arith}
@@ -15,33 +15,39 @@ use borrow.Author.Tests.{le-leb, lt-leb}
 use Rattle.errors.specs.Refusals.{Reply, accepted, refused, told, must}
 use Rattle.party.specs.declared.PartyOption.{PartyOption}
 use Rattle.party.specs.declared.Limits.{Limits}
+use Rattle.party.specs.declared.Text.{Text}
+use Rattle.party.specs.Text.{padded, textOf, fourTexts}
 use Rattle.swift_utils.specs.Bytes.{all, legal}
-use Rattle.swift_utils.proofs.Classes.{class-legal, all-fails, all-passes, all-done}
+use Rattle.swift_utils.specs.Classes.{plain}
+use Rattle.swift_utils.proofs.Classes.{class-plain}
 use Rattle.swift_utils.proofs.Table.{by-entry}
 use Rattle.swift_utils.proofs.Parts.{part, part-length, part-drop}
 use Rattle.field_utils.specs.declared.Numbering.{Numbering}
 use Rattle.field_utils.specs.Lines.{lines}
-use Rattle.field_utils.specs.Names.{skipOf, parseNumber, parseLine, parseLines, parseCount, parseNameAndAddress}
+use Rattle.field_utils.specs.Names.{parseLine, parseLines, parseCount, NamesRead, readNames, toldNames}
+use Rattle.field_utils.specs.Code.{parseShape, parseRest, givenNames}
 use Rattle.field_utils.proofs.Places.{Found, found}
-use Rattle.field_utils.proofs.NameLines.{number-room, line-number, line-long, line-bytes, lines-refused, lines-passed, lines-none, names-refused, names-counted}
+use Rattle.field_utils.proofs.NameLines.{kept-room, line-refused, line-bytes, lines-refused, lines-passed, lines-none, rest-illegal, rest-counted, read-refused, read-counted}
+use Rattle.field_utils.proofs.NameTexts.{Filled, filled-none, filled-more, filled-past, filled-all}
+use Rattle.field_utils.proofs.NameBytes.{Passed, passed-none, passed-more, passed-legal, passed-illegal}
 use Rattle.field_utils.proofs.parse_name_and_address.Statement.{statement}
 use Rattle.field_utils.proofs.parse_name_and_address.Tie as tie
 
 abbrev Inv-loop : tie.InvT-loop
-Inv-loop body start-idx limits numbering skip classes count start end rest line i₀ i = all legal (part i₀ end body) ≡ all legal (part i end body)
+Inv-loop body start-idx limits numbering kept classes texts cursor count i₀ i = Passed body (cursor .at) i
 
 abbrev μ-loop : tie.MeasureT-loop
-μ-loop body start-idx limits numbering skip classes count start end rest line i₀ i = end - i
+μ-loop body start-idx limits numbering kept classes texts cursor count i₀ i = length body - i
 
 abbrev Inv-lines : tie.InvT-lines
-Inv-lines body start-idx limits numbering skip classes cursor₀ count₀ cursor count =
+Inv-lines body start-idx limits numbering kept classes texts₀ cursor₀ count₀ texts cursor count =
     (count ≤ cursor .at)
     × (parseLines numbering (limits .name) (suc start-idx) 1 (lines (drop (cursor₀ .at) body))
     ≡ parseLines numbering (limits .name) (suc (start-idx + count)) (suc count) (lines (drop (cursor .at) body)))
-    × (length (lines (drop (cursor₀ .at) body)) ≡ count + length (lines (drop (cursor .at) body)))
+    × Filled kept (lines (drop (cursor₀ .at) body)) count texts (lines (drop (cursor .at) body))
 
 abbrev μ-lines : tie.MeasureT-lines
-μ-lines body start-idx limits numbering skip classes cursor₀ count₀ cursor count = length body - cursor .at
+μ-lines body start-idx limits numbering kept classes texts₀ cursor₀ count₀ texts cursor count = length body - cursor .at
 
 -- at the head of the loop over the lines
 module _ (t : tie.At-lines Inv-loop μ-loop Inv-lines μ-lines) where
@@ -55,29 +61,59 @@ module _ (t : tie.At-lines Inv-loop μ-loop Inv-lines μ-lines) where
   abbrev count : ℕ
   count = t .lines .count
 
+  abbrev texts : List Text
+  texts = t .lines .texts
+
+  -- where the next line starts
+  abbrev place : ℕ
+  place = t .lines .cursor .at
+
   abbrev option : PartyOption
   option = t .before .before .before .before .before .before .args .option
 
   abbrev numbering : Numbering
   numbering = t .before .before .before .numbering-of .result
 
-  abbrev skip : ℕ
-  skip = t .before .before .skip-of .result
-
   abbrev limits : Limits
   limits = t .before .before .before .before .limits-of .result
+
+  -- how many bytes of a line are not kept
+  abbrev skip : ℕ
+  skip = t .before .before .kept-from .result
 
   abbrev names : List (List ℕ)
   names = lines (drop (t .before .before .before .before .before .before .args .from .at) body)
 
   -- what the contract says
-  abbrev answer : Reply
-  answer = parseNameAndAddress option (suc earlier) names
+  abbrev answer : NamesRead
+  answer = readNames option (suc earlier) names
+
+-- at a byte
+module _ (c : tie.After-shared-slice-known2 Inv-loop μ-loop Inv-lines μ-lines) where
+  abbrev top : tie.At-lines Inv-loop μ-loop Inv-lines μ-lines
+  top = c .before .before .before
+
+  abbrev byte : ℕ
+  byte = getD (body top) (c .before .before .loop .i) 0
+
+  is-byte : byte < 256
+  is-byte = omega (arith, c .shared-slice-known2 .given (c .before .before .loop .i))
+
+  -- what the test of its entry says
+  by-table : {t : Bool} → leb 2 (getD (top .before .class-table .result) byte 0) ≡ t → plain byte ≡ t
+  by-table e = sym (class-plain byte) ∙ by-entry 2 byte (top .before .class-table .ensures) e
 
 -- where a line was found
 module _ (k : tie.After-known-told Inv-loop μ-loop Inv-lines μ-lines) where
+  abbrev bytes : tie.At-loop Inv-loop μ-loop Inv-lines μ-lines
+  bytes = k .before .before .before .before .before
+
   abbrev head : tie.At-lines Inv-loop μ-loop Inv-lines μ-lines
-  head = k .before .before .before .before
+  head = bytes .before
+
+  -- up to where the bytes were passed
+  abbrev stop : ℕ
+  stop = bytes .loop .i
 
   abbrev start : ℕ
   start = k .before .found .given .0 .0
@@ -98,8 +134,8 @@ module _ (k : tie.After-known-told Inv-loop μ-loop Inv-lines μ-lines) where
   abbrev number : ℕ
   number = earlier head + turn
 
-  fits : Found (body head) (head .lines .cursor .at) start end rest
-  fits = found (body head) (head .lines .cursor .at) (k .before .before .before .next .ensures) (k .before .found .given .1)
+  fits : Found (body head) (place head) start end rest
+  fits = found (body head) (place head) (k .before .before .before .next-from .ensures) (k .before .found .given .1)
 
   end-within : end ≤ length (body head)
   end-within = omega (arith, fits .before, fits .within)
@@ -110,102 +146,112 @@ module _ (k : tie.After-known-told Inv-loop μ-loop Inv-lines μ-lines) where
       ≡ parseLines (numbering head) (limits head .name) (suc (earlier head + count head)) (suc (count head)) (line ∷ lines (drop rest (body head)))
   so-far = head .lines .inv .1 ∙ ap (parseLines _ _ _ _) (fits .line)
 
-  -- what the line says
+  -- what the line says before its bytes, and whole
+  abbrev shape : Reply
+  shape = parseShape (numbering head) (limits head .name) number turn line
+
   abbrev says : Reply
   says = parseLine (numbering head) (limits head .name) number turn line
 
   -- a refusal of this line is that of the names
-  refusal : {r j : ℕ} → says ≡ refused r j → refused r j ≡ answer head
+  refusal : {r j : ℕ} → says ≡ refused r j → _≡_ {A = NamesRead} (record { reply = refused r j; count = 0; texts = fourTexts [] }) (answer head)
   refusal e =
       sym
-      (names-refused (option head) (head .before .before .before .numbering-of .ensures) (head .before .before .before .before .limits-of .ensures) (suc (earlier head)) (names head)
+      (read-refused (option head) (head .before .before .before .numbering-of .ensures) (head .before .before .before .before .limits-of .ensures) (suc (earlier head)) (names head)
       (so-far ∙ lines-refused _ _ (earlier head) (count head) _ _ e))
 
--- what the test of its number says
-number-says :
-    (p : tie.After-parse-number Inv-loop μ-loop Inv-lines μ-lines) → let k = p .before .before in
-    parseNumber (numbering (head k)) (number k) (turn k) (line k) ≡ told (p .parse-number .result)
-number-says p = sym (p .parse-number .ensures)
+  -- the bytes passed, from the line's start on
+  passed : Passed (body head) start stop
+  passed = subst (λ (at : ℕ). Passed (body head) at stop) (sym (fits .from)) (bytes .loop .inv)
 
--- past the test of its number, a line has room for what stands before its text, and its text is the part after that
+  -- a byte at which the loop over them was left, in the line, is not plain
+  stopped : stop < end → plain (getD (body head) stop 0) ≡ false
+  stopped h =
+      ⊎-elim (λ w. absurd (omega (arith, h, end-within, w .left)))
+      (λ w.
+      let c : tie.After-shared-slice-known2 Inv-loop μ-loop Inv-lines μ-lines = record { before = record { before = bytes; loop-test = w .0 }; shared-slice-known2 = w .1 } in
+      by-table c (lt-leb _ _ (w .2 .taken)))
+      (k .before .before .before .before .loop-test .came)
+
+-- what the test of its number and its length says
+shape-says : (p : tie.After-parse-line Inv-loop μ-loop Inv-lines μ-lines) → shape (p .before .before) ≡ told (p .parse-line .result)
+shape-says p = sym (p .parse-line .ensures)
+
+-- past that test
 module _ (e : tie.After-enum-told2 Inv-loop μ-loop Inv-lines μ-lines) where
   abbrev here : tie.After-known-told Inv-loop μ-loop Inv-lines μ-lines
   here = e .before .before .before .before
 
-  -- where the text starts
+  shaped : shape here ≡ accepted
+  shaped = shape-says (e .before .before) ∙ ap told (e .enum-told2 .given .1)
+
+  -- its bytes say the rest
+  by-bytes : {t : Bool} → all legal (line here) ≡ t → says here ≡ must t 3 (number here)
+  by-bytes h = line-bytes _ _ _ _ _ shaped h
+
+illegal-byte : (c : tie.Then2 Inv-loop μ-loop Inv-lines μ-lines) → let k = here (c .before) in _≡_ {A = NamesRead} (record { reply = refused 3 (number k); count = 0; texts = fourTexts [] }) (answer (head k))
+illegal-byte c =
+    let k = here (c .before) in
+    refusal k (by-bytes (c .before) (passed-illegal (body (head k)) (start k) (stop k) (passed k) (end k) (end-within k) (c .if2 .taken) (fits k .unbroken) (stopped k (c .if2 .taken))))
+
+-- a line that passed
+module _ (e : tie.Else2 Inv-loop μ-loop Inv-lines μ-lines) where
+  abbrev this : tie.After-known-told Inv-loop μ-loop Inv-lines μ-lines
+  this = here (e .before)
+
+  -- where its text starts
   abbrev first : ℕ
-  first = start here + skip (head here)
+  first = start this + skip (head this)
 
-  abbrev text : List ℕ
-  text = drop (skipOf (numbering (head here))) (line here)
-
-  passed : parseNumber (numbering (head here)) (number here) (turn here) (line here) ≡ accepted
-  passed = number-says (e .before .before) ∙ ap told (e .enum-told2 .given .1)
-
-  room : first ≤ end here
+  room : first ≤ end this
   room =
       omega
-      (arith, number-room (numbering (head here)) (number here) (turn here) (line here) passed, part-length (start here) (end here) (body (head here)) (end-within here), head here .before .before .skip-of .ensures, fits here .forward)
+      (arith, kept-room (numbering (head this)) (limits (head this) .name) (number this) (turn this) (line this) (shaped (e .before)), part-length (start this) (end this) (body (head this)) (end-within this), head this .before .before .kept-from .ensures, fits this .forward)
 
-  text-part : text ≡ part first (end here) (body (head here))
-  text-part =
-      part-drop _ (start here) (end here) (body (head here))
-      ∙ ap (λ (j : ℕ). part (start here + j) (end here) (body (head here))) (sym (head here .before .before .skip-of .ensures))
+  onwards :
+      parseLines (numbering (head this)) (limits (head this) .name) (suc (earlier (head this))) 1 (names (head this))
+      ≡ parseLines (numbering (head this)) (limits (head this) .name) (suc (earlier (head this) + turn this)) (suc (turn this)) (lines (drop (rest this) (body (head this))))
+  onwards =
+      so-far this
+      ∙ lines-passed _ _ (earlier (head this)) (count (head this)) _ _
+      (by-bytes (e .before) (passed-legal (body (head this)) (start this) (stop this) (passed this) (end this) (end-within this) (e .if2 .left)))
 
-  text-length : length text ≡ end here - first
-  text-length = ap length text-part ∙ part-length first (end here) (body (head here)) (end-within here)
-
--- at the head of the loop over the bytes, whose text is short enough
-module _ (l : tie.At-loop Inv-loop μ-loop Inv-lines μ-lines) where
-  abbrev numbered : tie.After-enum-told2 Inv-loop μ-loop Inv-lines μ-lines
-  numbered = l .before .before .before
-
-  abbrev found-line : tie.After-known-told Inv-loop μ-loop Inv-lines μ-lines
-  found-line = here numbered
-
-  -- what the bytes that are left say is what the line says
-  by-bytes : {b : Bool} → all legal (part (l .loop .i) (end found-line) (body (head found-line))) ≡ b → says found-line ≡ must b 3 (number found-line)
-  by-bytes h =
-      line-bytes _ _ _ _ _ (passed numbered) (omega (arith, text-length numbered, l .before .if1 .left))
-      (ap (all legal) (text-part numbered) ∙ l .loop .inv ∙ h)
-
--- at a byte
-module _ (c : tie.After-shared-slice-known2 Inv-loop μ-loop Inv-lines μ-lines) where
-  abbrev bytes : tie.At-loop Inv-loop μ-loop Inv-lines μ-lines
-  bytes = c .before .before
-
-  abbrev this : tie.After-known-told Inv-loop μ-loop Inv-lines μ-lines
-  this = found-line bytes
-
-  abbrev byte : ℕ
-  byte = getD (body (head this)) (bytes .loop .i) 0
-
-  is-byte : byte < 256
-  is-byte = omega (arith, c .shared-slice-known2 .given (bytes .loop .i))
-
-  -- what the test of its entry says
-  by-table : {t : Bool} → leb 1 (getD (head this .before .class-table .result) byte 0) ≡ t → legal byte ≡ t
-  by-table e = sym (class-legal byte) ∙ by-entry 1 byte (head this .before .class-table .ensures) e
-
-illegal-byte : (c : tie.Then2 Inv-loop μ-loop Inv-lines μ-lines) → let k = this (c .before) in refused 3 (number k) ≡ answer (head k)
-illegal-byte c =
-    let l = bytes (c .before) in
-    let k = found-line l in
-    refusal k
-    (by-bytes l
-    (all-fails legal (body (head k)) (l .loop .i) (end k) (c .before .before .loop-test .taken) (end-within k)
-    (by-table (c .before) (lt-leb _ _ (c .if2 .taken)))))
+  counts : turn this ≤ rest this
+  counts = omega (arith, fits this .moved, head this .lines .inv .0)
 
 -- no line is left
-all-passed : (c : tie.After-enum-told Inv-loop μ-loop Inv-lines μ-lines) (n : ℕ) → let t = c .before .before .before in n ≡ count t → parseCount (limits t .names) n ≡ answer t
-all-passed c n e =
-    let t = c .before .before .before in
-    let none = found (body t) (t .lines .cursor .at) (c .before .before .next .ensures) (c .enum-told .given .1) .0 in
-    let counted : n ≡ length (names t) = omega (arith, e, t .lines .inv .2, ap length none) in
-    ap (parseCount (limits t .names)) counted
+all-passed : (c : tie.After-enum-told Inv-loop μ-loop Inv-lines μ-lines) {r : NamesRead} → let t = c .before .before .before .before .before in
+    r ≡ givenNames (parseCount (limits t .names) (count t)) (count t) (texts t) → r ≡ answer t
+all-passed c e =
+    let t = c .before .before .before .before .before in
+    let none = found (body t) (place t) (c .before .before .next-from .ensures) (c .enum-told .given .1) .0 in
+    let all = filled-all (numbering t) (skip t) (names t) (count t) (texts t) (t .before .before .kept-from .ensures) (subst (Filled (skip t) (names t) (count t) (texts t)) none (t .lines .inv .2)) in
+    e
     ∙ sym
-    (names-counted (option t) (t .before .before .before .numbering-of .ensures) (t .before .before .before .before .limits-of .ensures) (suc (earlier t)) (names t)
-    (t .lines .inv .1 ∙ ap (parseLines _ _ _ _) none ∙ lines-none _ _ _ _))
+    (read-counted (option t) (t .before .before .before .numbering-of .ensures) (t .before .before .before .before .limits-of .ensures) (suc (earlier t)) (names t)
+    (t .lines .inv .1 ∙ ap (parseLines _ _ _ _) none ∙ lines-none _ _ _ _) (all .0) (all .1))
+
+-- the loop was left with no line left, or with the line of an illegal byte
+module _ (m : tie.At-match-came Inv-loop μ-loop Inv-lines μ-lines) where
+  abbrev last : tie.At-lines Inv-loop μ-loop Inv-lines μ-lines
+  last = m .before .before .before .before
+
+  abbrev gives : Reply → NamesRead
+  gives r = givenNames r (count last) (texts last)
+
+  ends : gives (parseRest (m .match .illegal) (limits last .names) (count last)) ≡ answer last
+  ends =
+      ⊎-elim
+      (λ w.
+      all-passed (record { before = record { before = m .before; match = w .0 }; enum-told = w .1 })
+      (ap gives (rest-counted (m .match .illegal) (limits last .names) (count last) (w .2))))
+      (λ w.
+      let k : tie.After-known-told Inv-loop μ-loop Inv-lines μ-lines = record { before = record { before = record { before = m .before; match = w .0 }; found = w .1 }; known-told = w .2 } in
+      let e : tie.After-enum-told2 Inv-loop μ-loop Inv-lines μ-lines = record { before = record { before = record { before = record { before = k; parse-line-arg = w .3 }; parse-line = w .4 }; match2 = w .5 }; enum-told2 = w .6 } in
+      let is : m .match .illegal ≡ number k = w .8 in
+      ap gives (rest-illegal (m .match .illegal) (limits last .names) (count last) (λ z. omega (arith, z, is)) ∙ ap (refused 3) is)
+      ∙ illegal-byte (record { before = e; if2 = w .7 }))
+      (m .match .came)
 
 limits-of-requires : tie.Need-limits-of-requires Inv-loop μ-loop Inv-lines μ-lines
 limits-of-requires c κs = search needs
@@ -213,17 +259,42 @@ limits-of-requires c κs = search needs
 numbering-of-requires : tie.Need-numbering-of-requires Inv-loop μ-loop Inv-lines μ-lines
 numbering-of-requires c κs = search needs
 
-skip-of-requires : tie.Need-skip-of-requires Inv-loop μ-loop Inv-lines μ-lines
-skip-of-requires c κs = search needs
+kept-from-requires : tie.Need-kept-from-requires Inv-loop μ-loop Inv-lines μ-lines
+kept-from-requires c κs = search needs
 
 class-table-requires : tie.Need-class-table-requires Inv-loop μ-loop Inv-lines μ-lines
 class-table-requires c κs = search needs
 
 lines-holds : tie.Need-lines-holds Inv-loop μ-loop Inv-lines μ-lines
-lines-holds c = (omega arith, rw add-zero, omega arith)
+unfolding fourTexts padded textOf
+lines-holds c = (omega arith, rw add-zero, filled-none _ _ _ refl)
 
-next-requires : tie.Need-next-requires Inv-loop μ-loop Inv-lines μ-lines
-next-requires c κs = search needs
+loop-holds : tie.Need-loop-holds Inv-loop μ-loop Inv-lines μ-lines
+loop-holds c = passed-none (body c) (place c)
+
+shared-slice-read-b : tie.Need-shared-slice-read-b Inv-loop μ-loop Inv-lines μ-lines
+shared-slice-read-b c = omega (arith, c .before .loop-test .taken)
+
+cast-b : tie.Need-cast-b Inv-loop μ-loop Inv-lines μ-lines
+cast-b c = omega (arith, is-byte c)
+
+array-read-if1 : tie.Need-array-read-if1 Inv-loop μ-loop Inv-lines μ-lines
+array-read-if1 c = is-byte c
+
+add-i : tie.Need-add-i Inv-loop μ-loop Inv-lines μ-lines
+add-i c = omega (arith, c .before .before .loop-test .taken)
+
+loop-less : tie.Need-loop-less Inv-loop μ-loop Inv-lines μ-lines
+loop-less c = omega (arith, c .before .before .loop-test .taken)
+
+loop-again : tie.Need-loop-again Inv-loop μ-loop Inv-lines μ-lines
+loop-again c =
+    let l = c .before .before .before in
+    passed-more (body (l .before)) (place (l .before)) (l .loop .i) (l .loop .inv) (c .before .before .loop-test .taken)
+    (by-table (c .before) (le-leb _ _ (c .if1 .left)))
+
+next-from-requires : tie.Need-next-from-requires Inv-loop μ-loop Inv-lines μ-lines
+next-from-requires c κs = (c .before .loop .inv .forward, c .before .loop .inv .unbroken)
 
 enum-known-found : tie.Need-enum-known-found Inv-loop μ-loop Inv-lines μ-lines
 enum-known-found c = search needs
@@ -231,105 +302,90 @@ enum-known-found c = search needs
 enum-told : tie.Need-enum-told Inv-loop μ-loop Inv-lines μ-lines
 enum-told c = search needs
 
-add-count : tie.Need-add-count Inv-loop μ-loop Inv-lines μ-lines
-add-count c = omega (arith, fits c .moved, fits c .within)
+add-turn : tie.Need-add-turn Inv-loop μ-loop Inv-lines μ-lines
+add-turn c = omega (arith, head c .lines .inv .0, fits c .moved, fits c .within)
 
 add-line : tie.Need-add-line Inv-loop μ-loop Inv-lines μ-lines
-add-line c = omega (arith, fits c .moved, fits c .within)
+add-line c = omega (arith, head c .lines .inv .0, fits c .moved, fits c .within)
 
-sub-parse-number : tie.Need-sub-parse-number Inv-loop μ-loop Inv-lines μ-lines
-sub-parse-number c = omega (arith, fits c .forward)
+sub-parse-line : tie.Need-sub-parse-line Inv-loop μ-loop Inv-lines μ-lines
+sub-parse-line c = omega (arith, fits c .forward)
 
-part-parse-number-start : tie.Need-part-parse-number-start Inv-loop μ-loop Inv-lines μ-lines
-part-parse-number-start c = omega (arith, fits c .forward)
+part-parse-line-start : tie.Need-part-parse-line-start Inv-loop μ-loop Inv-lines μ-lines
+part-parse-line-start c = omega (arith, fits c .forward)
 
-part-parse-number-end : tie.Need-part-parse-number-end Inv-loop μ-loop Inv-lines μ-lines
-part-parse-number-end c = end-within c
+part-parse-line-end : tie.Need-part-parse-line-end Inv-loop μ-loop Inv-lines μ-lines
+part-parse-line-end c = end-within c
 
-parse-number-requires : tie.Need-parse-number-requires Inv-loop μ-loop Inv-lines μ-lines
-parse-number-requires c κs = omega (arith, fits (c .before) .moved, fits (c .before) .within)
+parse-line-requires : tie.Need-parse-line-requires Inv-loop μ-loop Inv-lines μ-lines
+parse-line-requires c κs = omega (arith, head (c .before) .lines .inv .0, fits (c .before) .moved, fits (c .before) .within)
 
-enum-known-number : tie.Need-enum-known-number Inv-loop μ-loop Inv-lines μ-lines
-enum-known-number c = search needs
+enum-known-outcome : tie.Need-enum-known-outcome Inv-loop μ-loop Inv-lines μ-lines
+enum-known-outcome c = search needs
+
+refuse-names-requires : tie.Need-refuse-names-requires Inv-loop μ-loop Inv-lines μ-lines
+refuse-names-requires c κs = search needs
 
 returns : tie.Need-returns Inv-loop μ-loop Inv-lines μ-lines
 returns c =
-    let p = c .before .before .before in
-    refusal (p .before .before) (line-number _ _ _ _ _ (number-says p ∙ ap told (c .before .number .given .1)))
+    let p = c .before .before .before .before in
+    let k = p .before .before in
+    ap toldNames (c .refuse-names .ensures)
+    ∙ refusal k (line-refused _ _ _ _ _ (shape-says p ∙ ap told (c .before .before .outcome .given .1)))
 
 enum-told-2 : tie.Need-enum-told-2 Inv-loop μ-loop Inv-lines μ-lines
 enum-told-2 c = search needs
 
-add-i : tie.Need-add-i Inv-loop μ-loop Inv-lines μ-lines
-add-i c = omega (arith, room c, end-within (here c))
+add-first : tie.Need-add-first Inv-loop μ-loop Inv-lines μ-lines
+add-first c = omega (arith, room (c .before), end-within (this (c .before)))
 
-sub-if1 : tie.Need-sub-if1 Inv-loop μ-loop Inv-lines μ-lines
-sub-if1 c = room c
+sub-text-of : tie.Need-sub-text-of Inv-loop μ-loop Inv-lines μ-lines
+sub-text-of c = room (c .before)
 
-returns-2 : tie.Need-returns-2 Inv-loop μ-loop Inv-lines μ-lines
-returns-2 c =
-    let e = c .before .before in
-    refusal (here e) (line-long _ _ _ _ _ (passed e) (omega (arith, text-length e, c .if1 .taken)))
+part-text-of-start : tie.Need-part-text-of-start Inv-loop μ-loop Inv-lines μ-lines
+part-text-of-start c = room (c .before)
 
-loop-holds : tie.Need-loop-holds Inv-loop μ-loop Inv-lines μ-lines
-loop-holds c = refl
+part-text-of-end : tie.Need-part-text-of-end Inv-loop μ-loop Inv-lines μ-lines
+part-text-of-end c = end-within (this (c .before))
 
-shared-slice-read-b : tie.Need-shared-slice-read-b Inv-loop μ-loop Inv-lines μ-lines
-shared-slice-read-b c = omega (arith, c .before .loop-test .taken, end-within (found-line (c .before .before)))
+text-of-requires : tie.Need-text-of-requires Inv-loop μ-loop Inv-lines μ-lines
+text-of-requires c κs = search needs
 
-cast-b : tie.Need-cast-b Inv-loop μ-loop Inv-lines μ-lines
-cast-b c = omega (arith, is-byte c)
+mul-texts : tie.Need-mul-texts Inv-loop μ-loop Inv-lines μ-lines
+mul-texts c = omega (arith, c .before .before .if3 .taken)
 
-array-read-if2 : tie.Need-array-read-if2 Inv-loop μ-loop Inv-lines μ-lines
-array-read-if2 c = is-byte c
-
-add-i-2 : tie.Need-add-i-2 Inv-loop μ-loop Inv-lines μ-lines
-add-i-2 c = omega (arith, c .before .before .loop-test .taken, end-within (this (c .before)))
-
-loop-less : tie.Need-loop-less Inv-loop μ-loop Inv-lines μ-lines
-loop-less c = omega (arith, c .before .before .loop-test .taken)
-
-loop-again : tie.Need-loop-again Inv-loop μ-loop Inv-lines μ-lines
-loop-again c =
-    let l = bytes (c .before) in
-    let k = found-line l in
-    l .loop .inv
-    ∙ all-passes legal (body (head k)) (l .loop .i) (end k) (c .before .before .loop-test .taken) (end-within k)
-    (by-table (c .before) (le-leb _ _ (c .if2 .left)))
+array-set-from-texts : tie.Need-array-set-from-texts Inv-loop μ-loop Inv-lines μ-lines
+array-set-from-texts c = omega (arith, c .before .before .if3 .taken)
 
 lines-less : tie.Need-lines-less Inv-loop μ-loop Inv-lines μ-lines
-lines-less c = let k = found-line (c .before) in omega (arith, fits k .moved, fits k .within)
+lines-less c = let k = this (c .before .before .before) in omega (arith, fits k .moved, fits k .within)
 
 lines-again : tie.Need-lines-again Inv-loop μ-loop Inv-lines μ-lines
 lines-again c =
-    let l = c .before in
-    let k = found-line l in (
-      omega (arith, fits k .moved),
-      so-far k ∙ lines-passed _ _ (earlier (head k)) (count (head k)) _ _ (by-bytes l (all-done legal (body (head k)) (l .loop .i) (end k) (c .loop-test .left))),
-      omega (arith, head k .lines .inv .2, ap length (fits k .line)),
+    let e = c .before .before .before in
+    let k = this e in (
+      counts e,
+      onwards e,
+      filled-more (skip (head k)) (names (head k)) (count (head k)) (texts (head k)) _ (line k) _ _ (c .before .before .if3 .taken) (head k .lines .inv .2) (fits k .line)
+          (c .text-of .ensures ∙ ap textOf (sym (part-drop (skip (head k)) (start k) (end k) (body (head k))))),
     )
 
--- the loop was left with the line of an illegal byte
-returns-3 : tie.Need-returns-3 Inv-loop μ-loop Inv-lines μ-lines
-returns-3 c =
-    ⊎-elim (λ w. absurd (c .if3 .taken (w .3)))
-    (λ w.
-    let k : tie.After-known-told Inv-loop μ-loop Inv-lines μ-lines = record { before = record { before = record { before = c .before .before; match = w .0 }; found = w .1 }; known-told = w .2 } in
-    let e : tie.After-enum-told2 Inv-loop μ-loop Inv-lines μ-lines = record { before = record { before = record { before = record { before = k; parse-number-arg = w .3 }; parse-number = w .4 }; match2 = w .5 }; enum-told2 = w .6 } in
-    let l : tie.At-loop Inv-loop μ-loop Inv-lines μ-lines = record { before = record { before = record { before = e; struct-known = w .7 }; if1 = w .8 }; loop = w .9 } in
-    ap (refused 3) (w .14) ∙ illegal-byte (record { before = record { before = record { before = l; loop-test = w .10 }; shared-slice-known2 = w .11 }; if2 = w .12 }))
-    (c .before .match .came)
+lines-less-2 : tie.Need-lines-less-2 Inv-loop μ-loop Inv-lines μ-lines
+lines-less-2 c = let k = this (c .before) in omega (arith, fits k .moved, fits k .within)
 
-parse-count-requires : tie.Need-parse-count-requires Inv-loop μ-loop Inv-lines μ-lines
-parse-count-requires c κs = search needs
+lines-again-2 : tie.Need-lines-again-2 Inv-loop μ-loop Inv-lines μ-lines
+lines-again-2 c =
+    let k = this (c .before) in (
+      counts (c .before),
+      onwards (c .before),
+      filled-past (skip (head k)) (names (head k)) (count (head k)) (texts (head k)) _ (line k) _ (c .if3 .left) (head k .lines .inv .2) (fits k .line),
+    )
 
--- the loop was left with no line left
-returns-4 : tie.Need-returns-4 Inv-loop μ-loop Inv-lines μ-lines
-returns-4 c =
-    c .parse-count .ensures
-    ∙ ⊎-elim (λ w. all-passed (record { before = record { before = c .before .before .before; match = w .0 }; enum-told = w .1 }) (c .before .before .match .count) (w .2))
-    (λ w. absurd (omega (arith, c .before .if3 .left, w .14)))
-    (c .before .before .match .came)
+counted-requires : tie.Need-counted-requires Inv-loop μ-loop Inv-lines μ-lines
+counted-requires c κs = search needs
+
+returns-2 : tie.Need-returns-2 Inv-loop μ-loop Inv-lines μ-lines
+returns-2 c = c .counted .ensures ∙ ends (c .before)
 
 pub parse-name-and-address-spec : {M : Type 1} → statement M
 parse-name-and-address-spec =
@@ -341,33 +397,39 @@ parse-name-and-address-spec =
     μ-lines
     limits-of-requires
     numbering-of-requires
-    skip-of-requires
+    kept-from-requires
     class-table-requires
     lines-holds
-    next-requires
-    enum-known-found
-    enum-told
-    add-count
-    add-line
-    sub-parse-number
-    part-parse-number-start
-    part-parse-number-end
-    parse-number-requires
-    enum-known-number
-    returns
-    enum-told-2
-    add-i
-    sub-if1
-    returns-2
     loop-holds
     shared-slice-read-b
     cast-b
-    array-read-if2
-    add-i-2
+    array-read-if1
+    add-i
     loop-less
     loop-again
+    next-from-requires
+    enum-known-found
+    enum-told
+    add-turn
+    add-line
+    sub-parse-line
+    part-parse-line-start
+    part-parse-line-end
+    parse-line-requires
+    enum-known-outcome
+    refuse-names-requires
+    returns
+    enum-told-2
+    add-first
+    sub-text-of
+    part-text-of-start
+    part-text-of-end
+    text-of-requires
+    mul-texts
+    array-set-from-texts
     lines-less
     lines-again
-    returns-3
-    parse-count-requires
-    returns-4)
+    lines-less-2
+    lines-again-2
+    counted-requires
+    returns-2)

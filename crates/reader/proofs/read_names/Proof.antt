@@ -1,16 +1,31 @@
--- `reader::read_names` meets its contract: names that pass are at most four, and all are filled. Assumes nothing.
-use mathlib.Core.Path.{sym, _∙_, ap}
-use Prim.Native.Nat.{suc}
+-- `reader::read_names` meets its contract: names that pass are those of the record. Assumes nothing.
+use mathlib.Core.Path.{_≡_, sym, _∙_, ap}
+use mathlib.Core.List.{List}
+use Prim.Native.Nat.{ℕ, suc}
 use denote.Ref.{now}
 use lib.ListN.{drop}
 use Rattle.errors.specs.Refusals.{told}
 use Rattle.field_utils.specs.Lines.{lines}
+use Rattle.field_utils.specs.Names.{parseNameAndAddress, NamesRead}
 use Rattle.reader.specs.Options.{withNames}
 use Rattle.reader.specs.Code.{passedHead}
-use Rattle.reader.proofs.Readings.{refusing, accepting, names-few, party-named}
+use Rattle.reader.proofs.Readings.{refusing, accepting, names-reply, party-named}
 use borrow.Author.Needs.{needs}
 use Rattle.reader.proofs.read_names.Statement.{statement}
 use Rattle.reader.proofs.read_names.Tie as tie
+
+-- the lines that are read as names, and what is said of them
+module _ (p : tie.After-parse-name-and-address) where
+  abbrev start : tie.Start
+  start = p .before .before .before
+
+  abbrev names : List (List ℕ)
+  names = lines (drop (start .args .from .at) (now (start .args .body)))
+
+  says : parseNameAndAddress (start .args .option) (suc (start .args .start-idx)) names ≡ told (p .parse-name-and-address .result .outcome)
+  says =
+      sym (names-reply (start .args .option) (suc (start .args .start-idx)) names)
+      ∙ sym (ap (λ (w : NamesRead). w .reply) (p .parse-name-and-address .ensures))
 
 parse-name-and-address-requires : tie.Need-parse-name-and-address-requires
 parse-name-and-address-requires c κs = search needs
@@ -22,18 +37,10 @@ refuse-requires : tie.Need-refuse-requires
 refuse-requires c κs = search needs
 
 returns : tie.Need-returns
-returns c =
-    let p = c .before .before .before .before in
-    refusing _ _ (c .refuse .ensures) (sym (p .parse-name-and-address .ensures) ∙ ap told (c .before .before .outcome .given .1))
+returns c = refusing _ _ (c .refuse .ensures) (says (c .before .before .before .before) ∙ ap told (c .before .before .outcome .given .1))
 
 enum-told : tie.Need-enum-told
 enum-told c = search needs
-
-numbering-of-requires : tie.Need-numbering-of-requires
-numbering-of-requires c κs = search needs
-
-fill-requires : tie.Need-fill-requires
-fill-requires c κs = search needs
 
 text-of-requires : tie.Need-text-of-requires
 text-of-requires c κs = search needs
@@ -49,14 +56,13 @@ accept-requires c κs = search needs
 
 returns-2 : tie.Need-returns-2
 returns-2 c =
-    let f = c .before .before .before .before .before in
-    let p = f .before .before .before .before in
-    let a = p .before .before .before .args in
-    let ls = lines (drop (a .from .at) (now (a .body))) in
-    let passed = sym (p .parse-name-and-address .ensures) ∙ ap told (f .before .before .enum-told .given .1) in
-    accepting (a .option) (withNames (a .option) (suc (a .start-idx)) (passedHead (a .present) (now (a .account))) ls) (c .accept .ensures) passed
-    (party-named (a .option) (suc (a .start-idx)) (passedHead (a .present) (now (a .account))) ls (names-few (a .option) (suc (a .start-idx)) ls passed)
-    (f .before .numbering-of .ensures) (c .before .before .before .text-of .ensures) (c .before .text-of2 .ensures) (f .fill .ensures))
+    let e = c .before .before .before .before .before in
+    let p = e .before .before in
+    let a = start p .args in
+    let passed = says p ∙ ap told (e .enum-told .given .1) in
+    accepting (a .option) (withNames (a .option) (suc (a .start-idx)) (passedHead (a .present) (now (a .account))) (names p)) (c .accept .ensures) passed
+    (party-named (a .option) (suc (a .start-idx)) (passedHead (a .present) (now (a .account))) (names p) passed
+    (c .before .before .before .text-of .ensures) (c .before .text-of2 .ensures) (p .parse-name-and-address .ensures))
 
 pub read-names-spec : {M : Type 1} → statement M
 read-names-spec =
@@ -67,8 +73,6 @@ read-names-spec =
     refuse-requires
     returns
     enum-told
-    numbering-of-requires
-    fill-requires
     text-of-requires
     slice-aggregate-text-of
     text-of-requires-2

@@ -1,35 +1,13 @@
--- `lines::Lines::next` meets its contract: a case of the rule for each answer. Assumes nothing.
-use mathlib.Core.Path.{sym}
-use native.Mathlib.Nat.{add-sub-cancel-left}
+-- `lines::Lines::next` meets its contract: no byte stands between the cursor and itself. Assumes nothing.
 use native.Mathlib.Omega.{arith}
-use denote.Ref.{now}
-use Rattle.field_utils.proofs.Places.{next-done, next-last, next-lf}
-use borrow.Author.Needs.{needs}
 use Rattle.field_utils.proofs.lines.Lines.next.Statement.{statement}
 use Rattle.field_utils.proofs.lines.Lines.next.Tie as tie
 
+next-from-requires : tie.Need-next-from-requires
+next-from-requires c κs = (omega arith, omega arith)
+
 returns : tie.Need-returns
-returns c = sym (next-done (now (c .before .before .args .s)) (c .before .before .args .self .at) (omega arith))
-
-find-lf-requires : tie.Need-find-lf-requires
-find-lf-requires c κs = search needs
-
-returns-2 : tie.Need-returns-2
-returns-2 c =
-    let a = c .before .before .before .before .args in
-    rw (c .before .find-lf .ensures) (sym (next-last (now (a .s)) (a .self .at) (omega arith) (omega arith)))
-
-without-cr-requires : tie.Need-without-cr-requires
-without-cr-requires c κs = search needs
-
-add-t8 : tie.Need-add-t8
-add-t8 c = search needs
-
-returns-3 : tie.Need-returns-3
-returns-3 c =
-    let a = c .before .before .before .before .before .args in
-    rw (c .without-cr .ensures, c .before .before .find-lf .ensures, add-sub-cancel-left) (sym (next-lf (now (a .s)) (a .self .at) (omega arith) (omega arith)))
+returns c = c .next-from .ensures
 
 pub next-spec : {M : Type 1} → statement M
-next-spec =
-    tie.close (tie.spec returns find-lf-requires returns-2 without-cr-requires add-t8 returns-3)
+next-spec = tie.close (tie.spec next-from-requires returns)

@@ -1,25 +1,23 @@
 -- Names by value, filled one line after the other. Assumes nothing.
 use mathlib.Core.Path.{_≡_, refl, sym, _∙_, ap}
 use mathlib.Core.List.{List, [], _∷_, _++_, map}
-use Prim.Native.Nat.{ℕ, zero, suc, _+_, _≤_, _<_, min}
+use Prim.Native.Nat.{ℕ, zero, suc, _+_, _≤_, _<_}
 use native.Mathlib.Numerals.{add-one}
 use native.Mathlib.Omega.{arith}
 use lib.ListN.{length, take, drop, set, length-map, length-drop}
-use lib.Seq.{take-all, length-take-le}
+use lib.Seq.{take-all, take-take, length-take-le}
 use Rattle.party.specs.declared.Text.{Text}
-use Rattle.party.specs.Text.{textOf}
+use Rattle.party.specs.Text.{textOf, fourTexts}
 use Rattle.field_utils.specs.declared.Numbering.{Numbering}
 use Rattle.field_utils.specs.declared.Numbering.the-variants.{Unnumbered, Numbered, InTurn}
-use Rattle.reader.specs.declared.Names.{Names}
-use Rattle.reader.specs.Reading.{fourTexts}
-use Rattle.reader.specs.Options.{kept}
-use Rattle.reader.specs.Code.{keptFrom, namesFrom}
+use Rattle.field_utils.specs.Names.{kept}
+use Rattle.field_utils.specs.Code.{keptFrom}
 
 nil≢cons : {l : List ℕ} {t : List (List ℕ)} → _≡_ {A = List (List ℕ)} [] (l ∷ t) → ⊥
 nil≢cons e = omega (arith, ap length e)
 
 -- one more text, at its place
-pub four-more : (xs : List (List ℕ)) (x : List ℕ) → length xs < 4 → set (fourTexts xs) (length xs) (textOf x) ≡ fourTexts (xs ++ (x ∷ []))
+four-more : (xs : List (List ℕ)) (x : List ℕ) → length xs < 4 → set (fourTexts xs) (length xs) (textOf x) ≡ fourTexts (xs ++ (x ∷ []))
 unfolding fourTexts
 four-more [] x h = refl
 four-more (a ∷ []) x h = refl
@@ -28,7 +26,7 @@ four-more (a ∷ b ∷ c ∷ []) x h = refl
 four-more (a ∷ b ∷ c ∷ d ∷ xs) x h = absurd (omega arith)
 
 -- more than four are the first four
-pub four-first : (xs : List (List ℕ)) → fourTexts (take 4 xs) ≡ fourTexts xs
+four-first : (xs : List (List ℕ)) → fourTexts (take 4 xs) ≡ fourTexts xs
 unfolding fourTexts
 four-first [] = refl
 four-first (a ∷ []) = refl
@@ -52,7 +50,7 @@ drop-next (suc n) (a ∷ ls) l t e = drop-next n ls l t e
 left-some : (n : ℕ) (ls : List (List ℕ)) (l : List ℕ) (t : List (List ℕ)) → drop n ls ≡ l ∷ t → n < length ls
 left-some n ls l t e = omega (arith, length-drop n ls, ap length e)
 
-pub left-none : (n : ℕ) (ls : List (List ℕ)) → drop n ls ≡ [] → length ls ≤ n
+left-none : (n : ℕ) (ls : List (List ℕ)) → drop n ls ≡ [] → length ls ≤ n
 left-none n ls e = omega (arith, length-drop n ls, ap length e)
 
 -- what was filled after n lines of ls, of which later ones are left
@@ -80,29 +78,31 @@ filled-more skip ls n texts later l t x h f e k =
       enough = omega (arith, left-some n ls l t next);
     }
 
+-- a fifth name and later ones change no text
+four-same : (n : ℕ) (xs : List (List ℕ)) → 4 ≤ n → fourTexts (take n xs) ≡ fourTexts (take 4 xs)
+four-same n xs h = sym (four-first (take n xs)) ∙ ap fourTexts (take-take 4 n xs h)
+
+pub filled-past : (skip : ℕ) (ls : List (List ℕ)) (n : ℕ) (texts : List Text) (later : List (List ℕ)) (l : List ℕ) (t : List (List ℕ))
+    → 4 ≤ n → Filled skip ls n texts later → later ≡ l ∷ t → Filled skip ls (n + 1) texts t
+filled-past skip ls n texts later l t h f e =
+    let next : drop n ls ≡ l ∷ t = sym (f .left) ∙ e in
+    record {
+      texts-are = f .texts-are ∙ four-same n (map (drop skip) ls) h ∙ sym (four-same (n + 1) (map (drop skip) ls) (omega arith));
+      left = rw add-one (sym (drop-next n ls l t next));
+      enough = omega (arith, left-some n ls l t next);
+    }
+
 -- the names as they are kept
 kept-from : (f : Numbering) (ls : List (List ℕ)) → map (drop (keptFrom f)) ls ≡ map (kept f) ls
 kept-from Unnumbered ls = refl
 kept-from Numbered ls = refl
 kept-from InTurn ls = refl
 
--- all lines are filled, or the first four
-pub filled-all : (f : Numbering) (skip : ℕ) (ls : List (List ℕ)) (n : ℕ) (texts : List Text) → skip ≡ keptFrom f → Filled skip ls n texts [] → n ≤ 4
-    → _≡_ {A = Names} (record { count = n; texts = texts }) (namesFrom f ls)
-unfolding namesFrom
-filled-all f skip ls n texts s h k =
-    let short = left-none n ls (sym (h .left)) in
-    let count : n ≡ min 4 (length ls) = omega (arith, h .enough) in
-    let are : texts ≡ fourTexts (map (kept f) ls) =
-    h .texts-are ∙ ap fourTexts (take-all n (map (drop skip) ls) (omega (arith, length-map ls (drop skip))) ∙ ap (λ (m : ℕ). map (drop m) ls) s ∙ kept-from f ls) in
-    λ i. record { count = count i; texts = are i }
-
-pub filled-four : (f : Numbering) (skip : ℕ) (ls : List (List ℕ)) (texts : List Text) (later : List (List ℕ)) (n : ℕ) → skip ≡ keptFrom f → Filled skip ls n texts later → n ≡ 4
-    → _≡_ {A = Names} (record { count = n; texts = texts }) (namesFrom f ls)
-unfolding namesFrom
-filled-four f skip ls texts later n s h k =
-    let count : n ≡ min 4 (length ls) = omega (arith, h .enough) in
-    let are : texts ≡ fourTexts (map (kept f) ls) =
-    h .texts-are ∙ ap (λ (m : ℕ). fourTexts (take m (map (drop skip) ls))) k ∙ four-first (map (drop skip) ls)
-    ∙ ap fourTexts (ap (λ (m : ℕ). map (drop m) ls) s ∙ kept-from f ls) in
-    λ i. record { count = count i; texts = are i }
+-- all lines are filled
+pub filled-all : (f : Numbering) (skip : ℕ) (ls : List (List ℕ)) (n : ℕ) (texts : List Text) → skip ≡ keptFrom f → Filled skip ls n texts []
+    → (n ≡ length ls) × (texts ≡ fourTexts (map (kept f) ls))
+filled-all f skip ls n texts s h =
+    let short = left-none n ls (sym (h .left)) in (
+      omega (arith, h .enough),
+      h .texts-are ∙ ap fourTexts (take-all n (map (drop skip) ls) (omega (arith, length-map ls (drop skip))) ∙ ap (λ (m : ℕ). map (drop m) ls) s ∙ kept-from f ls),
+    )

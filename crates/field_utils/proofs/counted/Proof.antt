@@ -1,0 +1,64 @@
+-- `counted` meets its contract: an illegal byte refuses the names, and else their count says. Assumes nothing.
+use mathlib.Core.Path.{_≡_, sym, _∙_, ap}
+use Rattle.errors.specs.Refusals.{Reply, told}
+use Rattle.field_utils.specs.Names.{NamesRead, toldNames}
+use Rattle.field_utils.specs.Code.{parseRest, givenNames}
+use Rattle.field_utils.proofs.NameLines.{rest-illegal, rest-counted}
+use borrow.Author.Needs.{needs}
+use Rattle.field_utils.proofs.counted.Statement.{statement}
+use Rattle.field_utils.proofs.counted.Tie as tie
+
+-- what the reply after the lines gives
+module _ (t : tie.Start) where
+  abbrev gives : Reply → NamesRead
+  gives r = givenNames r (t .args .count) (t .args .texts)
+
+  abbrev rest : Reply
+  rest = parseRest (t .args .illegal) (t .args .most) (t .args .count)
+
+-- what the count says, with no illegal byte
+by-count : (c : tie.After-parse-count) → rest (c .before .before) ≡ told (c .parse-count .result)
+by-count c = let a = c .before .before .args in rest-counted (a .illegal) (a .most) (a .count) (c .before .if1 .left) ∙ sym (c .parse-count .ensures)
+
+refuse-names-requires : tie.Need-refuse-names-requires
+refuse-names-requires c κs = search needs
+
+returns : tie.Need-returns
+returns c =
+    let t = c .before .before in
+    ap toldNames (c .refuse-names .ensures) ∙ sym (ap (gives t) (rest-illegal (t .args .illegal) (t .args .most) (t .args .count) (c .before .if1 .taken)))
+
+parse-count-requires : tie.Need-parse-count-requires
+parse-count-requires c κs = search needs
+
+enum-known-outcome : tie.Need-enum-known-outcome
+enum-known-outcome c = search needs
+
+refuse-names-requires-2 : tie.Need-refuse-names-requires-2
+refuse-names-requires-2 c κs = search needs
+
+returns-2 : tie.Need-returns-2
+returns-2 c =
+    let p = c .before .before .before .before in
+    ap toldNames (c .refuse-names2 .ensures) ∙ sym (ap (gives (p .before .before)) (by-count p ∙ ap told (c .before .before .outcome .given .1)))
+
+enum-told : tie.Need-enum-told
+enum-told c = search needs
+
+returns-3 : tie.Need-returns-3
+returns-3 c =
+    let p = c .before .before in
+    sym (ap (gives (p .before .before)) (by-count p ∙ ap told (c .enum-told .given .1)))
+
+pub counted-spec : {M : Type 1} → statement M
+counted-spec =
+    tie.close
+    (tie.spec
+    refuse-names-requires
+    returns
+    parse-count-requires
+    enum-known-outcome
+    refuse-names-requires-2
+    returns-2
+    enum-told
+    returns-3)

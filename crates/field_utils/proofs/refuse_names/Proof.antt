@@ -1,0 +1,12 @@
+-- `refuse_names` meets its contract: four empty texts are those of no names. Assumes nothing.
+use mathlib.Core.Path.{refl}
+use Rattle.party.specs.Text.{padded, textOf, fourTexts}
+use Rattle.field_utils.proofs.refuse_names.Statement.{statement}
+use Rattle.field_utils.proofs.refuse_names.Tie as tie
+
+returns : tie.Need-returns
+unfolding fourTexts padded textOf
+returns c = refl
+
+pub refuse-names-spec : {M : Type 1} → statement M
+refuse-names-spec = tie.close (tie.spec returns)

@@ -1,0 +1,30 @@
+-- Working forms of the private functions' contracts.
+use Prim.Native.Nat.{ℕ}
+use mathlib.Core.List.{List, []}
+use lib.Dec.{leb, eqb}
+use lib.ListN.{length, drop}
+use Rattle.errors.specs.Refusals.{Reply, accepted, refused, must, _then_}
+use Rattle.party.specs.declared.Text.{Text}
+use Rattle.party.specs.Text.{fourTexts}
+use Rattle.field_utils.specs.declared.Numbering.{Numbering}
+use Rattle.field_utils.specs.declared.Numbering.the-variants.{Unnumbered, Numbered, InTurn}
+use Rattle.field_utils.specs.Names.{skipOf, parseNumber, parseCount, NamesRead}
+
+-- how many bytes of a line of names are not kept
+abbrev pub keptFrom : Numbering → ℕ
+keptFrom Unnumbered = 0
+keptFrom Numbered = 2
+keptFrom InTurn = 0
+
+-- a line of names before its bytes: its number, then the length of its text
+abbrev pub parseShape : Numbering → ℕ → ℕ → ℕ → List ℕ → Reply
+parseShape f longest n k l = parseNumber f n k l then must (leb (length (drop (skipOf f) l)) longest) 4 n
+
+-- after the lines: the one of an illegal byte, or 0, then the count
+abbrev pub parseRest : ℕ → ℕ → ℕ → Reply
+parseRest illegal most count = must (eqb illegal 0) 3 illegal then parseCount most count
+
+-- a count and texts, or none where the names are refused
+abbrev pub givenNames : Reply → ℕ → List Text → NamesRead
+givenNames accepted count texts = record { reply = accepted; count = count; texts = texts }
+givenNames (refused k n) count texts = record { reply = refused k n; count = 0; texts = fourTexts [] }
