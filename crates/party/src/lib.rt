@@ -76,7 +76,7 @@ const LIMITS: [Limits; 11] = [
         least: 1,
         most: 2048,
         shortest: 0,
-        longest: 34, // 50A
+        longest: 34,
         bic: 11,
         names: 0,
         name: 0,

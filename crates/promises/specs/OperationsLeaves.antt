@@ -8,7 +8,7 @@ use native.Mathlib.Omega.{arith}
 use lib.ListN.{length, drop, getD, replicate}
 use Rattle.errors.specs.declared.ParseError.the-variants.{Position}
 use Rattle.errors.specs.Refusals.{accepted, refused, refusalAt, refusalOf}
-use Rattle.party.specs.declared.PartyOption.the-variants.{Field50F, Field50K, Field59NoOption, Field59F}
+use Rattle.party.specs.declared.PartyOption.the-variants.{Field50A, Field50F, Field50K, Field59NoOption, Field59F}
 use Rattle.party.specs.declared.Party.{Party}
 use Rattle.party.specs.Limits.{limitsOf, placeOf}
 use Rattle.party.specs.Text.{padded, textOf}
@@ -46,6 +46,8 @@ pub record PartyOperations : Type 0 where
   pub index-of-sorts : placeOf Field50F ≡ 2
   -- counts the options of 59 from 0
   pub index-of-starts-anew : placeOf Field59NoOption ≡ 8
+  -- lets an identifier of 50A have 35 bytes
+  pub limits-of-takes-35-in-50A : limitsOf Field50A .longest ≡ 34
   -- lets a text of 50F have 35 bytes, as a name of 50K has
   pub limits-of-takes-35 : limitsOf Field50F .name ≡ 33
   -- promises nothing: but a record of three names, or with a text of 37 bytes, does not have what it promises
@@ -67,6 +69,7 @@ unfolding padded textOf said
 party-operations = record {
   index-of-sorts = refl;
   index-of-starts-anew = refl;
+  limits-of-takes-35-in-50A = refl;
   limits-of-takes-35 = refl;
   sized-takes-three = λ p e h. let z : _≡_ {A = ℕ} 3 4 = sym e ∙ h .size in omega arith;
   sized-takes-37 = λ p e h. let z : _≡_ {A = ℕ} 37 38 = sym e ∙ h .account .size in omega arith;
@@ -130,6 +133,8 @@ found s from b = from + upto b (drop from s)
 pub record FieldUtilsOperations : Type 0 where
   -- begins after the place
   pub find-skips-the-start : found (bytes "a//") 1 47 ≡ 1
+  -- looks at every other byte
+  pub find-skips-bytes : found (bytes "ab") 0 98 ≡ 1
   -- gives the LF after the next
   pub find-lf-gives-the-second : found (bytes "a\nb\n") 0 10 ≡ 1
   -- gives 0 where there is none
@@ -150,6 +155,8 @@ pub record FieldUtilsOperations : Type 0 where
   pub is-numbered-line-takes-a-letter : isNumbered (bytes "A/B") ≡ false
   -- asks for a text after the slash
   pub is-numbered-line-asks-for-text : isNumbered (bytes "1/") ≡ true
+  -- takes `//` with nothing after it
+  pub parse-remaining-takes-nothing : identifierReply 34 1 (bytes "/") ≡ refused 2 1
   -- takes any byte in a code
   pub parse-remaining-takes-a-sign : identifierReply 34 1 (bytes "A-/1") ≡ refused 2 1
   -- asks 50F's digits to be in turn
@@ -165,6 +172,7 @@ pub field-utils-operations : FieldUtilsOperations
 unfolding letter digit alphanumeric signs legal parseSwiftChars parseAccount upto starts withoutCr lineOf nextLine white trimmedStart keep trimmedEnd trimmed isNumbered secondSlash identifierReply
 field-utils-operations = record {
   find-skips-the-start = refl;
+  find-skips-bytes = refl;
   find-lf-gives-the-second = refl;
   find-lf-gives-0 = refl;
   next-drops-all-crs = refl;
@@ -175,6 +183,7 @@ field-utils-operations = record {
   starts-with-slash-asks-for-more = refl;
   is-numbered-line-takes-a-letter = refl;
   is-numbered-line-asks-for-text = refl;
+  parse-remaining-takes-nothing = refl;
   parse-remaining-takes-a-sign = refl;
   numbering-of-counts-50F = refl;
   numbering-of-leaves-59F = refl;
