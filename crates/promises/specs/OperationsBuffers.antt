@@ -123,6 +123,8 @@ pub record ExportsOperations : Type 0 where
   pub party-write-tests-space-first : partyWrite [] [] .code ≡ 22 * 65536
   -- gives 0 where it accepts
   pub party-write-gives-0 : partyWrite flatA (replicate 6 0) ≡ record { code = 6; bytes = bytes ":50K:A" }
+  -- does not tell the end from a record
+  pub page-read-hides-the-end : pageRead (bytes "-\n") 0 lent .code ≡ 65536 + 2
   -- gives the next position, and not how far it is
   pub page-read-gives-the-position : pageRead (bytes ":50K:A\n-\n") 7 lent .code ≡ 65536 + 2
   -- files a record for bytes that are none
@@ -145,6 +147,7 @@ exports-operations = record {
   party-parse-with-variant-detects = refl;
   party-write-tests-space-first = refl;
   party-write-gives-0 = refl;
+  page-read-hides-the-end = refl;
   page-read-gives-the-position = refl;
   page-add-takes-none = refl;
   page-add-gives-the-length = refl;
