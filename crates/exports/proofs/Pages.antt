@@ -9,7 +9,6 @@ use native.Mathlib.Omega.{arith}
 use borrow.Author.Tests.{leb-true, le-leb, lt-leb}
 use lib.Dec.{leb}
 use lib.ListN.{length, take, drop}
-use Rattle.errors.specs.declared.Outcome.{Outcome}
 use Rattle.errors.specs.declared.Outcome.the-variants.{Accepted}
 use Rattle.errors.specs.Refusals.{Reply, accepted, refused, told, must, _then_}
 use Rattle.errors.proofs.Replies.{must-held, then-second}
@@ -27,7 +26,7 @@ use Rattle.pages.specs.Pages.{pageMost, lineAt, opens, endsPage, runs, onward, 
 use Rattle.pages.specs.Filing.{isCarried, writable, hasSpace, withLf, endLine, Filed, filing, recordReply, add, close, toldFiled}
 use Rattle.pages.proofs.Fold.{reply-space}
 use Rattle.pages.proofs.Moves.{stays-or-moves}
-use Rattle.exports.specs.Exports.{Called, codeOf, storing, given, lineOf, lengthOr, readCode, readInto, pageRead, filed}
+use Rattle.exports.specs.Exports.{Called, codeOf, storing, given, lineOf, lengthOr, readInto, pageRead, filed}
 use Rattle.exports.proofs.LineBounds.{Named, must-line, must-then, read-line, line-most}
 use Rattle.exports.proofs.Answers.{Lined}
 

@@ -11,7 +11,7 @@ use Rattle.errors.proofs.Replies.{must-held, then-first, then-second}
 use Rattle.party.specs.declared.Party.{Party}
 use Rattle.party.specs.Party.{said}
 use Rattle.writer.specs.Writing.{writtenField, put}
-use Rattle.pages.specs.Pages.{pageMost, PageRead, readAt}
+use Rattle.pages.specs.Pages.{pageMost, readAt}
 use Rattle.pages.specs.Filing.{writable, hasSpace, withLf, endLine, Filed, filing, recordReply, add, close}
 use Rattle.pages.proofs.Filings.{close-filed}
 use Rattle.writer.proofs.Puts.{put-length}

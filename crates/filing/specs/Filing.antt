@@ -9,9 +9,8 @@ use lib.ListN.{length}
 use Rattle.errors.specs.Refusals.{Reply, accepted, refused, told}
 use Rattle.party.specs.declared.Party.{Party}
 use Rattle.party.specs.Party.{said}
-use Rattle.reader.specs.Reading.{Reading}
 use Rattle.pages.specs.Pages.{PageRead, readAt}
-use Rattle.pages.specs.Filing.{Filed, add, close}
+use Rattle.pages.specs.Filing.{add, close}
 use Rattle.filing.specs.declared.Step.{Step as StepAt}
 
 -- what a step gives: whether the page ended; the reply of the read, or of the add; the position after on the page that is filled; where to

@@ -11,7 +11,6 @@ use mathlib.Core.Logic.{_⊎_, inl, inr}
 use Rattle.errors.specs.Refusals.{refused}
 use Rattle.party.specs.declared.PartyOption.{PartyOption}
 use Rattle.party.specs.Limits.{options}
-use Rattle.reader.specs.Reading.{Reading}
 use Rattle.reader.specs.Options.{read}
 use Rattle.pages.specs.declared.Place.{Place}
 use Rattle.pages.specs.declared.Place.the-variants.{TooLong, NoPlace, AtLength, Opening, End, Stray}

@@ -7,7 +7,7 @@ use native.Mathlib.Omega.{arith}
 use lib.ListN.{length}
 use denote.Ref.{now}
 use borrow.Author.Needs.{needs}
-use Rattle.filing.specs.Filing.{Closable, filling, fileFrom, fileAll}
+use Rattle.filing.specs.Filing.{Closable, fileFrom, fileAll}
 use Rattle.filing.proofs.Closing.{stays-closable, empty-closable}
 use Rattle.filing.proofs.Whole.{ends, stops, goes-on, from-start}
 use Rattle.file_page.proofs.file_all.Statement.{statement}

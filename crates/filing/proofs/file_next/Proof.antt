@@ -1,5 +1,5 @@
 -- `filing::file_next` meets its contract, by what the read gives. Assumes nothing.
-use mathlib.Core.Path.{refl, sym, _∙_}
+use mathlib.Core.Path.{refl}
 use denote.Ref.{now}
 use borrow.Author.Needs.{needs}
 use Rattle.errors.specs.Refusals.{told}
