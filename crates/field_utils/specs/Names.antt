@@ -1,4 +1,4 @@
--- Names (document 01, field_utils.rs and 'Checks in this order' of field50.rs). n is a body line, k its place among the names from 1.
+-- Names (document 01, field50.rs, 'Checks in this order', and field59.rs). n is a body line, k its place among the names from 1.
 use Prim.Native.Nat.{ℕ, suc, _+_}
 use mathlib.Core.List.{List, [], _∷_, map}
 use lib.Dec.{leb, eqb}

@@ -19,7 +19,7 @@ use Rattle.reader.specs.declared.Layout.{Layout}
 use Rattle.reader.specs.declared.Layout.the-variants.{BicOnly, TextOnly, ByLines}
 use Rattle.reader.specs.Reading.{Reading, giving, Found, partyOf}
 
--- what the first line is to an option; 50C and 50L have no lines, and are not asked
+-- what the first line is to an option; 50C and 50L, which are not read by lines, stand with 50
 abbrev pub firstOf : PartyOption → First
 firstOf Field50NoOption = Name
 firstOf Field50A = Identified
