@@ -9,15 +9,6 @@ use borrow.Author.Needs.{needs}
 use Rattle.choices.proofs.after_first.Statement.{statement}
 use Rattle.choices.proofs.after_first.Tie as tie
 
-next-requires : tie.Need-next-requires
-next-requires c κs = search needs
-
-enum-known-found : tie.Need-enum-known-found
-enum-known-found c = search needs
-
-enum-told : tie.Need-enum-told
-enum-told c = search needs
-
 returns : tie.Need-returns
 returns c =
     let n = c .before .before in
@@ -30,4 +21,4 @@ returns-2 c =
     sym (ap (drop {A = List ℕ} 1) (found (now (n .before .before .args .body)) 0 (n .next .ensures) (c .before .found .given .1) .line))
 
 pub after-first-spec : {M : Type 1} → statement M
-after-first-spec = tie.close (tie.spec next-requires enum-known-found enum-told returns returns-2)
+after-first-spec = tie.close (tie.spec (λ c κs. search needs) (λ c. search needs) (λ c. search needs) returns returns-2)

@@ -28,15 +28,6 @@ fits c =
 loop-holds : tie.Need-loop-holds Inv-loop μ-loop
 loop-holds c = refl
 
-next-requires : tie.Need-next-requires Inv-loop μ-loop
-next-requires c κs = search needs
-
-enum-known-found : tie.Need-enum-known-found Inv-loop μ-loop
-enum-known-found c = search needs
-
-enum-told : tie.Need-enum-told Inv-loop μ-loop
-enum-told c = search needs
-
 returns : tie.Need-returns Inv-loop μ-loop
 returns c =
     let n = c .before .before in
@@ -52,9 +43,6 @@ part-is-numbered-line-start c = omega (arith, fits c .forward)
 
 part-is-numbered-line-end : tie.Need-part-is-numbered-line-end Inv-loop μ-loop
 part-is-numbered-line-end c = omega (arith, fits c .before, fits c .within)
-
-is-numbered-line-requires : tie.Need-is-numbered-line-requires Inv-loop μ-loop
-is-numbered-line-requires c κs = search needs
 
 returns-2 : tie.Need-returns-2 Inv-loop μ-loop
 returns-2 c =
@@ -80,14 +68,14 @@ any-numbered-spec =
     Inv-loop
     μ-loop
     loop-holds
-    next-requires
-    enum-known-found
-    enum-told
+    (λ c κs. search needs)
+    (λ c. search needs)
+    (λ c. search needs)
     returns
     sub-is-numbered-line
     part-is-numbered-line-start
     part-is-numbered-line-end
-    is-numbered-line-requires
+    (λ c κs. search needs)
     returns-2
     loop-less
     loop-again)

@@ -12,19 +12,10 @@ use borrow.Author.Needs.{needs}
 use Rattle.choices.proofs.attempt.Statement.{statement}
 use Rattle.choices.proofs.attempt.Tie as tie
 
-refuse-requires : tie.Need-refuse-requires
-refuse-requires c κs = search needs
-
 returns : tie.Need-returns
 returns c =
     let a = c .before .before .before .args in
     ap toldAnswer (c .refuse .ensures) ∙ sym (ap (λ (t : Bool). firstThat (when t (a .option)) (now (a .body))) (not-true (a .wanted) (c .before .if1 .taken)) ∙ first-none (now (a .body)))
-
-read-requires : tie.Need-read-requires
-read-requires c κs = search needs
-
-enum-told : tie.Need-enum-told
-enum-told c = search needs
 
 returns-2 : tie.Need-returns-2
 returns-2 c =
@@ -34,12 +25,6 @@ returns-2 c =
     ∙ sym
     (ap (λ (t : Bool). firstThat (when t (a .option)) (now (a .body))) (not-false (a .wanted) (r .before .if1 .left))
     ∙ first-won (a .option) [] (now (a .body)) (sym (ap (λ (w : Reading). w .reply) (r .read .ensures)) ∙ ap told (c .enum-told .given .1)))
-
-enum-told-2 : tie.Need-enum-told-2
-enum-told-2 c = search needs
-
-refuse-requires-2 : tie.Need-refuse-requires-2
-refuse-requires-2 c κs = search needs
 
 returns-3 : tie.Need-returns-3
 returns-3 c =
@@ -55,11 +40,11 @@ pub attempt-spec : {M : Type 1} → statement M
 attempt-spec =
     tie.close
     (tie.spec
-    refuse-requires
+    (λ c κs. search needs)
     returns
-    read-requires
-    enum-told
+    (λ c κs. search needs)
+    (λ c. search needs)
     returns-2
-    enum-told-2
-    refuse-requires-2
+    (λ c. search needs)
+    (λ c κs. search needs)
     returns-3)

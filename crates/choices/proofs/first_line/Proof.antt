@@ -19,18 +19,6 @@ fits c =
     let a = c .before .before .before .before .before .args in
     found (now (a .body)) (a .from .at) (c .before .before .before .next .ensures) (c .before .found .given .1)
 
-next-requires : tie.Need-next-requires
-next-requires c κs = search needs
-
-enum-known-found : tie.Need-enum-known-found
-enum-known-found c = search needs
-
-enum-told : tie.Need-enum-told
-enum-told c = search needs
-
-slice-aggregate-result : tie.Need-slice-aggregate-result
-slice-aggregate-result c = search needs
-
 returns : tie.Need-returns
 returns c =
     let n = c .before .before .before in
@@ -57,10 +45,10 @@ pub first-line-spec : {M : Type 1} → statement M
 first-line-spec =
     tie.close
     (tie.spec
-    next-requires
-    enum-known-found
-    enum-told
-    slice-aggregate-result
+    (λ c κs. search needs)
+    (λ c. search needs)
+    (λ c. search needs)
+    (λ c. search needs)
     returns
     sub-result
     part-result-start

@@ -18,26 +18,11 @@ lost-first c =
     let a = r .before .before .args in
     try-lost (a .a) (a .first) (when (a .b) (a .second) ++ when (a .c) (a .third)) (now (a .body)) (sym (ap (λ (w : Reading). w .reply) (r .attempt .ensures)) ∙ ap told (c .enum-told2 .given .1))
 
-attempt-requires : tie.Need-attempt-requires
-attempt-requires c κs = search needs
-
-enum-told : tie.Need-enum-told
-enum-told c = search needs
-
 returns : tie.Need-returns
 returns c =
     let r = c .before .before in
     let a = r .before .before .args in
     r .attempt .ensures ∙ sym (try-won (a .a) (a .first) (when (a .b) (a .second) ++ when (a .c) (a .third)) (now (a .body)) (sym (ap (λ (w : Reading). w .reply) (r .attempt .ensures)) ∙ ap told (c .enum-told .given .1)))
-
-enum-told-2 : tie.Need-enum-told-2
-enum-told-2 c = search needs
-
-attempt-requires-2 : tie.Need-attempt-requires-2
-attempt-requires-2 c κs = search needs
-
-enum-told-3 : tie.Need-enum-told-3
-enum-told-3 c = search needs
 
 returns-2 : tie.Need-returns-2
 returns-2 c =
@@ -45,12 +30,6 @@ returns-2 c =
     let a = r .before .before .before .before .before .args in
     r .attempt2 .ensures
     ∙ sym (lost-first (r .before) ∙ try-won (a .b) (a .second) (when (a .c) (a .third)) (now (a .body)) (sym (ap (λ (w : Reading). w .reply) (r .attempt2 .ensures)) ∙ ap told (c .enum-told3 .given .1)))
-
-enum-told-4 : tie.Need-enum-told-4
-enum-told-4 c = search needs
-
-attempt-requires-3 : tie.Need-attempt-requires-3
-attempt-requires-3 c κs = search needs
 
 returns-3 : tie.Need-returns-3
 returns-3 c =
@@ -63,13 +42,13 @@ pub first-that-spec : {M : Type 1} → statement M
 first-that-spec =
     tie.close
     (tie.spec
-    attempt-requires
-    enum-told
+    (λ c κs. search needs)
+    (λ c. search needs)
     returns
-    enum-told-2
-    attempt-requires-2
-    enum-told-3
+    (λ c. search needs)
+    (λ c κs. search needs)
+    (λ c. search needs)
     returns-2
-    enum-told-4
-    attempt-requires-3
+    (λ c. search needs)
+    (λ c κs. search needs)
     returns-3)

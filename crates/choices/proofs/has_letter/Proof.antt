@@ -6,11 +6,8 @@ use borrow.Author.Needs.{needs}
 use Rattle.choices.proofs.has_letter.Statement.{statement}
 use Rattle.choices.proofs.has_letter.Tie as tie
 
-limits-of-requires : tie.Need-limits-of-requires
-limits-of-requires c κs = search needs
-
 returns : tie.Need-returns
 returns c = ap (λ (m : Limits). eqb (c .before .before .args .letter) (m .letter)) (c .before .limits-of .ensures)
 
 pub has-letter-spec : {M : Type 1} → statement M
-has-letter-spec = tie.close (tie.spec limits-of-requires returns)
+has-letter-spec = tie.close (tie.spec (λ c κs. search needs) returns)

@@ -7,18 +7,12 @@ use borrow.Author.Needs.{needs}
 use Rattle.choices.proofs.is_bic_like.Statement.{statement}
 use Rattle.choices.proofs.is_bic_like.Tie as tie
 
-is-bic-length-requires : tie.Need-is-bic-length-requires
-is-bic-length-requires c κs = search needs
-
 returns : tie.Need-returns
 returns c = sym (bic-other (now (c .before .before .before .args .text)) (sym (c .before .is-bic-length .ensures) ∙ not-true _ (c .if1 .taken)))
-
-all-alphanumeric-requires : tie.Need-all-alphanumeric-requires
-all-alphanumeric-requires c κs = search needs
 
 returns-2 : tie.Need-returns-2
 returns-2 c = c .all-alphanumeric .ensures ∙ sym (bic-letters (now (c .before .before .before .before .args .text)) (sym (c .before .before .is-bic-length .ensures) ∙ not-false _ (c .before .if1 .left)))
 
 pub is-bic-like-spec : {M : Type 1} → statement M
 is-bic-like-spec =
-    tie.close (tie.spec is-bic-length-requires returns all-alphanumeric-requires returns-2)
+    tie.close (tie.spec (λ c κs. search needs) returns (λ c κs. search needs) returns-2)

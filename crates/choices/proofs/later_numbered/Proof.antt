@@ -5,14 +5,8 @@ use borrow.Author.Needs.{needs}
 use Rattle.choices.proofs.later_numbered.Statement.{statement}
 use Rattle.choices.proofs.later_numbered.Tie as tie
 
-after-first-requires : tie.Need-after-first-requires
-after-first-requires c κs = search needs
-
-any-numbered-requires : tie.Need-any-numbered-requires
-any-numbered-requires c κs = search needs
-
 returns : tie.Need-returns
 returns c = c .any-numbered .ensures ∙ ap anyNumbered (c .before .after-first .ensures)
 
 pub later-numbered-spec : {M : Type 1} → statement M
-later-numbered-spec = tie.close (tie.spec after-first-requires any-numbered-requires returns)
+later-numbered-spec = tie.close (tie.spec (λ c κs. search needs) (λ c κs. search needs) returns)

@@ -27,38 +27,20 @@ past-second c =
     let a = c .before .before .before .before .before .before .before .args in
     past-first (c .before .before) ∙ pick-next (a .letter) (a .second) (a .third ∷ []) (sym (c .before .has-letter2 .ensures) ∙ c .if2 .left)
 
-parse-letter-requires : tie.Need-parse-letter-requires
-parse-letter-requires c κs = search needs
-
-enum-told : tie.Need-enum-told
-enum-told c = search needs
-
 returns : tie.Need-returns
 returns c =
     let a = c .before .before .before .args in
     sym (variant-refused (a .letter) (a .first ∷ a .second ∷ a .third ∷ []) (sym (c .before .before .parse-letter .ensures) ∙ ap told (c .enum-told .given .1)))
-
-enum-told-2 : tie.Need-enum-told-2
-enum-told-2 c = search needs
-
-has-letter-requires : tie.Need-has-letter-requires
-has-letter-requires c κs = search needs
 
 returns-2 : tie.Need-returns-2
 returns-2 c =
     let a = c .before .before .before .before .before .args in
     sym (passed (c .before .before) ∙ pick-here (a .letter) (a .first) (a .second ∷ a .third ∷ []) (sym (c .before .has-letter .ensures) ∙ c .if1 .taken))
 
-has-letter-requires-2 : tie.Need-has-letter-requires-2
-has-letter-requires-2 c κs = search needs
-
 returns-3 : tie.Need-returns-3
 returns-3 c =
     let a = c .before .before .before .before .before .before .before .args in
     sym (past-first (c .before .before) ∙ pick-here (a .letter) (a .second) (a .third ∷ []) (sym (c .before .has-letter2 .ensures) ∙ c .if2 .taken))
-
-has-letter-requires-3 : tie.Need-has-letter-requires-3
-has-letter-requires-3 c κs = search needs
 
 returns-4 : tie.Need-returns-4
 returns-4 c =
@@ -74,14 +56,14 @@ pub pick-variant-spec : {M : Type 1} → statement M
 pick-variant-spec =
     tie.close
     (tie.spec
-    parse-letter-requires
-    enum-told
+    (λ c κs. search needs)
+    (λ c. search needs)
     returns
-    enum-told-2
-    has-letter-requires
+    (λ c. search needs)
+    (λ c κs. search needs)
     returns-2
-    has-letter-requires-2
+    (λ c κs. search needs)
     returns-3
-    has-letter-requires-3
+    (λ c κs. search needs)
     returns-4
     returns-5)

@@ -5,14 +5,8 @@ use borrow.Author.Needs.{needs}
 use Rattle.choices.proofs.second_line.Statement.{statement}
 use Rattle.choices.proofs.second_line.Tie as tie
 
-after-first-requires : tie.Need-after-first-requires
-after-first-requires c κs = search needs
-
-first-line-requires : tie.Need-first-line-requires
-first-line-requires c κs = search needs
-
 returns : tie.Need-returns
 returns c = c .first-line .ensures ∙ ap firstLine (c .before .after-first .ensures)
 
 pub second-line-spec : {M : Type 1} → statement M
-second-line-spec = tie.close (tie.spec after-first-requires first-line-requires returns)
+second-line-spec = tie.close (tie.spec (λ c κs. search needs) (λ c κs. search needs) returns)

@@ -8,15 +8,6 @@ use Rattle.errors.specs.declared.Refusal.{Refusal}
 use Rattle.exports.proofs.code.Statement.{statement}
 use Rattle.exports.proofs.code.Tie as tie
 
-refusal-requires : tie.Need-refusal-requires
-refusal-requires c κs = search needs
-
-cast-result : tie.Need-cast-result
-cast-result c = search needs
-
-mul-result : tie.Need-mul-result
-mul-result c = search needs
-
 cast-result-2 : tie.Need-cast-result-2
 cast-result-2 c =
     let small : c .before .before .refusal .result .line ≤ 2048 = rw (c .before .before .refusal .ensures) (c .before .before .before .pre) in
@@ -32,4 +23,4 @@ returns c = ap (λ (r : Refusal). r .number * 65536 + r .line) (c .before .befor
 
 pub code-spec : {M : Type 1} → statement M
 code-spec =
-    tie.close (tie.spec refusal-requires cast-result mul-result cast-result-2 add-result returns)
+    tie.close (tie.spec (λ c κs. search needs) (λ c. search needs) (λ c. search needs) cast-result-2 add-result returns)

@@ -19,9 +19,6 @@ returns-2 c =
     let a = c .before .before .before .args in
     unknown (a .known) (toldAnswer (a .answer)) (a .out .now) (c .before .if1 .left) (not-true _ (c .if2 .taken))
 
-enum-known-outcome : tie.Need-enum-known-outcome
-enum-known-outcome c = search needs
-
 code-requires : tie.Need-code-requires
 code-requires c κs = rw (c .before .outcome .given .1) at (c .before .before .before .before .before .before .pre)
 
@@ -33,15 +30,6 @@ returns-3 c =
     rw (c .code .ensures)
     (refuses (a .known) (toldAnswer (a .answer)) (a .out .now) (tested .before .if1 .left) _ _ (not-false _ (tested .if2 .left))
     (ap told (told-it .outcome .given .1)))
-
-enum-told : tie.Need-enum-told
-enum-told c = search needs
-
-store-requires : tie.Need-store-requires
-store-requires c κs = search needs
-
-same-length : tie.Need-same-length
-same-length c = search needs
 
 returns-4 : tie.Need-returns-4
 returns-4 c =
@@ -59,10 +47,10 @@ give-spec =
     (tie.spec
     returns
     returns-2
-    enum-known-outcome
+    (λ c. search needs)
     code-requires
     returns-3
-    enum-told
-    store-requires
-    same-length
+    (λ c. search needs)
+    (λ c κs. search needs)
+    (λ c. search needs)
     returns-4)

@@ -20,21 +20,12 @@ added c =
     let a = l .before .before .before .args in
     c .add .ensures ∙ ap (λ (x : Loaded). add (a .buf .now) (a .position) (said (x .party))) (l .load .ensures)
 
-load-requires : tie.Need-load-requires
-load-requires c κs = search needs
-
-add-requires : tie.Need-add-requires
-add-requires c κs = search needs
-
 filed-requires : tie.Need-filed-requires
 filed-requires c κs =
     let f = c .before .before in
     let a = f .before .before .before .before .before .before .args in
     let s = said (unflatten (a .«record» .now) .party) in
     filed-asked (add (a .buf .now) (a .position) s) (add-numbered (a .buf .now) (a .position) s) (f .add .result) (f .add .last .1 .0) (added f)
-
-same-length : tie.Need-same-length
-same-length c = search needs
 
 returns : tie.Need-returns
 returns c =
@@ -44,4 +35,4 @@ returns c =
     filed-told (add (a .buf .now) (a .position) s) (add-numbered (a .buf .now) (a .position) s) (f .add .result) (f .add .last .1 .0) (added f) (c .filed .result) (c .filed .ensures)
 
 pub page-add-spec : {M : Type 1} → statement M
-page-add-spec = tie.close (tie.spec load-requires add-requires filed-requires same-length returns)
+page-add-spec = tie.close (tie.spec (λ c κs. search needs) (λ c κs. search needs) filed-requires (λ c. search needs) returns)

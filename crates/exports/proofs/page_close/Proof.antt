@@ -6,17 +6,11 @@ use Rattle.exports.proofs.Pages.{close-numbered, filed-asked, filed-tol
 use Rattle.exports.proofs.page_close.Statement.{statement}
 use Rattle.exports.proofs.page_close.Tie as tie
 
-close-requires : tie.Need-close-requires
-close-requires c κs = search needs
-
 filed-requires : tie.Need-filed-requires
 filed-requires c κs =
     let f = c .before .before in
     let a = f .before .before .before .args in
     filed-asked (close (a .buf .now) (a .position)) (close-numbered (a .buf .now) (a .position)) (f .close .result) (f .close .last .0) (f .close .ensures)
-
-same-length : tie.Need-same-length
-same-length c = search needs
 
 returns : tie.Need-returns
 returns c =
@@ -25,4 +19,4 @@ returns c =
     filed-told (close (a .buf .now) (a .position)) (close-numbered (a .buf .now) (a .position)) (f .close .result) (f .close .last .0) (f .close .ensures) (c .filed .result) (c .filed .ensures)
 
 pub page-close-spec : {M : Type 1} → statement M
-page-close-spec = tie.close (tie.spec close-requires filed-requires same-length returns)
+page-close-spec = tie.close (tie.spec (λ c κs. search needs) filed-requires (λ c. search needs) returns)

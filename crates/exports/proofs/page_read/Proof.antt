@@ -6,19 +6,10 @@ use Rattle.exports.proofs.Pages.{short, answer-line, answer-next, read-
 use Rattle.exports.proofs.page_read.Statement.{statement}
 use Rattle.exports.proofs.page_read.Tie as tie
 
-cast-result : tie.Need-cast-result
-cast-result c = search needs
-
-mul-result : tie.Need-mul-result
-mul-result c = search needs
-
 returns : tie.Need-returns
 returns c =
     let a = c .before .before .before .args in
     short (a .page .now) (a .at) (a .«record» .now) (c .if1 .taken)
-
-read-at-requires : tie.Need-read-at-requires
-read-at-requires c κs = search needs
 
 sub-moved : tie.Need-sub-moved
 sub-moved c =
@@ -44,20 +35,11 @@ give-requires c κs =
     let a = f .before .before .before .before .args in
     answer-line (a .page .now) (a .at) (a .«record» .now) (f .read-at .result) (f .read-at .ensures)
 
-cast-result-2 : tie.Need-cast-result-2
-cast-result-2 c = search needs
-
-mul-result-2 : tie.Need-mul-result-2
-mul-result-2 c = search needs
-
 add-result-2 : tie.Need-add-result-2
 add-result-2 c =
     let f = c .before .before .before .before .before .before .before in
     let a = f .before .before .before .before .args in
     omega (arith, answer-next (a .page .now) (a .at) (a .«record» .now) (f .read-at .result) (f .read-at .ensures) .1)
-
-same-length : tie.Need-same-length
-same-length c = search needs
 
 returns-3 : tie.Need-returns-3
 returns-3 c =
@@ -71,16 +53,16 @@ pub page-read-spec : {M : Type 1} → statement M
 page-read-spec =
     tie.close
     (tie.spec
-    cast-result
-    mul-result
+    (λ c. search needs)
+    (λ c. search needs)
     returns
-    read-at-requires
+    (λ c κs. search needs)
     sub-moved
     add-result
     returns-2
     give-requires
-    cast-result-2
-    mul-result-2
+    (λ c. search needs)
+    (λ c. search needs)
     add-result-2
-    same-length
+    (λ c. search needs)
     returns-3)

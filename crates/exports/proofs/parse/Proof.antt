@@ -7,48 +7,6 @@ use Rattle.exports.specs.Exports.{parse}
 use Rattle.exports.proofs.parse.Statement.{statement}
 use Rattle.exports.proofs.parse.Tie as tie
 
-enum-told : tie.Need-enum-told
-enum-told c = search needs
-
-parse-requires : tie.Need-parse-requires
-parse-requires c κs = search needs
-
-enum-told-2 : tie.Need-enum-told-2
-enum-told-2 c = search needs
-
-parse-requires-2 : tie.Need-parse-requires-2
-parse-requires-2 c κs = search needs
-
-enum-told-3 : tie.Need-enum-told-3
-enum-told-3 c = search needs
-
-parse-requires-3 : tie.Need-parse-requires-3
-parse-requires-3 c κs = search needs
-
-enum-told-4 : tie.Need-enum-told-4
-enum-told-4 c = search needs
-
-parse-requires-4 : tie.Need-parse-requires-4
-parse-requires-4 c κs = search needs
-
-enum-told-5 : tie.Need-enum-told-5
-enum-told-5 c = search needs
-
-parse-requires-5 : tie.Need-parse-requires-5
-parse-requires-5 c κs = search needs
-
-enum-told-6 : tie.Need-enum-told-6
-enum-told-6 c = search needs
-
-parse-requires-6 : tie.Need-parse-requires-6
-parse-requires-6 c κs = search needs
-
-enum-told-7 : tie.Need-enum-told-7
-enum-told-7 c = search needs
-
-parse-requires-7 : tie.Need-parse-requires-7
-parse-requires-7 c κs = search needs
-
 returns : tie.Need-returns
 returns c =
     let a = c .before .before .before .before .args in
@@ -88,20 +46,20 @@ pub parse-spec : {M : Type 1} → statement M
 parse-spec =
     tie.close
     (tie.spec
-    enum-told
-    parse-requires
-    enum-told-2
-    parse-requires-2
-    enum-told-3
-    parse-requires-3
-    enum-told-4
-    parse-requires-4
-    enum-told-5
-    parse-requires-5
-    enum-told-6
-    parse-requires-6
-    enum-told-7
-    parse-requires-7
+    (λ c. search needs)
+    (λ c κs. search needs)
+    (λ c. search needs)
+    (λ c κs. search needs)
+    (λ c. search needs)
+    (λ c κs. search needs)
+    (λ c. search needs)
+    (λ c κs. search needs)
+    (λ c. search needs)
+    (λ c κs. search needs)
+    (λ c. search needs)
+    (λ c κs. search needs)
+    (λ c. search needs)
+    (λ c κs. search needs)
     returns
     returns-2
     returns-3

@@ -7,48 +7,6 @@ use Rattle.exports.specs.Exports.{parseWithVariant}
 use Rattle.exports.proofs.parse_with_variant.Statement.{statement}
 use Rattle.exports.proofs.parse_with_variant.Tie as tie
 
-enum-told : tie.Need-enum-told
-enum-told c = search needs
-
-parse-with-variant-requires : tie.Need-parse-with-variant-requires
-parse-with-variant-requires c κs = search needs
-
-enum-told-2 : tie.Need-enum-told-2
-enum-told-2 c = search needs
-
-parse-with-variant-requires-2 : tie.Need-parse-with-variant-requires-2
-parse-with-variant-requires-2 c κs = search needs
-
-enum-told-3 : tie.Need-enum-told-3
-enum-told-3 c = search needs
-
-parse-with-variant-requires-3 : tie.Need-parse-with-variant-requires-3
-parse-with-variant-requires-3 c κs = search needs
-
-enum-told-4 : tie.Need-enum-told-4
-enum-told-4 c = search needs
-
-parse-with-variant-requires-4 : tie.Need-parse-with-variant-requires-4
-parse-with-variant-requires-4 c κs = search needs
-
-enum-told-5 : tie.Need-enum-told-5
-enum-told-5 c = search needs
-
-parse-with-variant-requires-5 : tie.Need-parse-with-variant-requires-5
-parse-with-variant-requires-5 c κs = search needs
-
-enum-told-6 : tie.Need-enum-told-6
-enum-told-6 c = search needs
-
-parse-with-variant-requires-6 : tie.Need-parse-with-variant-requires-6
-parse-with-variant-requires-6 c κs = search needs
-
-enum-told-7 : tie.Need-enum-told-7
-enum-told-7 c = search needs
-
-parse-with-variant-requires-7 : tie.Need-parse-with-variant-requires-7
-parse-with-variant-requires-7 c κs = search needs
-
 returns : tie.Need-returns
 returns c =
     let a = c .before .before .before .before .args in
@@ -88,20 +46,20 @@ pub parse-with-variant-spec : {M : Type 1} → statement M
 parse-with-variant-spec =
     tie.close
     (tie.spec
-    enum-told
-    parse-with-variant-requires
-    enum-told-2
-    parse-with-variant-requires-2
-    enum-told-3
-    parse-with-variant-requires-3
-    enum-told-4
-    parse-with-variant-requires-4
-    enum-told-5
-    parse-with-variant-requires-5
-    enum-told-6
-    parse-with-variant-requires-6
-    enum-told-7
-    parse-with-variant-requires-7
+    (λ c. search needs)
+    (λ c κs. search needs)
+    (λ c. search needs)
+    (λ c κs. search needs)
+    (λ c. search needs)
+    (λ c κs. search needs)
+    (λ c. search needs)
+    (λ c κs. search needs)
+    (λ c. search needs)
+    (λ c κs. search needs)
+    (λ c. search needs)
+    (λ c κs. search needs)
+    (λ c. search needs)
+    (λ c κs. search needs)
     returns
     returns-2
     returns-3

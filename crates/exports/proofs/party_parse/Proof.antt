@@ -10,20 +10,11 @@ use Rattle.exports.proofs.Answers.{Lined, lined, parse-line}
 use Rattle.exports.proofs.party_parse.Statement.{statement}
 use Rattle.exports.proofs.party_parse.Tie as tie
 
-choice-at-requires : tie.Need-choice-at-requires
-choice-at-requires c κs = search needs
-
-parse-requires : tie.Need-parse-requires
-parse-requires c κs = search needs
-
 give-requires : tie.Need-give-requires
 give-requires c κs =
     let found = c .before in
     let a = found .before .before .before .before .args in
     lined (toldAnswer (found .parse .result)) (subst Lined (sym (found .parse .ensures)) (parse-line (found .before .choice-at .result) (a .body .now)))
-
-same-length : tie.Need-same-length
-same-length c = search needs
 
 returns : tie.Need-returns
 returns c =
@@ -35,4 +26,4 @@ returns c =
 
 pub party-parse-spec : {M : Type 1} → statement M
 party-parse-spec =
-    tie.close (tie.spec choice-at-requires parse-requires give-requires same-length returns)
+    tie.close (tie.spec (λ c κs. search needs) (λ c κs. search needs) give-requires (λ c. search needs) returns)

@@ -10,20 +10,11 @@ use Rattle.exports.proofs.Answers.{Lined, lined, variant-line}
 use Rattle.exports.proofs.party_parse_with_variant.Statement.{statement}
 use Rattle.exports.proofs.party_parse_with_variant.Tie as tie
 
-choice-at-requires : tie.Need-choice-at-requires
-choice-at-requires c κs = search needs
-
-parse-with-variant-requires : tie.Need-parse-with-variant-requires
-parse-with-variant-requires c κs = search needs
-
 give-requires : tie.Need-give-requires
 give-requires c κs =
     let found = c .before in
     let a = found .before .before .before .before .args in
     lined (toldAnswer (found .parse-with-variant .result)) (subst Lined (sym (found .parse-with-variant .ensures)) (variant-line (found .before .choice-at .result) (a .body .now) (a .letter)))
-
-same-length : tie.Need-same-length
-same-length c = search needs
 
 returns : tie.Need-returns
 returns c =
@@ -36,4 +27,4 @@ returns c =
 pub party-parse-with-variant-spec : {M : Type 1} → statement M
 party-parse-with-variant-spec =
     tie.close
-    (tie.spec choice-at-requires parse-with-variant-requires give-requires same-length returns)
+    (tie.spec (λ c κs. search needs) (λ c κs. search needs) give-requires (λ c. search needs) returns)

@@ -12,20 +12,11 @@ use Rattle.exports.proofs.Answers.{Lined, lined}
 use Rattle.exports.proofs.party_read.Statement.{statement}
 use Rattle.exports.proofs.party_read.Tie as tie
 
-option-at-requires : tie.Need-option-at-requires
-option-at-requires c κs = search needs
-
-read-requires : tie.Need-read-requires
-read-requires c κs = search needs
-
 give-requires : tie.Need-give-requires
 give-requires c κs =
     let found = c .before in
     let a = found .before .before .before .before .args in
     lined (toldAnswer (found .read .result)) (subst Lined (sym (found .read .ensures)) (read-line (found .before .option-at .result) (a .body .now)))
-
-same-length : tie.Need-same-length
-same-length c = search needs
 
 returns : tie.Need-returns
 returns c =
@@ -37,4 +28,4 @@ returns c =
 
 pub party-read-spec : {M : Type 1} → statement M
 party-read-spec =
-    tie.close (tie.spec option-at-requires read-requires give-requires same-length returns)
+    tie.close (tie.spec (λ c κs. search needs) (λ c κs. search needs) give-requires (λ c. search needs) returns)

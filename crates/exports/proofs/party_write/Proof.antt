@@ -21,41 +21,20 @@ wrote-it c =
       writes = c .to-swift-string .ensures;
     }
 
-load-requires : tie.Need-load-requires
-load-requires c κs = search needs
-
-code-requires : tie.Need-code-requires
-code-requires c κs = search needs
-
 returns : tie.Need-returns
 returns c =
     let got = c .before .before .before in
     let a = got .before .before .before .args in
     rw (c .code .ensures) (no-record (a .«record» .now) (a .buf .now) (got .load .result) (got .load .ensures) (not-true _ (c .before .if1 .taken)))
 
-to-swift-string-requires : tie.Need-to-swift-string-requires
-to-swift-string-requires c κs = search needs
-
-enum-known-outcome : tie.Need-enum-known-outcome
-enum-known-outcome c = search needs
-
 code-requires-2 : tie.Need-code-requires-2
 code-requires-2 c κs = refusal-line (wrote-it (c .before .before .before .before .before)) _ (c .before .outcome .given .1)
-
-same-length : tie.Need-same-length
-same-length c = search needs
 
 returns-2 : tie.Need-returns-2
 returns-2 c = rw (c .code2 .ensures) (refusal-is (wrote-it (c .before .before .before .before .before .before)) _ (c .before .before .outcome .given .1))
 
-enum-told : tie.Need-enum-told
-enum-told c = search needs
-
 cast-result : tie.Need-cast-result
 cast-result c = omega (arith, length-most (wrote-it (c .before .before .before .before .before)))
-
-same-length-2 : tie.Need-same-length-2
-same-length-2 c = search needs
 
 returns-3 : tie.Need-returns-3
 returns-3 c = length-is (wrote-it (c .before .before .before .before .before)) (c .before .enum-told .given .1)
@@ -64,15 +43,15 @@ pub party-write-spec : {M : Type 1} → statement M
 party-write-spec =
     tie.close
     (tie.spec
-    load-requires
-    code-requires
+    (λ c κs. search needs)
+    (λ c κs. search needs)
     returns
-    to-swift-string-requires
-    enum-known-outcome
+    (λ c κs. search needs)
+    (λ c. search needs)
     code-requires-2
-    same-length
+    (λ c. search needs)
     returns-2
-    enum-told
+    (λ c. search needs)
     cast-result
-    same-length-2
+    (λ c. search needs)
     returns-3)

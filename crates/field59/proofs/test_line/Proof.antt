@@ -12,15 +12,6 @@ use Rattle.field59.proofs.test_line.Tie as tie
 slash : (c : tie.After-starts-with-slash) {t : Bool} → c .starts-with-slash .result ≡ t → starts 47 (firstLine (lines (now (c .before .before .before .args .input)))) ≡ t
 slash c e = ap (starts 47) (sym (c .before .first-line .ensures)) ∙ sym (c .starts-with-slash .ensures) ∙ e
 
-first-line-requires : tie.Need-first-line-requires
-first-line-requires c κs = search needs
-
-starts-with-slash-requires : tie.Need-starts-with-slash-requires
-starts-with-slash-requires c κs = search needs
-
-second-line-requires : tie.Need-second-line-requires
-second-line-requires c κs = search needs
-
 returns : tie.Need-returns
 unfolding testLine
 returns c = rw (slash (c .before .before) (c .before .if1 .taken), testLine) (c .second-line .ensures)
@@ -33,8 +24,8 @@ pub test-line-spec : {M : Type 1} → statement M
 test-line-spec =
     tie.close
     (tie.spec
-    first-line-requires
-    starts-with-slash-requires
-    second-line-requires
+    (λ c κs. search needs)
+    (λ c κs. search needs)
+    (λ c κs. search needs)
     returns
     returns-2)

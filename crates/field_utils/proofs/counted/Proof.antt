@@ -20,30 +20,15 @@ module _ (t : tie.Start) where
 by-count : (c : tie.After-parse-count) → rest (c .before .before) ≡ told (c .parse-count .result)
 by-count c = let a = c .before .before .args in rest-counted (a .illegal) (a .most) (a .count) (c .before .if1 .left) ∙ sym (c .parse-count .ensures)
 
-refuse-names-requires : tie.Need-refuse-names-requires
-refuse-names-requires c κs = search needs
-
 returns : tie.Need-returns
 returns c =
     let t = c .before .before in
     ap toldNames (c .refuse-names .ensures) ∙ sym (ap (gives t) (rest-illegal (t .args .illegal) (t .args .most) (t .args .count) (c .before .if1 .taken)))
 
-parse-count-requires : tie.Need-parse-count-requires
-parse-count-requires c κs = search needs
-
-enum-known-outcome : tie.Need-enum-known-outcome
-enum-known-outcome c = search needs
-
-refuse-names-requires-2 : tie.Need-refuse-names-requires-2
-refuse-names-requires-2 c κs = search needs
-
 returns-2 : tie.Need-returns-2
 returns-2 c =
     let p = c .before .before .before .before in
     ap toldNames (c .refuse-names2 .ensures) ∙ sym (ap (gives (p .before .before)) (by-count p ∙ ap told (c .before .before .outcome .given .1)))
-
-enum-told : tie.Need-enum-told
-enum-told c = search needs
 
 returns-3 : tie.Need-returns-3
 returns-3 c =
@@ -54,11 +39,11 @@ pub counted-spec : {M : Type 1} → statement M
 counted-spec =
     tie.close
     (tie.spec
-    refuse-names-requires
+    (λ c κs. search needs)
     returns
-    parse-count-requires
-    enum-known-outcome
-    refuse-names-requires-2
+    (λ c κs. search needs)
+    (λ c. search needs)
+    (λ c κs. search needs)
     returns-2
-    enum-told
+    (λ c. search needs)
     returns-3)

@@ -13,20 +13,11 @@ use Rattle.field_utils.proofs.is_numbered_line.Tie as tie
 returns : tie.Need-returns
 returns c = sym (numbered-short (now (c .before .before .args .line)) (c .if1 .taken))
 
-shared-slice-read-is-digit : tie.Need-shared-slice-read-is-digit
-shared-slice-read-is-digit c = search needs
-
-is-digit-requires : tie.Need-is-digit-requires
-is-digit-requires c κs = search needs
-
 returns-2 : tie.Need-returns-2
 returns-2 c =
     let l = now (c .before .before .before .before .before .args .line) in
     let e : digit (getD l 0 0) ≡ false = sym (c .before .is-digit .ensures) ∙ not-true _ (c .if2 .taken) in
     sym (numbered-long l (c .before .before .before .if1 .left) ∙ rw e)
-
-shared-slice-read-result : tie.Need-shared-slice-read-result
-shared-slice-read-result c = search needs
 
 returns-3 : tie.Need-returns-3
 returns-3 c =
@@ -39,8 +30,8 @@ is-numbered-line-spec =
     tie.close
     (tie.spec
     returns
-    shared-slice-read-is-digit
-    is-digit-requires
+    (λ c. search needs)
+    (λ c κs. search needs)
     returns-2
-    shared-slice-read-result
+    (λ c. search needs)
     returns-3)

@@ -12,9 +12,6 @@ tested : (c : tie.After-is-numbered-line) {t : Bool} → c .is-numbered-line .re
     → let a = c .before .before .args in must t 5 (a .line) ≡ must (isNumbered (now (a .input))) 5 (a .line)
 tested c e = ap (λ (t : Bool). must t 5 (c .before .before .args .line)) (sym e ∙ c .is-numbered-line .ensures)
 
-is-numbered-line-requires : tie.Need-is-numbered-line-requires
-is-numbered-line-requires c κs = search needs
-
 returns : tie.Need-returns
 returns c = tested (c .before) (c .if1 .taken)
 
@@ -22,4 +19,4 @@ returns-2 : tie.Need-returns-2
 returns-2 c = tested (c .before) (c .if1 .left)
 
 pub parse-digit-spec : {M : Type 1} → statement M
-parse-digit-spec = tie.close (tie.spec is-numbered-line-requires returns returns-2)
+parse-digit-spec = tie.close (tie.spec (λ c κs. search needs) returns returns-2)

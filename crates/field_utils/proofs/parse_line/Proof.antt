@@ -30,23 +30,11 @@ module _ (c : tie.After-skip-of) where
   text-length : let a = start .args in length text ≡ length (now (a .input)) - c .skip-of .result
   text-length = let a = start .args in omega (arith, length-drop (skipOf (a .numbering)) (now (a .input)), c .skip-of .ensures)
 
-parse-number-requires : tie.Need-parse-number-requires
-parse-number-requires c κs = search needs
-
-enum-known-outcome : tie.Need-enum-known-outcome
-enum-known-outcome c = search needs
-
 returns : tie.Need-returns
 returns c =
     let p = c .before .before .before in
     let a = p .before .before .args in
     sym (shape-number (a .numbering) (a .longest) (a .line) (a .turn) (now (a .input)) (sym (p .parse-number .ensures) ∙ ap told (c .before .outcome .given .1)))
-
-enum-told : tie.Need-enum-told
-enum-told c = search needs
-
-skip-of-requires : tie.Need-skip-of-requires
-skip-of-requires c κs = search needs
 
 sub-if1 : tie.Need-sub-if1
 sub-if1 c = room c
@@ -65,11 +53,11 @@ pub parse-line-spec : {M : Type 1} → statement M
 parse-line-spec =
     tie.close
     (tie.spec
-    parse-number-requires
-    enum-known-outcome
+    (λ c κs. search needs)
+    (λ c. search needs)
     returns
-    enum-told
-    skip-of-requires
+    (λ c. search needs)
+    (λ c κs. search needs)
     sub-if1
     returns-2
     returns-3)

@@ -253,18 +253,6 @@ module _ (m : tie.At-match-came Inv-loop μ-loop Inv-lines μ-lines) where
       ∙ illegal-byte (record { before = e; if2 = w .7 }))
       (m .match .came)
 
-limits-of-requires : tie.Need-limits-of-requires Inv-loop μ-loop Inv-lines μ-lines
-limits-of-requires c κs = search needs
-
-numbering-of-requires : tie.Need-numbering-of-requires Inv-loop μ-loop Inv-lines μ-lines
-numbering-of-requires c κs = search needs
-
-kept-from-requires : tie.Need-kept-from-requires Inv-loop μ-loop Inv-lines μ-lines
-kept-from-requires c κs = search needs
-
-class-table-requires : tie.Need-class-table-requires Inv-loop μ-loop Inv-lines μ-lines
-class-table-requires c κs = search needs
-
 lines-holds : tie.Need-lines-holds Inv-loop μ-loop Inv-lines μ-lines
 unfolding fourTexts padded textOf
 lines-holds c = (omega arith, rw add-zero, filled-none _ _ _ refl)
@@ -296,9 +284,6 @@ loop-again c =
 next-from-requires : tie.Need-next-from-requires Inv-loop μ-loop Inv-lines μ-lines
 next-from-requires c κs = (c .before .loop .inv .forward, c .before .loop .inv .unbroken)
 
-enum-known-found : tie.Need-enum-known-found Inv-loop μ-loop Inv-lines μ-lines
-enum-known-found c = search needs
-
 enum-told : tie.Need-enum-told Inv-loop μ-loop Inv-lines μ-lines
 enum-told c = search needs
 
@@ -320,21 +305,12 @@ part-parse-line-end c = end-within c
 parse-line-requires : tie.Need-parse-line-requires Inv-loop μ-loop Inv-lines μ-lines
 parse-line-requires c κs = omega (arith, head (c .before) .lines .inv .0, fits (c .before) .moved, fits (c .before) .within)
 
-enum-known-outcome : tie.Need-enum-known-outcome Inv-loop μ-loop Inv-lines μ-lines
-enum-known-outcome c = search needs
-
-refuse-names-requires : tie.Need-refuse-names-requires Inv-loop μ-loop Inv-lines μ-lines
-refuse-names-requires c κs = search needs
-
 returns : tie.Need-returns Inv-loop μ-loop Inv-lines μ-lines
 returns c =
     let p = c .before .before .before .before in
     let k = p .before .before in
     ap toldNames (c .refuse-names .ensures)
     ∙ refusal k (line-refused _ _ _ _ _ (shape-says p ∙ ap told (c .before .before .outcome .given .1)))
-
-enum-told-2 : tie.Need-enum-told-2 Inv-loop μ-loop Inv-lines μ-lines
-enum-told-2 c = search needs
 
 add-first : tie.Need-add-first Inv-loop μ-loop Inv-lines μ-lines
 add-first c = omega (arith, room (c .before), end-within (this (c .before)))
@@ -347,9 +323,6 @@ part-text-of-start c = room (c .before)
 
 part-text-of-end : tie.Need-part-text-of-end Inv-loop μ-loop Inv-lines μ-lines
 part-text-of-end c = end-within (this (c .before))
-
-text-of-requires : tie.Need-text-of-requires Inv-loop μ-loop Inv-lines μ-lines
-text-of-requires c κs = search needs
 
 mul-texts : tie.Need-mul-texts Inv-loop μ-loop Inv-lines μ-lines
 mul-texts c = omega (arith, c .before .before .if3 .taken)
@@ -381,9 +354,6 @@ lines-again-2 c =
       filled-past (skip (head k)) (names (head k)) (count (head k)) (texts (head k)) _ (line k) _ (c .if3 .left) (head k .lines .inv .2) (fits k .line),
     )
 
-counted-requires : tie.Need-counted-requires Inv-loop μ-loop Inv-lines μ-lines
-counted-requires c κs = search needs
-
 returns-2 : tie.Need-returns-2 Inv-loop μ-loop Inv-lines μ-lines
 returns-2 c = c .counted .ensures ∙ ends (c .before)
 
@@ -395,10 +365,10 @@ parse-name-and-address-spec =
     μ-loop
     Inv-lines
     μ-lines
-    limits-of-requires
-    numbering-of-requires
-    kept-from-requires
-    class-table-requires
+    (λ c κs. search needs)
+    (λ c κs. search needs)
+    (λ c κs. search needs)
+    (λ c κs. search needs)
     lines-holds
     loop-holds
     shared-slice-read-b
@@ -408,7 +378,7 @@ parse-name-and-address-spec =
     loop-less
     loop-again
     next-from-requires
-    enum-known-found
+    (λ c. search needs)
     enum-told
     add-turn
     add-line
@@ -416,20 +386,20 @@ parse-name-and-address-spec =
     part-parse-line-start
     part-parse-line-end
     parse-line-requires
-    enum-known-outcome
-    refuse-names-requires
+    (λ c. search needs)
+    (λ c κs. search needs)
     returns
-    enum-told-2
+    (λ c. search needs)
     add-first
     sub-text-of
     part-text-of-start
     part-text-of-end
-    text-of-requires
+    (λ c κs. search needs)
     mul-texts
     array-set-from-texts
     lines-less
     lines-again
     lines-less-2
     lines-again-2
-    counted-requires
+    (λ c κs. search needs)
     returns-2)

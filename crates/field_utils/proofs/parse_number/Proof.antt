@@ -22,38 +22,14 @@ in-turn c e =
     ap (λ (r : Reply). r then must (eqb (getD (now (a .input)) 0 0) (48 + a .turn)) 6 (a .line)) (sym e ∙ c .parse-digit2 .ensures)
     ∙ sym (ap (λ (f : Numbering). parseNumber f (a .line) (a .turn) (now (a .input))) (c .before .enum-told3 .given .1))
 
-enum-told : tie.Need-enum-told
-enum-told c = search needs
-
-enum-told-2 : tie.Need-enum-told-2
-enum-told-2 c = search needs
-
-parse-digit-requires : tie.Need-parse-digit-requires
-parse-digit-requires c κs = search needs
-
-enum-told-3 : tie.Need-enum-told-3
-enum-told-3 c = search needs
-
-parse-digit-requires-2 : tie.Need-parse-digit-requires-2
-parse-digit-requires-2 c κs = search needs
-
-enum-known-outcome : tie.Need-enum-known-outcome
-enum-known-outcome c = search needs
-
 returns : tie.Need-returns
 returns c = in-turn (c .before .before .before) (ap told (c .before .outcome .given .1))
-
-enum-told-4 : tie.Need-enum-told-4
-enum-told-4 c = search needs
 
 parse-turn-requires : tie.Need-parse-turn-requires
 parse-turn-requires c κs =
     let d = c .before .before in
     let a = d .before .before .before .before .args in
     omega (arith, number-room Numbered (a .line) (a .turn) (now (a .input)) (sym (d .parse-digit2 .ensures) ∙ ap told (c .enum-told4 .given .1)))
-
-returns-2 : tie.Need-returns-2
-returns-2 c = search needs
 
 returns-3 : tie.Need-returns-3
 returns-3 c =
@@ -67,15 +43,15 @@ pub parse-number-spec : {M : Type 1} → statement M
 parse-number-spec =
     tie.close
     (tie.spec
-    enum-told
-    enum-told-2
-    parse-digit-requires
-    enum-told-3
-    parse-digit-requires-2
-    enum-known-outcome
+    (λ c. search needs)
+    (λ c. search needs)
+    (λ c κs. search needs)
+    (λ c. search needs)
+    (λ c κs. search needs)
+    (λ c. search needs)
     returns
-    enum-told-4
+    (λ c. search needs)
     parse-turn-requires
-    returns-2
+    (λ c. search needs)
     returns-3
     returns-4)

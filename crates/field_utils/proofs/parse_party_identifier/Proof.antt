@@ -50,34 +50,16 @@ module _ (c : tie.After-parse-remaining) where
       ∙ ap (λ (m : Limits). identifierReply (m .longest) line (drop 1 (input else))) (c .before .before .limits-of .ensures))
       ∙ sym (identifier-given option line (input else) (slash else))
 
-starts-with-slash-requires : tie.Need-starts-with-slash-requires
-starts-with-slash-requires c κs = search needs
-
 returns : tie.Need-returns
 returns c =
     let a = c .before .before .before .args in
     sym (identifier-absent (a .option) (a .line) (now (a .input)) (sym (c .before .starts-with-slash .ensures) ∙ not-true _ (c .if1 .taken)))
-
-limits-of-requires : tie.Need-limits-of-requires
-limits-of-requires c κs = search needs
 
 sub-parse-remaining : tie.Need-sub-parse-remaining
 sub-parse-remaining c = omega (arith, long (c .before))
 
 part-parse-remaining-start : tie.Need-part-parse-remaining-start
 part-parse-remaining-start c = omega (arith, long (c .before))
-
-part-parse-remaining-end : tie.Need-part-parse-remaining-end
-part-parse-remaining-end c = search needs
-
-parse-remaining-requires : tie.Need-parse-remaining-requires
-parse-remaining-requires c κs = search needs
-
-enum-told : tie.Need-enum-told
-enum-told c = search needs
-
-enum-known-outcome : tie.Need-enum-known-outcome
-enum-known-outcome c = search needs
 
 returns-2 : tie.Need-returns-2
 returns-2 c = remaining (c .before .before) (c .enum-told .given .1)
@@ -89,14 +71,14 @@ pub parse-party-identifier-spec : {M : Type 1} → statement M
 parse-party-identifier-spec =
     tie.close
     (tie.spec
-    starts-with-slash-requires
+    (λ c κs. search needs)
     returns
-    limits-of-requires
+    (λ c κs. search needs)
     sub-parse-remaining
     part-parse-remaining-start
-    part-parse-remaining-end
-    parse-remaining-requires
-    enum-told
-    enum-known-outcome
+    (λ c. search needs)
+    (λ c κs. search needs)
+    (λ c. search needs)
+    (λ c. search needs)
     returns-2
     returns-3)

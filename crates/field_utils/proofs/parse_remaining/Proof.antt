@@ -19,29 +19,11 @@ use Rattle.field_utils.proofs.parse_remaining.Tie as tie
 second : (c : tie.After-find) → c .find .result ≡ upto 47 (now (c .before .before .args .remaining))
 second c = c .find .ensures ∙ zero-add _
 
-find-requires : tie.Need-find-requires
-find-requires c κs = search needs
-
-parse-account-requires : tie.Need-parse-account-requires
-parse-account-requires c κs = search needs
-
 returns : tie.Need-returns
 returns c =
     let f = c .before .before in
     let a = f .before .before .args in
     c .parse-account .ensures ∙ sym (no-slash (a .longest) (a .line) (now (a .remaining)) (f .find .result) (second f) (c .before .if1 .taken))
-
-sub-parse-account : tie.Need-sub-parse-account
-sub-parse-account c = search needs
-
-part-parse-account-start : tie.Need-part-parse-account-start
-part-parse-account-start c = search needs
-
-part-parse-account-end : tie.Need-part-parse-account-end
-part-parse-account-end c = search needs
-
-parse-account-requires-2 : tie.Need-parse-account-requires-2
-parse-account-requires-2 c κs = search needs
 
 returns-2 : tie.Need-returns-2
 returns-2 c =
@@ -60,9 +42,6 @@ returns-3 c =
 slice-aggregate-all-alphanumeric : tie.Need-slice-aggregate-all-alphanumeric
 slice-aggregate-all-alphanumeric c = sym (length-take-le _ _ (search needs))
 
-all-alphanumeric-requires : tie.Need-all-alphanumeric-requires
-all-alphanumeric-requires c κs = search needs
-
 returns-4 : tie.Need-returns-4
 returns-4 c =
     let f = c .before .before .before .before .before .before in
@@ -70,21 +49,6 @@ returns-4 c =
     sym
     (code-other (a .longest) (a .line) (now (a .remaining)) (f .find .result) (second f) (c .before .before .before .before .before .if1 .left) (c .before .before .before .before .if2 .left)
     (c .before .before .before .if3 .left) (sym (c .before .all-alphanumeric .ensures) ∙ not-true _ (c .if4 .taken)))
-
-add-id : tie.Need-add-id
-add-id c = search needs
-
-sub-parse-account-2 : tie.Need-sub-parse-account-2
-sub-parse-account-2 c = search needs
-
-part-parse-account-start-2 : tie.Need-part-parse-account-start-2
-part-parse-account-start-2 c = search needs
-
-part-parse-account-end-2 : tie.Need-part-parse-account-end-2
-part-parse-account-end-2 c = search needs
-
-parse-account-requires-3 : tie.Need-parse-account-requires-3
-parse-account-requires-3 c κs = search needs
 
 returns-5 : tie.Need-returns-5
 returns-5 c =
@@ -101,21 +65,21 @@ pub parse-remaining-spec : {M : Type 1} → statement M
 parse-remaining-spec =
     tie.close
     (tie.spec
-    find-requires
-    parse-account-requires
+    (λ c κs. search needs)
+    (λ c κs. search needs)
     returns
-    sub-parse-account
-    part-parse-account-start
-    part-parse-account-end
-    parse-account-requires-2
+    (λ c. search needs)
+    (λ c. search needs)
+    (λ c. search needs)
+    (λ c κs. search needs)
     returns-2
     returns-3
     slice-aggregate-all-alphanumeric
-    all-alphanumeric-requires
+    (λ c κs. search needs)
     returns-4
-    add-id
-    sub-parse-account-2
-    part-parse-account-start-2
-    part-parse-account-end-2
-    parse-account-requires-3
+    (λ c. search needs)
+    (λ c. search needs)
+    (λ c. search needs)
+    (λ c. search needs)
+    (λ c κs. search needs)
     returns-5)

@@ -9,11 +9,8 @@ use Rattle.field_utils.proofs.starts_with_slash.Tie as tie
 returns : tie.Need-returns
 returns c = sym (starts-none 47 (now (c .before .args .line)) (c .if1 .taken))
 
-shared-slice-read-result : tie.Need-shared-slice-read-result
-shared-slice-read-result c = search needs
-
 returns-2 : tie.Need-returns-2
 returns-2 c = sym (starts-first 47 (now (c .before .before .args .line)) (c .before .if1 .left))
 
 pub starts-with-slash-spec : {M : Type 1} → statement M
-starts-with-slash-spec = tie.close (tie.spec returns shared-slice-read-result returns-2)
+starts-with-slash-spec = tie.close (tie.spec returns (λ c. search needs) returns-2)

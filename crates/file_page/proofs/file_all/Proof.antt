@@ -25,19 +25,10 @@ stays c =
     let l = c .before .before .loop in
     stays-closable (l .buf) (l .position) (l .inv .2) (now (c .before .before .before .before .before .before .args .page)) (l .at) (c .file-next .result) (c .file-next .last .1 .1 .0) (c .file-next .ensures .0)
 
-new-requires : tie.Need-new-requires Inv-loop μ-loop
-new-requires c κs = search needs
-
 loop-holds : tie.Need-loop-holds Inv-loop μ-loop
 loop-holds c =
     let a = c .before .before .before in
     (omega arith, refl, empty-closable (now (a .args .buf)) (a .pre), from-start (now (a .args .page)) (now (a .args .buf)))
-
-file-next-requires : tie.Need-file-next-requires Inv-loop μ-loop
-file-next-requires c κs = search needs
-
-note-requires : tie.Need-note-requires Inv-loop μ-loop
-note-requires c κs = search needs
 
 loop-less : tie.Need-loop-less Inv-loop μ-loop
 loop-less c =
@@ -59,12 +50,6 @@ loop-again c =
           (c .before .before .before .if1 .left) m (o .1 m)) ∙ l .inv .3,
     )
 
-print-requires : tie.Need-print-requires Inv-loop μ-loop
-print-requires c κs = search needs
-
-same-length : tie.Need-same-length Inv-loop μ-loop
-same-length c = search needs
-
 returns : tie.Need-returns Inv-loop μ-loop
 returns c =
     let f = c .before .before .before .before in
@@ -84,12 +69,12 @@ file-all-spec =
     (tie.spec
     Inv-loop
     μ-loop
-    new-requires
+    (λ c κs. search needs)
     loop-holds
-    file-next-requires
-    note-requires
+    (λ c κs. search needs)
+    (λ c κs. search needs)
     loop-less
     loop-again
-    print-requires
-    same-length
+    (λ c κs. search needs)
+    (λ c. search needs)
     returns)

@@ -8,9 +8,6 @@ use Rattle.filing.proofs.Steps.{end-gives, passes, files, onward}
 use Rattle.filing.proofs.file_next.Statement.{statement}
 use Rattle.filing.proofs.file_next.Tie as tie
 
-read-at-requires : tie.Need-read-at-requires
-read-at-requires c κs = search needs
-
 returns : tie.Need-returns
 returns c =
     let r = c .before .before .read-at in
@@ -19,9 +16,6 @@ returns c =
       onward (now (a .page)) (a .at) (now (a .buf)) (a .position) (r .result) (r .ensures),
     )
 
-enum-known-outcome : tie.Need-enum-known-outcome
-enum-known-outcome c = search needs
-
 returns-2 : tie.Need-returns-2
 returns-2 c =
     let r = c .before .before .before .before .before .read-at in
@@ -29,15 +23,6 @@ returns-2 c =
       passes (now (a .page)) (a .at) (now (a .buf)) (a .position) (r .result) (r .ensures) (c .before .before .before .if1 .left) (c .before .outcome .given .1) refl,
       onward (now (a .page)) (a .at) (now (a .buf)) (a .position) (r .result) (r .ensures),
     )
-
-enum-told : tie.Need-enum-told
-enum-told c = search needs
-
-add-requires : tie.Need-add-requires
-add-requires c κs = search needs
-
-same-length : tie.Need-same-length
-same-length c = search needs
 
 returns-3 : tie.Need-returns-3
 returns-3 c =
@@ -53,11 +38,11 @@ pub file-next-spec : {M : Type 1} → statement M
 file-next-spec =
     tie.close
     (tie.spec
-    read-at-requires
+    (λ c κs. search needs)
     returns
-    enum-known-outcome
+    (λ c. search needs)
     returns-2
-    enum-told
-    add-requires
-    same-length
+    (λ c. search needs)
+    (λ c κs. search needs)
+    (λ c. search needs)
     returns-3)

@@ -28,18 +28,12 @@ module _ (s : List ℕ) where
 returns : tie.Need-returns
 returns c = no-size _ (c .if1 .taken)
 
-shared-slice-read-if2 : tie.Need-shared-slice-read-if2
-shared-slice-read-if2 c = search needs
-
 returns-2 : tie.Need-returns-2
 returns-2 c = no-place _ (c .before .before .if1 .left) (c .if2 .taken)
-
-shared-slice-read-result : tie.Need-shared-slice-read-result
-shared-slice-read-result c = search needs
 
 returns-3 : tie.Need-returns-3
 returns-3 c = by-presence _ (c .before .before .before .if1 .left) (c .before .if2 .left)
 
 pub is-flat-spec : {M : Type 1} → statement M
 is-flat-spec =
-    tie.close (tie.spec returns shared-slice-read-if2 returns-2 shared-slice-read-result returns-3)
+    tie.close (tie.spec returns (λ c. search needs) returns-2 (λ c. search needs) returns-3)

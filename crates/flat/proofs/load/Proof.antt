@@ -14,12 +14,6 @@ use Rattle.flat.proofs.load.Tie as tie
 size : (c : tie.Else1) → length (c .before .before .before .args .s .now) ≡ 237
 size c = flat-size _ (sym (c .before .is-flat .ensures) ∙ not-false _ (c .if1 .left))
 
-is-flat-requires : tie.Need-is-flat-requires
-is-flat-requires c κs = search needs
-
-blank-requires : tie.Need-blank-requires
-blank-requires c κs = search needs
-
 returns : tie.Need-returns
 returns c =
     rw (c .blank .ensures) (sym (loaded-not _ (sym (c .before .before .is-flat .ensures) ∙ not-true _ (c .before .if1 .taken))))
@@ -38,9 +32,6 @@ text-at-requires-4 c κs = omega (arith, size (c .before .before .before))
 
 shared-slice-read-option-at : tie.Need-shared-slice-read-option-at
 shared-slice-read-option-at c = omega (arith, size (c .before .before .before .before .before))
-
-option-at-requires : tie.Need-option-at-requires
-option-at-requires c κs = search needs
 
 shared-slice-read-t14 : tie.Need-shared-slice-read-t14
 shared-slice-read-t14 c = omega (arith, size (c .before .before .before .before .before .before .before))
@@ -75,15 +66,15 @@ pub load-spec : {M : Type 1} → statement M
 load-spec =
     tie.close
     (tie.spec
-    is-flat-requires
-    blank-requires
+    (λ c κs. search needs)
+    (λ c κs. search needs)
     returns
     text-at-requires
     text-at-requires-2
     text-at-requires-3
     text-at-requires-4
     shared-slice-read-option-at
-    option-at-requires
+    (λ c κs. search needs)
     shared-slice-read-t14
     text-at-requires-5
     text-at-requires-6

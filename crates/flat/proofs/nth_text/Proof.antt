@@ -18,24 +18,9 @@ name p (suc (suc n)) h =
     let e : suc (suc n) - 2 ≡ n = omega arith in
     ap (λ (i : ℕ). getD (p .«name_and_address») i none) e
 
-returns : tie.Need-returns
-returns c = search needs
-
-returns-2 : tie.Need-returns-2
-returns-2 c = search needs
-
-sub-result : tie.Need-sub-result
-sub-result c = search needs
-
-mul-result : tie.Need-mul-result
-mul-result c = search needs
-
-element-copy-out-result : tie.Need-element-copy-out-result
-element-copy-out-result c = search needs
-
 returns-3 : tie.Need-returns-3
 returns-3 c = name (c .before .before .before .args .t1) (c .before .before .before .args .n) (omega arith)
 
 pub nth-text-spec : {M : Type 1} → statement M
 nth-text-spec =
-    tie.close (tie.spec returns returns-2 sub-result mul-result element-copy-out-result returns-3)
+    tie.close (tie.spec (λ c. search needs) (λ c. search needs) (λ c. search needs) (λ c. search needs) (λ c. search needs) returns-3)

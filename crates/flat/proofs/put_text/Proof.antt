@@ -20,36 +20,15 @@ Inv-loop out₀ at t len from i₀ out i =
 abbrev μ-loop : tie.MeasureT-loop
 μ-loop out₀ at t len from i₀ out i = 38 - i
 
-byte-of-requires : tie.Need-byte-of-requires Inv-loop μ-loop
-byte-of-requires c κs = search needs
-
-slice-write-out : tie.Need-slice-write-out Inv-loop μ-loop
-slice-write-out c = omega arith
-
-add-from : tie.Need-add-from Inv-loop μ-loop
-add-from c = omega arith
-
 loop-holds : tie.Need-loop-holds Inv-loop μ-loop
 loop-holds c =
     let a = c .before .before .args in
     (omega arith, refl, paste-zero (set (a .out .now) (a .at) (c .byte-of .result)) (a .at + 1) (a .t1 .bytes))
 
-element-copy-out-out : tie.Need-element-copy-out-out Inv-loop μ-loop
-element-copy-out-out c = omega arith
-
-add-out : tie.Need-add-out Inv-loop μ-loop
-add-out c = omega arith
-
 slice-write-out-2 : tie.Need-slice-write-out-2 Inv-loop μ-loop
 slice-write-out-2 c =
     let a = c .before .before .before .before .before .args in
     omega (arith, length-set (a .out .now) (a .at) (c .before .before .before .byte-of .result))
-
-add-i : tie.Need-add-i Inv-loop μ-loop
-add-i c = omega arith
-
-loop-less : tie.Need-loop-less Inv-loop μ-loop
-loop-less c = omega arith
 
 loop-again : tie.Need-loop-again Inv-loop μ-loop
 loop-again c =
@@ -82,15 +61,15 @@ put-text-spec =
     (tie.spec
     Inv-loop
     μ-loop
-    byte-of-requires
-    slice-write-out
-    add-from
+    (λ c κs. search needs)
+    (λ c. omega arith)
+    (λ c. omega arith)
     loop-holds
-    element-copy-out-out
-    add-out
+    (λ c. omega arith)
+    (λ c. omega arith)
     slice-write-out-2
-    add-i
-    loop-less
+    (λ c. omega arith)
+    (λ c. omega arith)
     loop-again
     same-length
     returns)

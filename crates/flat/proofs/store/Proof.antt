@@ -15,23 +15,11 @@ returns c =
     let d = c .before .before .args .out .now in
     (sym (lt-leb 237 (length d) (c .if1 .taken)), sym (stored-none (c .before .before .args .p) d (c .if1 .taken)))
 
-index-of-requires : tie.Need-index-of-requires
-index-of-requires c κs = search needs
-
 cast-out : tie.Need-cast-out
 cast-out c = omega (arith, c .index-of .ensures, place-small (c .before .before .before .args .p .option))
 
-slice-write-out : tie.Need-slice-write-out
-slice-write-out c = omega arith
-
-bit-requires : tie.Need-bit-requires
-bit-requires c κs = search needs
-
 slice-write-out-2 : tie.Need-slice-write-out-2
 slice-write-out-2 c = simp length-set (omega arith)
-
-byte-of-requires : tie.Need-byte-of-requires
-byte-of-requires c κs = search needs
 
 slice-write-out-3 : tie.Need-slice-write-out-3
 slice-write-out-3 c = simp length-set (omega arith)
@@ -63,12 +51,12 @@ store-spec =
     tie.close
     (tie.spec
     returns
-    index-of-requires
+    (λ c κs. search needs)
     cast-out
-    slice-write-out
-    bit-requires
+    (λ c. omega arith)
+    (λ c κs. search needs)
     slice-write-out-2
-    byte-of-requires
+    (λ c κs. search needs)
     slice-write-out-3
     put-texts-requires
     same-length

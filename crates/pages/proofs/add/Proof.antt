@@ -80,44 +80,17 @@ space-at e =
     let h : at f + (length (writtenField (said (p f))) + 3) ≤ min (length (buffer f)) pageMost = leb-true _ _ (tested (e .before) (not-false _ (e .if4 .left))) in
     omega (arith, h)
 
-is-writable-requires : tie.Need-is-writable-requires
-is-writable-requires c κs = search needs
-
-refuse-at-requires : tie.Need-refuse-at-requires
-refuse-at-requires c κs = search needs
-
-same-length : tie.Need-same-length
-same-length c = search needs
-
 returns : tie.Need-returns
 returns c =
     let a = c .before .before .before .before .before .args in
     ap (λ (w : FiledAt). toldFiled w (now (a .buf))) (c .refuse-at .ensures)
     ∙ sym (add-21 (now (a .buf)) (a .at) (said (a .p)) (sym (c .before .before .is-writable .ensures) ∙ not-true _ (c .before .if1 .taken)))
 
-is-given-requires : tie.Need-is-given-requires
-is-given-requires c κs = search needs
-
-refuse-at-requires-2 : tie.Need-refuse-at-requires-2
-refuse-at-requires-2 c κs = search needs
-
-same-length-2 : tie.Need-same-length-2
-same-length-2 c = search needs
-
 returns-2 : tie.Need-returns-2
 returns-2 c =
     let a = c .before .before .before .before .before .before .before .args in
     ap (λ (w : FiledAt). toldFiled w (now (a .buf))) (c .refuse-at2 .ensures)
     ∙ sym (add-22 (now (a .buf)) (a .at) (said (a .p)) (writable-at (c .before .before .before)) (sym (c .before .before .is-given .ensures) ∙ not-true _ (c .before .if2 .taken)))
-
-written-length-requires : tie.Need-written-length-requires
-written-length-requires c κs = search needs
-
-slice-aggregate-put-field : tie.Need-slice-aggregate-put-field
-slice-aggregate-put-field c = search needs
-
-put-field-requires : tie.Need-put-field-requires
-put-field-requires c κs = search needs
 
 array-share-prefix-room : tie.Need-array-share-prefix-room
 array-share-prefix-room c = omega (arith, size-most (c .before), room-size (c .before))
@@ -128,12 +101,6 @@ slice-aggregate-is-carried c = size-is (c .before .before) ∙ sym (ap length (w
 is-carried-requires : tie.Need-is-carried-requires
 is-carried-requires c κs = written (c .before .before)
 
-refuse-at-requires-3 : tie.Need-refuse-at-requires-3
-refuse-at-requires-3 c κs = search needs
-
-same-length-3 : tie.Need-same-length-3
-same-length-3 c = search needs
-
 returns-3 : tie.Need-returns-3
 returns-3 c =
     let k = c .before .before in
@@ -143,15 +110,6 @@ returns-3 c =
 
 add-has-space : tie.Need-add-has-space
 add-has-space c = omega (arith, size-most (c .before .before .before .before))
-
-has-space-requires : tie.Need-has-space-requires
-has-space-requires c κs = search needs
-
-refuse-at-requires-4 : tie.Need-refuse-at-requires-4
-refuse-at-requires-4 c κs = search needs
-
-same-length-4 : tie.Need-same-length-4
-same-length-4 c = search needs
 
 returns-4 : tie.Need-returns-4
 returns-4 c =
@@ -174,12 +132,6 @@ put-line-requires c κs =
     let f = c .before .before .before .before .before .before .before .before in
     omega (arith, space-at (c .before .before), ap length (written f))
 
-accept-at-requires : tie.Need-accept-at-requires
-accept-at-requires c κs = search needs
-
-same-length-5 : tie.Need-same-length-5
-same-length-5 c = search needs
-
 returns-5 : tie.Need-returns-5
 returns-5 c =
     let l = c .before .before .before in
@@ -195,31 +147,31 @@ pub add-spec : {M : Type 1} → statement M
 add-spec =
     tie.close
     (tie.spec
-    is-writable-requires
-    refuse-at-requires
-    same-length
+    (λ c κs. search needs)
+    (λ c κs. search needs)
+    (λ c. search needs)
     returns
-    is-given-requires
-    refuse-at-requires-2
-    same-length-2
+    (λ c κs. search needs)
+    (λ c κs. search needs)
+    (λ c. search needs)
     returns-2
-    written-length-requires
-    slice-aggregate-put-field
-    put-field-requires
+    (λ c κs. search needs)
+    (λ c. search needs)
+    (λ c κs. search needs)
     array-share-prefix-room
     slice-aggregate-is-carried
     is-carried-requires
-    refuse-at-requires-3
-    same-length-3
+    (λ c κs. search needs)
+    (λ c. search needs)
     returns-3
     add-has-space
-    has-space-requires
-    refuse-at-requires-4
-    same-length-4
+    (λ c κs. search needs)
+    (λ c κs. search needs)
+    (λ c. search needs)
     returns-4
     array-share-prefix-room-2
     slice-aggregate-put-line
     put-line-requires
-    accept-at-requires
-    same-length-5
+    (λ c κs. search needs)
+    (λ c. search needs)
     returns-5)

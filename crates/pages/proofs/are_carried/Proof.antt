@@ -33,34 +33,19 @@ by-lf f h p q r =
 loop-holds : tie.Need-loop-holds Inv-loop μ-loop
 loop-holds c = (refl, omega arith)
 
-find-lf-requires : tie.Need-find-lf-requires Inv-loop μ-loop
-find-lf-requires c κs = search needs
-
 returns : tie.Need-returns Inv-loop μ-loop
 returns c =
     let f = c .before in
     let b = now (f .before .before .before .args .body) in
     sym (f .before .loop .inv .0 ∙ carried-last b (f .before .loop .i) (f .find-lf .result) (f .find-lf .ensures) (omega arith) (f .before .loop .inv .1) ∙ empty-is b (f .before .loop .i))
 
-ends-cr-requires : tie.Need-ends-cr-requires Inv-loop μ-loop
-ends-cr-requires c κs = omega arith
-
 returns-2 : tie.Need-returns-2 Inv-loop μ-loop
 returns-2 c = sym (by-lf (c .before .before .before) (omega arith) (sym (c .before .ends-cr .ensures) ∙ c .if2 .taken) refl refl)
-
-add-next : tie.Need-add-next Inv-loop μ-loop
-add-next c = search needs
-
-opens-at-requires : tie.Need-opens-at-requires Inv-loop μ-loop
-opens-at-requires c κs = search needs
 
 returns-3 : tie.Need-returns-3 Inv-loop μ-loop
 returns-3 c =
     let e = c .before .before .before in
     sym (by-lf (e .before .before) (omega arith) (sym (e .ends-cr .ensures) ∙ c .before .before .if2 .left) (sym (c .before .opens-at .ensures) ∙ c .if3 .taken) refl)
-
-ends-at-requires : tie.Need-ends-at-requires Inv-loop μ-loop
-ends-at-requires c κs = search needs
 
 returns-4 : tie.Need-returns-4 Inv-loop μ-loop
 returns-4 c =
@@ -88,14 +73,14 @@ are-carried-spec =
     Inv-loop
     μ-loop
     loop-holds
-    find-lf-requires
+    (λ c κs. search needs)
     returns
-    ends-cr-requires
+    (λ c κs. omega arith)
     returns-2
-    add-next
-    opens-at-requires
+    (λ c. search needs)
+    (λ c κs. search needs)
     returns-3
-    ends-at-requires
+    (λ c κs. search needs)
     returns-4
     loop-less
     loop-again)

@@ -22,15 +22,6 @@ tested c e = ap isOpening (sym (c .before .place-at .ensures)) ∙ sym (c .is-op
 opening : (c : tie.Else1) → let a = c .before .before .before .before .args in placeAt (now (a .page)) (a .at) ≡ Opening
 opening c = opening-is _ (tested (c .before) (not-false _ (c .if1 .left)))
 
-place-at-requires : tie.Need-place-at-requires
-place-at-requires c κs = search needs
-
-is-opening-requires : tie.Need-is-opening-requires
-is-opening-requires c κs = search needs
-
-slice-aggregate-result : tie.Need-slice-aggregate-result
-slice-aggregate-result c = search needs
-
 returns : tie.Need-returns
 returns c =
     let a = c .before .before .before .before .before .args in
@@ -39,19 +30,10 @@ returns c =
 runs-to-requires : tie.Need-runs-to-requires
 runs-to-requires c κs = let a = c .before .before .before .before .args in place-in (now (a .page)) (a .at) (opening c) refl
 
-sub-field-body : tie.Need-sub-field-body
-sub-field-body c = search needs
-
-part-field-body-start : tie.Need-part-field-body-start
-part-field-body-start c = search needs
-
 part-field-body-end : tie.Need-part-field-body-end
 part-field-body-end c =
     let a = c .before .before .before .before .before .args in
     omega (arith, c .runs-to .ensures, text-within (now (a .page)) (a .at) (place-in (now (a .page)) (a .at) (opening (c .before)) refl))
-
-field-body-requires : tie.Need-field-body-requires
-field-body-requires c κs = search needs
 
 returns-2 : tie.Need-returns-2
 returns-2 c =
@@ -65,13 +47,13 @@ pub body-at-spec : {M : Type 1} → statement M
 body-at-spec =
     tie.close
     (tie.spec
-    place-at-requires
-    is-opening-requires
-    slice-aggregate-result
+    (λ c κs. search needs)
+    (λ c κs. search needs)
+    (λ c. search needs)
     returns
     runs-to-requires
-    sub-field-body
-    part-field-body-start
+    (λ c. search needs)
+    (λ c. search needs)
     part-field-body-end
-    field-body-requires
+    (λ c κs. search needs)
     returns-2)

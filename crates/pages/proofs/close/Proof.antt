@@ -21,29 +21,11 @@ writable-at e = sym (e .before .is-writable .ensures) ∙ not-false _ (e .if1 .l
 space-at : (e : tie.Else2) → let a = e .before .before .before .before .before .before .args in a .at + 2 ≤ min (length (now (a .buf))) pageMost
 space-at e = leb-true _ _ (sym (e .before .has-space .ensures) ∙ not-false _ (e .if2 .left))
 
-is-writable-requires : tie.Need-is-writable-requires
-is-writable-requires c κs = search needs
-
-refuse-at-requires : tie.Need-refuse-at-requires
-refuse-at-requires c κs = search needs
-
-same-length : tie.Need-same-length
-same-length c = search needs
-
 returns : tie.Need-returns
 returns c =
     let a = c .before .before .before .before .before .args in
     ap (λ (w : FiledAt). toldFiled w (now (a .buf))) (c .refuse-at .ensures)
     ∙ sym (close-21 (now (a .buf)) (a .at) (sym (c .before .before .is-writable .ensures) ∙ not-true _ (c .before .if1 .taken)))
-
-has-space-requires : tie.Need-has-space-requires
-has-space-requires c κs = search needs
-
-refuse-at-requires-2 : tie.Need-refuse-at-requires-2
-refuse-at-requires-2 c κs = search needs
-
-same-length-2 : tie.Need-same-length-2
-same-length-2 c = search needs
 
 returns-2 : tie.Need-returns-2
 returns-2 c =
@@ -65,12 +47,6 @@ slice-write-buf-2 c =
 add-accept-at : tie.Need-add-accept-at
 add-accept-at c = omega (arith, space-at c)
 
-accept-at-requires : tie.Need-accept-at-requires
-accept-at-requires c κs = search needs
-
-same-length-3 : tie.Need-same-length-3
-same-length-3 c = search needs
-
 returns-3 : tie.Need-returns-3
 returns-3 c =
     let e = c .before in
@@ -84,18 +60,18 @@ pub close-spec : {M : Type 1} → statement M
 close-spec =
     tie.close
     (tie.spec
-    is-writable-requires
-    refuse-at-requires
-    same-length
+    (λ c κs. search needs)
+    (λ c κs. search needs)
+    (λ c. search needs)
     returns
-    has-space-requires
-    refuse-at-requires-2
-    same-length-2
+    (λ c κs. search needs)
+    (λ c κs. search needs)
+    (λ c. search needs)
     returns-2
     add-next
     slice-write-buf
     slice-write-buf-2
     add-accept-at
-    accept-at-requires
-    same-length-3
+    (λ c κs. search needs)
+    (λ c. search needs)
     returns-3)

@@ -8,11 +8,8 @@ use borrow.Author.Needs.{needs}
 use Rattle.pages.proofs.end.Statement.{statement}
 use Rattle.pages.proofs.end.Tie as tie
 
-blank-requires : tie.Need-blank-requires
-blank-requires c κs = search needs
-
 returns : tie.Need-returns
 returns c = ap {B = PageRead} (λ (p : Party). record { ended = true; outcome = Accepted; party = p; next = c .before .args .next }) (c .blank .ensures)
 
 pub end-spec : {M : Type 1} → statement M
-end-spec = tie.close (tie.spec blank-requires returns)
+end-spec = tie.close (tie.spec (λ c κs. search needs) returns)

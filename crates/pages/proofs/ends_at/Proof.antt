@@ -11,20 +11,11 @@ use Rattle.pages.proofs.ends_at.Tie as tie
 returns : tie.Need-returns
 returns c = let a = c .before .args in sym (ends-none (now (a .page)) (a .at) (omega arith))
 
-shared-slice-read-if2 : tie.Need-shared-slice-read-if2
-shared-slice-read-if2 c = search needs
-
 returns-2 : tie.Need-returns-2
 returns-2 c = let a = c .before .before .before .args in sym (ends-other (now (a .page)) (a .at) (omega arith) (c .if2 .taken))
 
-add-next : tie.Need-add-next
-add-next c = search needs
-
 returns-3 : tie.Need-returns-3
 returns-3 c = let a = c .before .before .before .before .args in sym (ends-last (now (a .page)) (a .at) (omega arith) (c .before .if2 .left) (omega arith))
-
-shared-slice-read-result : tie.Need-shared-slice-read-result
-shared-slice-read-result c = search needs
 
 returns-4 : tie.Need-returns-4
 returns-4 c =
@@ -36,9 +27,9 @@ ends-at-spec =
     tie.close
     (tie.spec
     returns
-    shared-slice-read-if2
+    (λ c. search needs)
     returns-2
-    add-next
+    (λ c. search needs)
     returns-3
-    shared-slice-read-result
+    (λ c. search needs)
     returns-4)

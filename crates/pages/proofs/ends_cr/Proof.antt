@@ -10,14 +10,8 @@ use Rattle.pages.proofs.ends_cr.Tie as tie
 returns : tie.Need-returns
 returns c = let a = c .before .args in sym (ends-none (now (a .body)) (a .start) (a .end) (omega arith))
 
-sub-result : tie.Need-sub-result
-sub-result c = search needs
-
-shared-slice-read-result : tie.Need-shared-slice-read-result
-shared-slice-read-result c = search needs
-
 returns-2 : tie.Need-returns-2
 returns-2 c = let a = c .before .before .args in sym (ends-last (now (a .body)) (a .start) (a .end) (omega arith) (c .before .before .pre))
 
 pub ends-cr-spec : {M : Type 1} → statement M
-ends-cr-spec = tie.close (tie.spec returns sub-result shared-slice-read-result returns-2)
+ends-cr-spec = tie.close (tie.spec returns (λ c. search needs) (λ c. search needs) returns-2)

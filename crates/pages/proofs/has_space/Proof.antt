@@ -8,9 +8,6 @@ use Rattle.pages.proofs.Carried.{space-not, space-left}
 use Rattle.pages.proofs.has_space.Statement.{statement}
 use Rattle.pages.proofs.has_space.Tie as tie
 
-page-space-requires : tie.Need-page-space-requires
-page-space-requires c κs = search needs
-
 returns : tie.Need-returns
 returns c = let a = c .before .before .args in sym (space-not (a .len) (a .at) (a .more) (omega (arith, c .before .page-space .ensures)))
 
@@ -21,4 +18,4 @@ returns-2 c =
     space-left (p .page-space .result) (a .at) (a .more) (omega arith) ∙ ap (leb (a .at + a .more)) (p .page-space .ensures)
 
 pub has-space-spec : {M : Type 1} → statement M
-has-space-spec = tie.close (tie.spec page-space-requires returns returns-2)
+has-space-spec = tie.close (tie.spec (λ c κs. search needs) returns returns-2)

@@ -20,26 +20,14 @@ within t =
     let s = t .before .before .before .before in
     omega (arith, t .tag-length .ensures, tag-within (s .args .p), ap length (s .pre))
 
-is-identified-59f-requires : tie.Need-is-identified-59f-requires
-is-identified-59f-requires c κs = search needs
-
 returns : tie.Need-returns
 returns c = sym (carried-identified (said (c .before .before .before .args .p)) (sym (c .before .is-identified-59f .ensures) ∙ c .if1 .taken))
-
-tag-length-requires : tie.Need-tag-length-requires
-tag-length-requires c κs = search needs
 
 sub-are-carried : tie.Need-sub-are-carried
 sub-are-carried c = within c
 
 part-are-carried-start : tie.Need-part-are-carried-start
 part-are-carried-start c = within c
-
-part-are-carried-end : tie.Need-part-are-carried-end
-part-are-carried-end c = search needs
-
-are-carried-requires : tie.Need-are-carried-requires
-are-carried-requires c κs = search needs
 
 returns-2 : tie.Need-returns-2
 returns-2 c =
@@ -55,11 +43,11 @@ pub is-carried-spec : {M : Type 1} → statement M
 is-carried-spec =
     tie.close
     (tie.spec
-    is-identified-59f-requires
+    (λ c κs. search needs)
     returns
-    tag-length-requires
+    (λ c κs. search needs)
     sub-are-carried
     part-are-carried-start
-    part-are-carried-end
-    are-carried-requires
+    (λ c. search needs)
+    (λ c κs. search needs)
     returns-2)

@@ -9,11 +9,8 @@ use Rattle.pages.proofs.is_identified_59f.Tie as tie
 returns : tie.Need-returns
 returns c = sym (not-identified (c .before .before .args .p) (not-true _ (c .if1 .taken)))
 
-is-59f-requires : tie.Need-is-59f-requires
-is-59f-requires c κs = search needs
-
 returns-2 : tie.Need-returns-2
 returns-2 c = sym (identified-is (c .before .before .before .args .p) (not-false _ (c .before .if1 .left)) (sym (c .is-59f .ensures)))
 
 pub is-identified-59f-spec : {M : Type 1} → statement M
-is-identified-59f-spec = tie.close (tie.spec returns is-59f-requires returns-2)
+is-identified-59f-spec = tie.close (tie.spec returns (λ c κs. search needs) returns-2)

@@ -16,12 +16,6 @@ returns-2 c = let a = c .before .before .args in sym (readable-end (now (a .page
 returns-3 : tie.Need-returns-3
 returns-3 c = let a = c .before .before .before .args in sym (readable-zero (now (a .page)) (a .at) (omega arith))
 
-sub-result : tie.Need-sub-result
-sub-result c = search needs
-
-shared-slice-read-result : tie.Need-shared-slice-read-result
-shared-slice-read-result c = search needs
-
 returns-4 : tie.Need-returns-4
 returns-4 c =
     let a = c .before .before .before .before .args in
@@ -29,4 +23,4 @@ returns-4 c =
 
 pub is-readable-spec : {M : Type 1} → statement M
 is-readable-spec =
-    tie.close (tie.spec returns returns-2 returns-3 sub-result shared-slice-read-result returns-4)
+    tie.close (tie.spec returns returns-2 returns-3 (λ c. search needs) (λ c. search needs) returns-4)

@@ -13,14 +13,8 @@ returns c = let a = c .before .args in sym (writable-past (now (a .buf)) (a .at)
 returns-2 : tie.Need-returns-2
 returns-2 c = let a = c .before .before .args in sym (writable-zero (now (a .buf)) (a .at) (omega arith))
 
-sub-result : tie.Need-sub-result
-sub-result c = search needs
-
-shared-slice-read-result : tie.Need-shared-slice-read-result
-shared-slice-read-result c = search needs
-
 returns-3 : tie.Need-returns-3
 returns-3 c = let a = c .before .before .before .args in sym (writable-lf (now (a .buf)) (a .at) (omega arith) (λ e. omega arith))
 
 pub is-writable-spec : {M : Type 1} → statement M
-is-writable-spec = tie.close (tie.spec returns returns-2 sub-result shared-slice-read-result returns-3)
+is-writable-spec = tie.close (tie.spec returns returns-2 (λ c. search needs) (λ c. search needs) returns-3)

@@ -8,16 +8,10 @@ use Rattle.pages.proofs.Tags.{unknown-digit}
 use Rattle.pages.proofs.known.Statement.{statement}
 use Rattle.pages.proofs.known.Tie as tie
 
-known-50-requires : tie.Need-known-50-requires
-known-50-requires c κs = search needs
-
 returns : tie.Need-returns
 returns c =
     let a = c .before .before .args in
     c .known-50 .ensures ∙ sym (ap (λ (d : ℕ). knownIn options d (a .letter) (a .skip)) (c .before .if1 .taken))
-
-known-59-requires : tie.Need-known-59-requires
-known-59-requires c κs = search needs
 
 returns-2 : tie.Need-returns-2
 returns-2 c =
@@ -28,4 +22,4 @@ returns-3 : tie.Need-returns-3
 returns-3 c = let a = c .before .before .args in sym (unknown-digit (a .digit) (a .letter) (a .skip) (c .before .if1 .left) (c .if2 .left))
 
 pub known-spec : {M : Type 1} → statement M
-known-spec = tie.close (tie.spec known-50-requires returns known-59-requires returns-2 returns-3)
+known-spec = tie.close (tie.spec (λ c κs. search needs) returns (λ c κs. search needs) returns-2 returns-3)

@@ -8,57 +8,33 @@ use Rattle.pages.proofs.Tags.{unknown-50}
 use Rattle.pages.proofs.known_50.Statement.{statement}
 use Rattle.pages.proofs.known_50.Tie as tie
 
-tagged-requires : tie.Need-tagged-requires
-tagged-requires c κs = search needs
-
 returns : tie.Need-returns
 unfolding knownIn
 returns c = c .tagged .ensures ∙ sym (ap (λ (l : ℕ). knownIn options 48 l (c .before .before .args .skip)) (c .before .if1 .taken))
-
-tagged-requires-2 : tie.Need-tagged-requires-2
-tagged-requires-2 c κs = search needs
 
 returns-2 : tie.Need-returns-2
 unfolding knownIn
 returns-2 c = c .tagged2 .ensures ∙ sym (ap (λ (l : ℕ). knownIn options 48 l (c .before .before .before .args .skip)) (c .before .if2 .taken))
 
-tagged-requires-3 : tie.Need-tagged-requires-3
-tagged-requires-3 c κs = search needs
-
 returns-3 : tie.Need-returns-3
 unfolding knownIn
 returns-3 c = c .tagged3 .ensures ∙ sym (ap (λ (l : ℕ). knownIn options 48 l (c .before .before .before .before .args .skip)) (c .before .if3 .taken))
-
-tagged-requires-4 : tie.Need-tagged-requires-4
-tagged-requires-4 c κs = search needs
 
 returns-4 : tie.Need-returns-4
 unfolding knownIn
 returns-4 c = c .tagged4 .ensures ∙ sym (ap (λ (l : ℕ). knownIn options 48 l (c .before .before .before .before .before .args .skip)) (c .before .if4 .taken))
 
-tagged-requires-5 : tie.Need-tagged-requires-5
-tagged-requires-5 c κs = search needs
-
 returns-5 : tie.Need-returns-5
 unfolding knownIn
 returns-5 c = c .tagged5 .ensures ∙ sym (ap (λ (l : ℕ). knownIn options 48 l (c .before .before .before .before .before .before .args .skip)) (c .before .if5 .taken))
-
-tagged-requires-6 : tie.Need-tagged-requires-6
-tagged-requires-6 c κs = search needs
 
 returns-6 : tie.Need-returns-6
 unfolding knownIn
 returns-6 c = c .tagged6 .ensures ∙ sym (ap (λ (l : ℕ). knownIn options 48 l (c .before .before .before .before .before .before .before .args .skip)) (c .before .if6 .taken))
 
-tagged-requires-7 : tie.Need-tagged-requires-7
-tagged-requires-7 c κs = search needs
-
 returns-7 : tie.Need-returns-7
 unfolding knownIn
 returns-7 c = c .tagged7 .ensures ∙ sym (ap (λ (l : ℕ). knownIn options 48 l (c .before .before .before .before .before .before .before .before .args .skip)) (c .before .if7 .taken))
-
-tagged-requires-8 : tie.Need-tagged-requires-8
-tagged-requires-8 c κs = search needs
 
 returns-8 : tie.Need-returns-8
 unfolding knownIn
@@ -71,20 +47,20 @@ pub known-50-spec : {M : Type 1} → statement M
 known-50-spec =
     tie.close
     (tie.spec
-    tagged-requires
+    (λ c κs. search needs)
     returns
-    tagged-requires-2
+    (λ c κs. search needs)
     returns-2
-    tagged-requires-3
+    (λ c κs. search needs)
     returns-3
-    tagged-requires-4
+    (λ c κs. search needs)
     returns-4
-    tagged-requires-5
+    (λ c κs. search needs)
     returns-5
-    tagged-requires-6
+    (λ c κs. search needs)
     returns-6
-    tagged-requires-7
+    (λ c κs. search needs)
     returns-7
-    tagged-requires-8
+    (λ c κs. search needs)
     returns-8
     returns-9)

@@ -8,22 +8,13 @@ use Rattle.pages.proofs.Tags.{unknown-59}
 use Rattle.pages.proofs.known_59.Statement.{statement}
 use Rattle.pages.proofs.known_59.Tie as tie
 
-tagged-requires : tie.Need-tagged-requires
-tagged-requires c κs = search needs
-
 returns : tie.Need-returns
 unfolding knownIn
 returns c = c .tagged .ensures ∙ sym (ap (λ (l : ℕ). knownIn options 57 l (c .before .before .args .skip)) (c .before .if1 .taken))
 
-tagged-requires-2 : tie.Need-tagged-requires-2
-tagged-requires-2 c κs = search needs
-
 returns-2 : tie.Need-returns-2
 unfolding knownIn
 returns-2 c = c .tagged2 .ensures ∙ sym (ap (λ (l : ℕ). knownIn options 57 l (c .before .before .before .args .skip)) (c .before .if2 .taken))
-
-tagged-requires-3 : tie.Need-tagged-requires-3
-tagged-requires-3 c κs = search needs
 
 returns-3 : tie.Need-returns-3
 unfolding knownIn
@@ -36,10 +27,10 @@ pub known-59-spec : {M : Type 1} → statement M
 known-59-spec =
     tie.close
     (tie.spec
-    tagged-requires
+    (λ c κs. search needs)
     returns
-    tagged-requires-2
+    (λ c κs. search needs)
     returns-2
-    tagged-requires-3
+    (λ c κs. search needs)
     returns-3
     returns-4)

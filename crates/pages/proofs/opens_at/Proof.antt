@@ -10,11 +10,8 @@ use Rattle.pages.proofs.opens_at.Tie as tie
 returns : tie.Need-returns
 returns c = let a = c .before .args in sym (opens-none (now (a .page)) (a .at) (omega arith))
 
-shared-slice-read-result : tie.Need-shared-slice-read-result
-shared-slice-read-result c = search needs
-
 returns-2 : tie.Need-returns-2
 returns-2 c = let a = c .before .before .args in sym (opens-first (now (a .page)) (a .at) (omega arith))
 
 pub opens-at-spec : {M : Type 1} → statement M
-opens-at-spec = tie.close (tie.spec returns shared-slice-read-result returns-2)
+opens-at-spec = tie.close (tie.spec returns (λ c. search needs) returns-2)

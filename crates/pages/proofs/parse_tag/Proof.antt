@@ -11,26 +11,11 @@ use Rattle.pages.proofs.parse_tag.Tie as tie
 returns : tie.Need-returns
 returns c = sym (tag-short (now (c .before .before .args .text)) (omega arith))
 
-shared-slice-read-if2 : tie.Need-shared-slice-read-if2
-shared-slice-read-if2 c = search needs
-
 returns-2 : tie.Need-returns-2
 returns-2 c = sym (at-first (now (c .before .before .before .before .args .text)) (omega arith) (c .if2 .taken))
 
-shared-slice-read-if3 : tie.Need-shared-slice-read-if3
-shared-slice-read-if3 c = search needs
-
 returns-3 : tie.Need-returns-3
 returns-3 c = sym (at-second (now (c .before .before .before .before .before .before .args .text)) (omega arith) (c .if3 .taken))
-
-shared-slice-read-if4 : tie.Need-shared-slice-read-if4
-shared-slice-read-if4 c = search needs
-
-shared-slice-read-known : tie.Need-shared-slice-read-known
-shared-slice-read-known c = search needs
-
-known-requires : tie.Need-known-requires
-known-requires c κs = search needs
 
 returns-4 : tie.Need-returns-4
 returns-4 c =
@@ -42,30 +27,15 @@ returns-5 c =
     let t = now (c .before .before .before .before .before .before .before .before .before .args .text) in
     sym (at-end t (c .before .before .before .before .before .if2 .left) (c .before .before .before .if3 .left) (c .before .if4 .left) (omega arith) (omega arith))
 
-shared-slice-read-if6 : tie.Need-shared-slice-read-if6
-shared-slice-read-if6 c = search needs
-
 returns-6 : tie.Need-returns-6
 returns-6 c =
     let t = now (c .before .before .before .before .before .before .before .before .before .before .before .args .text) in
     sym (at-open t (c .before .before .before .before .before .before .before .if2 .left) (c .before .before .before .before .before .if3 .left) (c .before .before .before .if4 .left) (omega arith) (c .if6 .taken))
 
-shared-slice-read-if7 : tie.Need-shared-slice-read-if7
-shared-slice-read-if7 c = search needs
-
 returns-7 : tie.Need-returns-7
 returns-7 c =
     let t = now (c .before .before .before .before .before .before .before .before .before .before .before .before .before .args .text) in
     sym (at-zero t (c .before .before .before .before .before .before .before .before .before .if2 .left) (c .before .before .before .before .before .before .before .if3 .left) (c .before .before .before .before .before .if4 .left) (omega arith) (c .before .before .if6 .left) (c .if7 .taken))
-
-shared-slice-read-known-2 : tie.Need-shared-slice-read-known-2
-shared-slice-read-known-2 c = search needs
-
-shared-slice-read-known-3 : tie.Need-shared-slice-read-known-3
-shared-slice-read-known-3 c = search needs
-
-known-requires-2 : tie.Need-known-requires-2
-known-requires-2 c κs = search needs
 
 returns-8 : tie.Need-returns-8
 returns-8 c =
@@ -77,20 +47,20 @@ parse-tag-spec =
     tie.close
     (tie.spec
     returns
-    shared-slice-read-if2
+    (λ c. search needs)
     returns-2
-    shared-slice-read-if3
+    (λ c. search needs)
     returns-3
-    shared-slice-read-if4
-    shared-slice-read-known
-    known-requires
+    (λ c. search needs)
+    (λ c. search needs)
+    (λ c κs. search needs)
     returns-4
     returns-5
-    shared-slice-read-if6
+    (λ c. search needs)
     returns-6
-    shared-slice-read-if7
+    (λ c. search needs)
     returns-7
-    shared-slice-read-known-2
-    shared-slice-read-known-3
-    known-requires-2
+    (λ c. search needs)
+    (λ c. search needs)
+    (λ c κs. search needs)
     returns-8)

@@ -11,9 +11,6 @@ use Rattle.pages.proofs.place_at.Tie as tie
 returns : tie.Need-returns
 returns c = let a = c .before .before .args in sym (place-long (now (a .page)) (a .at) (omega arith))
 
-is-readable-requires : tie.Need-is-readable-requires
-is-readable-requires c κs = search needs
-
 returns-2 : tie.Need-returns-2
 returns-2 c =
     let a = c .before .before .before .before .args in
@@ -24,16 +21,10 @@ returns-3 c =
     let a = c .before .before .before .before .before .args in
     sym (place-length (now (a .page)) (a .at) (omega arith) (sym (c .before .before .is-readable .ensures) ∙ not-false _ (c .before .if2 .left)) (omega arith))
 
-opens-at-requires : tie.Need-opens-at-requires
-opens-at-requires c κs = search needs
-
 returns-4 : tie.Need-returns-4
 returns-4 c =
     let a = c .before .before .before .before .before .before .before .args in
     sym (place-opening (now (a .page)) (a .at) (omega arith) (sym (c .before .before .before .before .is-readable .ensures) ∙ not-false _ (c .before .before .before .if2 .left)) (omega arith) (sym (c .before .opens-at .ensures) ∙ c .if4 .taken))
-
-ends-at-requires : tie.Need-ends-at-requires
-ends-at-requires c κs = search needs
 
 returns-5 : tie.Need-returns-5
 returns-5 c =
@@ -52,11 +43,11 @@ place-at-spec =
     tie.close
     (tie.spec
     returns
-    is-readable-requires
+    (λ c κs. search needs)
     returns-2
     returns-3
-    opens-at-requires
+    (λ c κs. search needs)
     returns-4
-    ends-at-requires
+    (λ c κs. search needs)
     returns-5
     returns-6)

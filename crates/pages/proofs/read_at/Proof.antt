@@ -28,73 +28,16 @@ ends c = sym (c .before .before .place-at .ensures) ∙ c .enum-told5 .given .1
 stray : (c : tie.After-enum-told6) → let a = c .before .before .before .before .args in placeAt (now (a .page)) (a .at) ≡ Stray
 stray c = sym (c .before .before .place-at .ensures) ∙ c .enum-told6 .given .1
 
-place-at-requires : tie.Need-place-at-requires
-place-at-requires c κs = search needs
-
-enum-told : tie.Need-enum-told
-enum-told c = search needs
-
-refuse-requires : tie.Need-refuse-requires
-refuse-requires c κs = search needs
-
-enum-told-2 : tie.Need-enum-told-2
-enum-told-2 c = search needs
-
-refuse-requires-2 : tie.Need-refuse-requires-2
-refuse-requires-2 c κs = search needs
-
-enum-told-3 : tie.Need-enum-told-3
-enum-told-3 c = search needs
-
-refuse-requires-3 : tie.Need-refuse-requires-3
-refuse-requires-3 c κs = search needs
-
-enum-told-4 : tie.Need-enum-told-4
-enum-told-4 c = search needs
-
 runs-to-requires : tie.Need-runs-to-requires
 runs-to-requires c κs = let a = c .before .before .before .before .args in place-in (now (a .page)) (a .at) (opening c) refl
-
-sub-read-field : tie.Need-sub-read-field
-sub-read-field c = search needs
-
-part-read-field-start : tie.Need-part-read-field-start
-part-read-field-start c = search needs
 
 part-read-field-end : tie.Need-part-read-field-end
 part-read-field-end c =
     let a = c .before .before .before .before .before .args in
     omega (arith, c .runs-to .ensures, text-within (now (a .page)) (a .at) (place-in (now (a .page)) (a .at) (opening (c .before)) refl))
 
-past-requires : tie.Need-past-requires
-past-requires c κs = search needs
-
-read-field-requires : tie.Need-read-field-requires
-read-field-requires c κs = search needs
-
-enum-told-5 : tie.Need-enum-told-5
-enum-told-5 c = search needs
-
-find-lf-requires : tie.Need-find-lf-requires
-find-lf-requires c κs = search needs
-
-past-requires-2 : tie.Need-past-requires-2
-past-requires-2 c κs = search needs
-
-end-requires : tie.Need-end-requires
-end-requires c κs = search needs
-
-enum-told-6 : tie.Need-enum-told-6
-enum-told-6 c = search needs
-
 runs-to-requires-2 : tie.Need-runs-to-requires-2
 runs-to-requires-2 c κs = let a = c .before .before .before .before .args in place-in (now (a .page)) (a .at) (stray c) refl
-
-past-requires-3 : tie.Need-past-requires-3
-past-requires-3 c κs = search needs
-
-refuse-requires-4 : tie.Need-refuse-requires-4
-refuse-requires-4 c κs = search needs
 
 returns : tie.Need-returns
 returns c =
@@ -140,28 +83,28 @@ pub read-at-spec : {M : Type 1} → statement M
 read-at-spec =
     tie.close
     (tie.spec
-    place-at-requires
-    enum-told
-    refuse-requires
-    enum-told-2
-    refuse-requires-2
-    enum-told-3
-    refuse-requires-3
-    enum-told-4
+    (λ c κs. search needs)
+    (λ c. search needs)
+    (λ c κs. search needs)
+    (λ c. search needs)
+    (λ c κs. search needs)
+    (λ c. search needs)
+    (λ c κs. search needs)
+    (λ c. search needs)
     runs-to-requires
-    sub-read-field
-    part-read-field-start
+    (λ c. search needs)
+    (λ c. search needs)
     part-read-field-end
-    past-requires
-    read-field-requires
-    enum-told-5
-    find-lf-requires
-    past-requires-2
-    end-requires
-    enum-told-6
+    (λ c κs. search needs)
+    (λ c κs. search needs)
+    (λ c. search needs)
+    (λ c κs. search needs)
+    (λ c κs. search needs)
+    (λ c κs. search needs)
+    (λ c. search needs)
     runs-to-requires-2
-    past-requires-3
-    refuse-requires-4
+    (λ c κs. search needs)
+    (λ c κs. search needs)
     returns
     returns-2
     returns-3

@@ -14,29 +14,11 @@ use Rattle.pages.proofs.Places.{tagged-told}
 use Rattle.pages.proofs.read_field.Statement.{statement}
 use Rattle.pages.proofs.read_field.Tie as tie
 
-parse-tag-requires : tie.Need-parse-tag-requires
-parse-tag-requires c κs = search needs
-
-enum-known-tag : tie.Need-enum-known-tag
-enum-known-tag c = search needs
-
-enum-told : tie.Need-enum-told
-enum-told c = search needs
-
-refuse-requires : tie.Need-refuse-requires
-refuse-requires c κs = search needs
-
 returns : tie.Need-returns
 returns c =
     let a = c .before .before .before .before .before .args in
     tagged-told (now (a .text)) (a .next) (ap (toldTag (now (a .text))) (sym (c .before .enum-told .given .1)) ∙ c .before .before .before .parse-tag .ensures) (c .refuse .result)
     (ap (λ (w : Read). toldRead w []) (c .refuse .ensures))
-
-behind-requires : tie.Need-behind-requires
-behind-requires c κs = search needs
-
-read-requires : tie.Need-read-requires
-read-requires c κs = search needs
 
 returns-2 : tie.Need-returns-2
 returns-2 c =
@@ -51,11 +33,11 @@ pub read-field-spec : {M : Type 1} → statement M
 read-field-spec =
     tie.close
     (tie.spec
-    parse-tag-requires
-    enum-known-tag
-    enum-told
-    refuse-requires
+    (λ c κs. search needs)
+    (λ c. search needs)
+    (λ c. search needs)
+    (λ c κs. search needs)
     returns
-    behind-requires
-    read-requires
+    (λ c κs. search needs)
+    (λ c κs. search needs)
     returns-2)

@@ -8,12 +8,9 @@ use borrow.Author.Needs.{needs}
 use Rattle.pages.proofs.refuse.Statement.{statement}
 use Rattle.pages.proofs.refuse.Tie as tie
 
-blank-requires : tie.Need-blank-requires
-blank-requires c κs = search needs
-
 returns : tie.Need-returns
 returns c =
     ap {B = PageRead} (λ (p : Party). record { ended = false; outcome = Refused (c .before .args .e); party = p; next = c .before .args .next }) (c .blank .ensures)
 
 pub refuse-spec : {M : Type 1} → statement M
-refuse-spec = tie.close (tie.spec blank-requires returns)
+refuse-spec = tie.close (tie.spec (λ c κs. search needs) returns)

@@ -20,17 +20,11 @@ abbrev μ-loop : tie.MeasureT-loop
 loop-holds : tie.Need-loop-holds Inv-loop μ-loop
 loop-holds c = (refl, c .before .pre)
 
-find-lf-requires : tie.Need-find-lf-requires Inv-loop μ-loop
-find-lf-requires c κs = search needs
-
 returns : tie.Need-returns Inv-loop μ-loop
 returns c =
     let f = c .before in
     let a = f .before .before .before .args in
     to-end (now (a .page)) (f .before .loop .i) (f .find-lf .result) (f .find-lf .ensures) (f .before .loop .inv .1) (omega arith) ∙ sym (f .before .loop .inv .0)
-
-add-next : tie.Need-add-next Inv-loop μ-loop
-add-next c = search needs
 
 returns-2 : tie.Need-returns-2 Inv-loop μ-loop
 returns-2 c =
@@ -40,9 +34,6 @@ returns-2 c =
     to-lf (now (a .page)) (f .before .loop .i) lf (f .find-lf .ensures) (f .before .loop .inv .1) (omega arith) (followed-none (now (a .page)) (lf + 1) (omega arith))
     ∙ sym (f .before .loop .inv .0)
 
-opens-at-requires : tie.Need-opens-at-requires Inv-loop μ-loop
-opens-at-requires c κs = search needs
-
 returns-3 : tie.Need-returns-3 Inv-loop μ-loop
 returns-3 c =
     let f = c .before .before .before .before in
@@ -51,9 +42,6 @@ returns-3 c =
     to-lf (now (a .page)) (f .before .loop .i) lf (f .find-lf .ensures) (f .before .loop .inv .1) (omega arith)
     (followed-mark (now (a .page)) (lf + 1) (omega arith) (sym (c .before .opens-at .ensures) ∙ c .if3 .taken) refl)
     ∙ sym (f .before .loop .inv .0)
-
-ends-at-requires : tie.Need-ends-at-requires Inv-loop μ-loop
-ends-at-requires c κs = search needs
 
 returns-4 : tie.Need-returns-4 Inv-loop μ-loop
 returns-4 c =
@@ -87,13 +75,13 @@ runs-to-spec =
     Inv-loop
     μ-loop
     loop-holds
-    find-lf-requires
+    (λ c κs. search needs)
     returns
-    add-next
+    (λ c. search needs)
     returns-2
-    opens-at-requires
+    (λ c κs. search needs)
     returns-3
-    ends-at-requires
+    (λ c κs. search needs)
     returns-4
     loop-less
     loop-again)

@@ -56,12 +56,6 @@ module _ (c : tie.Else5) where
       same (headed limits) (accounted (c4 .before) .yes (not-false _ (c4 .if4 .left)))
       (with-bic (c .before) .yes (not-false _ (c .if5 .left))) n
 
-index-of-requires : tie.Need-index-of-requires
-index-of-requires c κs = search needs
-
-index-of-requires-2 : tie.Need-index-of-requires-2
-index-of-requires-2 c κs = search needs
-
 returns : tie.Need-returns
 returns c =
     let i = c .before .before .index-of .ensures in
@@ -74,19 +68,10 @@ returns-2 c = fails (λ e. equal-false _ _ (not-true _ (c .if2 .taken)) (head e 
 returns-3 : tie.Need-returns-3
 returns-3 c = fails (λ e. c .if3 .taken (head e .count))
 
-limits-of-requires : tie.Need-limits-of-requires
-limits-of-requires c κs = search needs
-
-same-where-requires : tie.Need-same-where-requires
-same-where-requires c κs = search needs
-
 returns-4 : tie.Need-returns-4
 returns-4 c =
     let l = c .before .before .before .before in
     fails (λ e. accounted (c .before) .no (not-true _ (c .if4 .taken)) (account (headed l) e))
-
-same-where-requires-2 : tie.Need-same-where-requires-2
-same-where-requires-2 c κs = search needs
 
 returns-5 : tie.Need-returns-5
 returns-5 c =
@@ -97,9 +82,6 @@ returns-6 : tie.Need-returns-6
 returns-6 c =
     let c5 = c .before .before in
     holds (by-names c5 (where-none _ _ _ (rw (limits c5 .limits-of .ensures) at (c .if6 .taken))))
-
-same-names-requires : tie.Need-same-names-requires
-same-names-requires c κs = search needs
 
 returns-7 : tie.Need-returns-7
 returns-7 c =
@@ -112,16 +94,16 @@ pub same-spec : {M : Type 1} → statement M
 same-spec =
     tie.close
     (tie.spec
-    index-of-requires
-    index-of-requires-2
+    (λ c κs. search needs)
+    (λ c κs. search needs)
     returns
     returns-2
     returns-3
-    limits-of-requires
-    same-where-requires
+    (λ c κs. search needs)
+    (λ c κs. search needs)
     returns-4
-    same-where-requires-2
+    (λ c κs. search needs)
     returns-5
     returns-6
-    same-names-requires
+    (λ c κs. search needs)
     returns-7)

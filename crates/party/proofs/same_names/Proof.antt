@@ -59,21 +59,6 @@ module _ (c : tie.At-loop Inv-loop μ-loop) where
 loop-holds : tie.Need-loop-holds Inv-loop μ-loop
 loop-holds c = (omega arith, omega arith, refl)
 
-mul-t : tie.Need-mul-t Inv-loop μ-loop
-mul-t c = omega arith
-
-element-copy-out-t : tie.Need-element-copy-out-t Inv-loop μ-loop
-element-copy-out-t c = omega arith
-
-mul-u : tie.Need-mul-u Inv-loop μ-loop
-mul-u c = omega arith
-
-element-copy-out-u : tie.Need-element-copy-out-u Inv-loop μ-loop
-element-copy-out-u c = omega arith
-
-same-text-requires : tie.Need-same-text-requires Inv-loop μ-loop
-same-text-requires c κs = search needs
-
 returns : tie.Need-returns Inv-loop μ-loop
 returns c =
     let at = c .before .before .before .before .before .before in
@@ -83,12 +68,6 @@ returns c =
     fails
     (λ e. agree-not (texts (p at)) (texts (q at)) n i (used none) (omega (arith, ltb-true))
     (λ f. differ (sym (text-at (p at) i) ∙ (f ∙ text-at (q at) i))) (sym (named n (p at)) ∙ (e ∙ named n (q at))))
-
-add-i : tie.Need-add-i Inv-loop μ-loop
-add-i c = omega arith
-
-loop-less : tie.Need-loop-less Inv-loop μ-loop
-loop-less c = omega arith
 
 loop-again : tie.Need-loop-again Inv-loop μ-loop
 loop-again c =
@@ -114,14 +93,14 @@ same-names-spec =
     Inv-loop
     μ-loop
     loop-holds
-    mul-t
-    element-copy-out-t
-    mul-u
-    element-copy-out-u
-    same-text-requires
+    (λ c. omega arith)
+    (λ c. omega arith)
+    (λ c. omega arith)
+    (λ c. omega arith)
+    (λ c κs. search needs)
     returns
-    add-i
-    loop-less
+    (λ c. omega arith)
+    (λ c. omega arith)
     loop-again
     returns-2
     returns-3)

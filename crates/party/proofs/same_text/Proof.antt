@@ -44,24 +44,12 @@ returns c = fails (λ e. c .if1 .taken (ap (λ (w : Used). w .len) e))
 loop-holds : tie.Need-loop-holds Inv-loop μ-loop
 loop-holds c = (omega arith, omega arith, refl)
 
-element-copy-out-if3 : tie.Need-element-copy-out-if3 Inv-loop μ-loop
-element-copy-out-if3 c = omega arith
-
-element-copy-out-if3-2 : tie.Need-element-copy-out-if3-2 Inv-loop μ-loop
-element-copy-out-if3-2 c = omega arith
-
 returns-2 : tie.Need-returns-2 Inv-loop μ-loop
 returns-2 c =
     let at = c .before .before .before .before .before in
     fails
     (λ e. agree-not (t at .bytes) (u at .bytes) (t at .len) (at .loop .i) 0 (omega (arith, ltb-true)) (c .if3 .taken)
     (used-to (t at) (u at) (at .before .if1 .left) e))
-
-add-i : tie.Need-add-i Inv-loop μ-loop
-add-i c = omega arith
-
-loop-less : tie.Need-loop-less Inv-loop μ-loop
-loop-less c = omega arith
 
 loop-again : tie.Need-loop-again Inv-loop μ-loop
 loop-again c =
@@ -86,11 +74,11 @@ same-text-spec =
     μ-loop
     returns
     loop-holds
-    element-copy-out-if3
-    element-copy-out-if3-2
+    (λ c. omega arith)
+    (λ c. omega arith)
     returns-2
-    add-i
-    loop-less
+    (λ c. omega arith)
+    (λ c. omega arith)
     loop-again
     returns-3
     returns-4)

@@ -12,9 +12,6 @@ use Rattle.party.proofs.same_where.Tie as tie
 returns : tie.Need-returns
 returns c = holds (where-none (c .before .args .limit) _ _ (c .if1 .taken))
 
-same-text-requires : tie.Need-same-text-requires
-same-text-requires c κs = search needs
-
 returns-2 : tie.Need-returns-2
 returns-2 c =
     let start = c .before .before in
@@ -23,4 +20,4 @@ returns-2 c =
     (λ e. head-eq-of-cons-eq (where-same limit _ _ (c .before .if1 .left) e)) (c .same-text .ensures)
 
 pub same-where-spec : {M : Type 1} → statement M
-same-where-spec = tie.close (tie.spec returns same-text-requires returns-2)
+same-where-spec = tie.close (tie.spec returns (λ c κs. search needs) returns-2)

@@ -6,14 +6,8 @@ use borrow.Author.Needs.{needs}
 use Rattle.reader.proofs.account.Statement.{statement}
 use Rattle.reader.proofs.account.Tie as tie
 
-limits-of-requires : tie.Need-limits-of-requires
-limits-of-requires c κs = search needs
-
-parse-account-requires : tie.Need-parse-account-requires
-parse-account-requires c κs = search needs
-
 returns : tie.Need-returns
 returns c = let a = c .before .before .before .args in c .parse-account .ensures ∙ account-reply (a .option) (c .before .limits-of .ensures) (now (a .text))
 
 pub account-spec : {M : Type 1} → statement M
-account-spec = tie.close (tie.spec limits-of-requires parse-account-requires returns)
+account-spec = tie.close (tie.spec (λ c κs. search needs) (λ c κs. search needs) returns)

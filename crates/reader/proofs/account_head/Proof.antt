@@ -10,26 +10,11 @@ use borrow.Author.Needs.{needs}
 use Rattle.reader.proofs.account_head.Statement.{statement}
 use Rattle.reader.proofs.account_head.Tie as tie
 
-starts-with-slash-requires : tie.Need-starts-with-slash-requires
-starts-with-slash-requires c κs = search needs
-
-no-head-requires : tie.Need-no-head-requires
-no-head-requires c κs = search needs
-
 returns : tie.Need-returns
 returns c =
     let a = c .before .before .before .before .args in
     ap (toldHead (now (a .line))) (c .no-head .ensures)
     ∙ sym (account-none (a .option) (now (a .line)) (sym (c .before .before .starts-with-slash .ensures) ∙ not-true _ (c .before .if1 .taken)))
-
-behind-requires : tie.Need-behind-requires
-behind-requires c κs = search needs
-
-account-requires : tie.Need-account-requires
-account-requires c κs = search needs
-
-head-requires : tie.Need-head-requires
-head-requires c κs = search needs
 
 returns-2 : tie.Need-returns-2
 returns-2 c =
@@ -42,10 +27,10 @@ pub account-head-spec : {M : Type 1} → statement M
 account-head-spec =
     tie.close
     (tie.spec
-    starts-with-slash-requires
-    no-head-requires
+    (λ c κs. search needs)
+    (λ c κs. search needs)
     returns
-    behind-requires
-    account-requires
-    head-requires
+    (λ c κs. search needs)
+    (λ c κs. search needs)
+    (λ c κs. search needs)
     returns-2)

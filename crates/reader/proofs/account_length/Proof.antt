@@ -6,9 +6,6 @@ use borrow.Author.Needs.{needs}
 use Rattle.reader.proofs.account_length.Statement.{statement}
 use Rattle.reader.proofs.account_length.Tie as tie
 
-limits-of-requires : tie.Need-limits-of-requires
-limits-of-requires c κs = search needs
-
 returns : tie.Need-returns
 returns c = let a = c .before .before .before .before .args in sym (length-short (a .option) (c .before .before .limits-of .ensures) (now (a .text)) (c .if1 .taken))
 
@@ -19,4 +16,4 @@ returns-3 : tie.Need-returns-3
 returns-3 c = let a = c .before .before .before .before .before .before .args in sym (length-fits (a .option) (c .before .before .before .before .limits-of .ensures) (now (a .text)) (c .before .before .if1 .left) (c .if2 .left))
 
 pub account-length-spec : {M : Type 1} → statement M
-account-length-spec = tie.close (tie.spec limits-of-requires returns returns-2 returns-3)
+account-length-spec = tie.close (tie.spec (λ c κs. search needs) returns returns-2 returns-3)

@@ -11,18 +11,12 @@ use borrow.Author.Needs.{needs}
 use Rattle.reader.proofs.counts.Statement.{statement}
 use Rattle.reader.proofs.counts.Tie as tie
 
-limits-of-requires : tie.Need-limits-of-requires
-limits-of-requires c κs = search needs
-
 returns : tie.Need-returns
 returns c =
     let a = c .before .before .before .before .before .before .args in
     let s = now (a .body) in
     sym (counts-enough (a .option) (c .before .before .before .before .limits-of .ensures) (length (lines s))
     (omega (arith, lines-some s (omega arith), c .before .before .if1 .taken)) (omega (arith, lines-most s, c .if2 .taken)))
-
-count-lines-requires : tie.Need-count-lines-requires
-count-lines-requires c κs = search needs
 
 returns-2 : tie.Need-returns-2
 returns-2 c =
@@ -38,4 +32,4 @@ returns-3 c =
 
 pub counts-spec : {M : Type 1} → statement M
 counts-spec =
-    tie.close (tie.spec limits-of-requires returns count-lines-requires returns-2 returns-3)
+    tie.close (tie.spec (λ c κs. search needs) returns (λ c κs. search needs) returns-2 returns-3)

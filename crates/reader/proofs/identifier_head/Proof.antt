@@ -8,27 +8,6 @@ use borrow.Author.Needs.{needs}
 use Rattle.reader.proofs.identifier_head.Statement.{statement}
 use Rattle.reader.proofs.identifier_head.Tie as tie
 
-parse-party-identifier-requires : tie.Need-parse-party-identifier-requires
-parse-party-identifier-requires c κs = search needs
-
-enum-told : tie.Need-enum-told
-enum-told c = search needs
-
-no-head-requires : tie.Need-no-head-requires
-no-head-requires c κs = search needs
-
-enum-told-2 : tie.Need-enum-told-2
-enum-told-2 c = search needs
-
-head-requires : tie.Need-head-requires
-head-requires c κs = search needs
-
-enum-known-found : tie.Need-enum-known-found
-enum-known-found c = search needs
-
-head-requires-2 : tie.Need-head-requires-2
-head-requires-2 c κs = search needs
-
 returns : tie.Need-returns
 returns c =
     let a = c .before .before .before .before .before .args in
@@ -48,13 +27,13 @@ pub identifier-head-spec : {M : Type 1} → statement M
 identifier-head-spec =
     tie.close
     (tie.spec
-    parse-party-identifier-requires
-    enum-told
-    no-head-requires
-    enum-told-2
-    head-requires
-    enum-known-found
-    head-requires-2
+    (λ c κs. search needs)
+    (λ c. search needs)
+    (λ c κs. search needs)
+    (λ c. search needs)
+    (λ c κs. search needs)
+    (λ c. search needs)
+    (λ c κs. search needs)
     returns
     returns-2
     returns-3)

@@ -39,15 +39,6 @@ smaller m b x h = go (ascii m) refl
 loop-holds : tie.Need-loop-holds Inv-loop μ-loop
 loop-holds c = (omega arith, ap (all ascii) (part-end (now (c .args .body)) 0))
 
-shared-slice-read-b : tie.Need-shared-slice-read-b Inv-loop μ-loop
-shared-slice-read-b c = omega arith
-
-add-i : tie.Need-add-i Inv-loop μ-loop
-add-i c = omega arith
-
-loop-less : tie.Need-loop-less Inv-loop μ-loop
-loop-less c = omega arith
-
 loop-again : tie.Need-loop-again Inv-loop μ-loop
 loop-again c =
     let s = now (c .before .before .before .before .args .body) in
@@ -71,4 +62,4 @@ returns c =
 pub is-ascii-spec : {M : Type 1} → statement M
 is-ascii-spec =
     tie.close
-    (tie.spec Inv-loop μ-loop loop-holds shared-slice-read-b add-i loop-less loop-again returns)
+    (tie.spec Inv-loop μ-loop loop-holds (λ c. omega arith) (λ c. omega arith) (λ c. omega arith) loop-again returns)

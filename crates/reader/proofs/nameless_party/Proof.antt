@@ -8,12 +8,6 @@ use borrow.Author.Needs.{needs}
 use Rattle.reader.proofs.nameless_party.Statement.{statement}
 use Rattle.reader.proofs.nameless_party.Tie as tie
 
-text-of-requires : tie.Need-text-of-requires
-text-of-requires c κs = search needs
-
-text-of-requires-2 : tie.Need-text-of-requires-2
-text-of-requires-2 c κs = search needs
-
 returns : tie.Need-returns
 unfolding padded textOf
 returns c =
@@ -22,4 +16,4 @@ returns c =
 
 pub nameless-party-spec : {M : Type 1} → statement M
 nameless-party-spec =
-    tie.close (tie.spec text-of-requires text-of-requires-2 returns)
+    tie.close (tie.spec (λ c κs. search needs) (λ c κs. search needs) returns)

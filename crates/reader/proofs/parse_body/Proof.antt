@@ -8,9 +8,6 @@ use Rattle.reader.proofs.parse_body.Tie as tie
 returns : tie.Need-returns
 returns c = rw (lt-leb _ _ (c .if1 .taken))
 
-is-ascii-requires : tie.Need-is-ascii-requires
-is-ascii-requires c κs = search needs
-
 returns-2 : tie.Need-returns-2
 returns-2 c = rw (le-leb _ _ (c .before .before .if1 .left), sym (c .before .is-ascii .ensures) ∙ c .if2 .taken)
 
@@ -18,4 +15,4 @@ returns-3 : tie.Need-returns-3
 returns-3 c = rw (le-leb _ _ (c .before .before .if1 .left), sym (c .before .is-ascii .ensures) ∙ c .if2 .left)
 
 pub parse-body-spec : {M : Type 1} → statement M
-parse-body-spec = tie.close (tie.spec returns is-ascii-requires returns-2 returns-3)
+parse-body-spec = tie.close (tie.spec returns (λ c κs. search needs) returns-2 returns-3)

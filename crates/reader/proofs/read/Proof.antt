@@ -22,41 +22,11 @@ passed c = sym (c .before .before .parse-body .ensures) ∙ ap told (c .enum-tol
 by : (o : PartyOption) (body : List ℕ) {k m : Layout} → k ≡ layoutOf o → k ≡ m → bodyReply body ≡ accepted → readingOf o (foundBy m o body) ≡ read o body
 by o body e f q = ap (λ (w : Layout). readingOf o (foundBy w o body)) (sym f ∙ e) ∙ sym (body-passed o body q)
 
-parse-body-requires : tie.Need-parse-body-requires
-parse-body-requires c κs = search needs
-
-enum-known-outcome : tie.Need-enum-known-outcome
-enum-known-outcome c = search needs
-
-refuse-requires : tie.Need-refuse-requires
-refuse-requires c κs = search needs
-
 returns : tie.Need-returns
 returns c =
     let p = c .before .before .before .before in
     let a = p .before .before .args in
     ap toldAnswer (c .refuse .ensures) ∙ sym (body-refused (a .option) (now (a .body)) (c .before .before .outcome .given .0 .0) (sym (p .parse-body .ensures) ∙ ap told (c .before .before .outcome .given .1)))
-
-enum-told : tie.Need-enum-told
-enum-told c = search needs
-
-layout-of-requires : tie.Need-layout-of-requires
-layout-of-requires c κs = search needs
-
-enum-told-2 : tie.Need-enum-told-2
-enum-told-2 c = search needs
-
-read-bic-only-requires : tie.Need-read-bic-only-requires
-read-bic-only-requires c κs = search needs
-
-enum-told-3 : tie.Need-enum-told-3
-enum-told-3 c = search needs
-
-read-text-only-requires : tie.Need-read-text-only-requires
-read-text-only-requires c κs = search needs
-
-enum-told-4 : tie.Need-enum-told-4
-enum-told-4 c = search needs
 
 read-lines-requires : tie.Need-read-lines-requires
 read-lines-requires c κs = body-length (now (c .before .before .before .before .before .before .before .args .body)) (passed (c .before .before .before))
@@ -83,17 +53,17 @@ pub read-spec : {M : Type 1} → statement M
 read-spec =
     tie.close
     (tie.spec
-    parse-body-requires
-    enum-known-outcome
-    refuse-requires
+    (λ c κs. search needs)
+    (λ c. search needs)
+    (λ c κs. search needs)
     returns
-    enum-told
-    layout-of-requires
-    enum-told-2
-    read-bic-only-requires
-    enum-told-3
-    read-text-only-requires
-    enum-told-4
+    (λ c. search needs)
+    (λ c κs. search needs)
+    (λ c. search needs)
+    (λ c κs. search needs)
+    (λ c. search needs)
+    (λ c κs. search needs)
+    (λ c. search needs)
     read-lines-requires
     returns-2
     returns-3

@@ -37,18 +37,6 @@ said c =
     ∙ ap (λ (n : ℕ). parseBic n (part (v .0) (v .1 .0) (now (a .body)))) (sym (add-one (a .start-idx)))
     ∙ sym (c .parse-bic .ensures)
 
-next-requires : tie.Need-next-requires
-next-requires c κs = search needs
-
-enum-known-found : tie.Need-enum-known-found
-enum-known-found c = search needs
-
-enum-told : tie.Need-enum-told
-enum-told c = search needs
-
-refuse-requires : tie.Need-refuse-requires
-refuse-requires c κs = search needs
-
 returns : tie.Need-returns
 returns c =
     let n = c .before .before .before in
@@ -66,31 +54,10 @@ part-bic-start c = omega (arith, fits c .forward)
 part-bic-end : tie.Need-part-bic-end
 part-bic-end c = omega (arith, fits c .before, fits c .within)
 
-add-parse-bic : tie.Need-add-parse-bic
-add-parse-bic c = search needs
-
-parse-bic-requires : tie.Need-parse-bic-requires
-parse-bic-requires c κs = search needs
-
-enum-known-outcome : tie.Need-enum-known-outcome
-enum-known-outcome c = search needs
-
-refuse-requires-2 : tie.Need-refuse-requires-2
-refuse-requires-2 c κs = search needs
-
 returns-2 : tie.Need-returns-2
 returns-2 c =
     let p = c .before .before .before .before in
     refusing _ _ (c .refuse2 .ensures) (said p ∙ ap told (c .before .before .outcome .given .1))
-
-enum-told-2 : tie.Need-enum-told-2
-enum-told-2 c = search needs
-
-nameless-party-requires : tie.Need-nameless-party-requires
-nameless-party-requires c κs = search needs
-
-accept-requires : tie.Need-accept-requires
-accept-requires c κs = search needs
 
 returns-3 : tie.Need-returns-3
 unfolding partyOf
@@ -107,20 +74,20 @@ pub read-bic-spec : {M : Type 1} → statement M
 read-bic-spec =
     tie.close
     (tie.spec
-    next-requires
-    enum-known-found
-    enum-told
-    refuse-requires
+    (λ c κs. search needs)
+    (λ c. search needs)
+    (λ c. search needs)
+    (λ c κs. search needs)
     returns
     sub-bic
     part-bic-start
     part-bic-end
-    add-parse-bic
-    parse-bic-requires
-    enum-known-outcome
-    refuse-requires-2
+    (λ c. search needs)
+    (λ c κs. search needs)
+    (λ c. search needs)
+    (λ c κs. search needs)
     returns-2
-    enum-told-2
-    nameless-party-requires
-    accept-requires
+    (λ c. search needs)
+    (λ c κs. search needs)
+    (λ c κs. search needs)
     returns-3)

@@ -47,18 +47,6 @@ first c =
     let a = k .before .before .before .before .before .args in
     c .parse-head .ensures ∙ ap (λ (f : First). headBy f (a .option) (part (v .0) (v .1 .0) (now (a .body)))) (c .before .first-of .ensures)
 
-next-requires : tie.Need-next-requires
-next-requires c κs = search needs
-
-enum-known-found : tie.Need-enum-known-found
-enum-known-found c = search needs
-
-enum-told : tie.Need-enum-told
-enum-told c = search needs
-
-refuse-requires : tie.Need-refuse-requires
-refuse-requires c κs = search needs
-
 returns : tie.Need-returns
 returns c =
     let n = c .before .before .before in
@@ -68,9 +56,6 @@ returns c =
 
 counts-requires : tie.Need-counts-requires
 counts-requires c κs = omega (arith, fits c .moved, fits c .within, c .before .before .before .before .before .pre)
-
-refuse-requires-2 : tie.Need-refuse-requires-2
-refuse-requires-2 c κs = search needs
 
 returns-2 : tie.Need-returns-2
 returns-2 c =
@@ -90,18 +75,6 @@ part-line-start c = omega (arith, fits (c .before .before) .forward)
 part-line-end : tie.Need-part-line-end
 part-line-end c = omega (arith, fits (c .before .before) .before, fits (c .before .before) .within)
 
-first-of-requires : tie.Need-first-of-requires
-first-of-requires c κs = search needs
-
-parse-head-requires : tie.Need-parse-head-requires
-parse-head-requires c κs = search needs
-
-enum-known-outcome : tie.Need-enum-known-outcome
-enum-known-outcome c = search needs
-
-refuse-requires-3 : tie.Need-refuse-requires-3
-refuse-requires-3 c κs = search needs
-
 returns-3 : tie.Need-returns-3
 returns-3 c =
     let p = c .before .before .before .before in
@@ -112,21 +85,6 @@ returns-3 c =
     refusing (a .option) _ (c .refuse3 .ensures)
     (ap (λ (ls : List (List ℕ)). byLines (a .option) ls .reply) (fits k .line)
     ∙ head-refused (a .option) (part (v .0) (v .1 .0) (now (a .body))) (lines (drop (v .1 .1 .0 .at) (now (a .body)))) (first p) (counted n (not-false _ (p .before .before .before .if1 .left))) (ap told (c .before .before .outcome .given .1)))
-
-enum-told-2 : tie.Need-enum-told-2
-enum-told-2 c = search needs
-
-behind-requires : tie.Need-behind-requires
-behind-requires c κs = search needs
-
-read-rest-requires : tie.Need-read-rest-requires
-read-rest-requires c κs = search needs
-
-slice-aggregate-read-rest : tie.Need-slice-aggregate-read-rest
-slice-aggregate-read-rest c = search needs
-
-read-rest-requires-2 : tie.Need-read-rest-requires-2
-read-rest-requires-2 c κs = search needs
 
 returns-4 : tie.Need-returns-4
 returns-4 c =
@@ -163,26 +121,26 @@ pub read-lines-spec : {M : Type 1} → statement M
 read-lines-spec =
     tie.close
     (tie.spec
-    next-requires
-    enum-known-found
-    enum-told
-    refuse-requires
+    (λ c κs. search needs)
+    (λ c. search needs)
+    (λ c. search needs)
+    (λ c κs. search needs)
     returns
     counts-requires
-    refuse-requires-2
+    (λ c κs. search needs)
     returns-2
     sub-line
     part-line-start
     part-line-end
-    first-of-requires
-    parse-head-requires
-    enum-known-outcome
-    refuse-requires-3
+    (λ c κs. search needs)
+    (λ c κs. search needs)
+    (λ c. search needs)
+    (λ c κs. search needs)
     returns-3
-    enum-told-2
-    behind-requires
-    read-rest-requires
-    slice-aggregate-read-rest
-    read-rest-requires-2
+    (λ c. search needs)
+    (λ c κs. search needs)
+    (λ c κs. search needs)
+    (λ c. search needs)
+    (λ c κs. search needs)
     returns-4
     returns-5)

@@ -27,32 +27,8 @@ module _ (p : tie.After-parse-name-and-address) where
       sym (names-reply (start .args .option) (suc (start .args .start-idx)) names)
       ∙ sym (ap (λ (w : NamesRead). w .reply) (p .parse-name-and-address .ensures))
 
-parse-name-and-address-requires : tie.Need-parse-name-and-address-requires
-parse-name-and-address-requires c κs = search needs
-
-enum-known-outcome : tie.Need-enum-known-outcome
-enum-known-outcome c = search needs
-
-refuse-requires : tie.Need-refuse-requires
-refuse-requires c κs = search needs
-
 returns : tie.Need-returns
 returns c = refusing _ _ (c .refuse .ensures) (says (c .before .before .before .before) ∙ ap told (c .before .before .outcome .given .1))
-
-enum-told : tie.Need-enum-told
-enum-told c = search needs
-
-text-of-requires : tie.Need-text-of-requires
-text-of-requires c κs = search needs
-
-slice-aggregate-text-of : tie.Need-slice-aggregate-text-of
-slice-aggregate-text-of c = search needs
-
-text-of-requires-2 : tie.Need-text-of-requires-2
-text-of-requires-2 c κs = search needs
-
-accept-requires : tie.Need-accept-requires
-accept-requires c κs = search needs
 
 returns-2 : tie.Need-returns-2
 returns-2 c =
@@ -68,13 +44,13 @@ pub read-names-spec : {M : Type 1} → statement M
 read-names-spec =
     tie.close
     (tie.spec
-    parse-name-and-address-requires
-    enum-known-outcome
-    refuse-requires
+    (λ c κs. search needs)
+    (λ c. search needs)
+    (λ c κs. search needs)
     returns
-    enum-told
-    text-of-requires
-    slice-aggregate-text-of
-    text-of-requires-2
-    accept-requires
+    (λ c. search needs)
+    (λ c κs. search needs)
+    (λ c. search needs)
+    (λ c κs. search needs)
+    (λ c κs. search needs)
     returns-2)

@@ -10,15 +10,6 @@ use borrow.Author.Needs.{needs}
 use Rattle.reader.proofs.read_rest.Statement.{statement}
 use Rattle.reader.proofs.read_rest.Tie as tie
 
-limits-of-requires : tie.Need-limits-of-requires
-limits-of-requires c κs = search needs
-
-read-bic-requires : tie.Need-read-bic-requires
-read-bic-requires c κs = search needs
-
-read-names-requires : tie.Need-read-names-requires
-read-names-requires c κs = search needs
-
 returns : tie.Need-returns
 returns c =
     let m = c .before .before .before in
@@ -37,4 +28,4 @@ returns-2 c =
 
 pub read-rest-spec : {M : Type 1} → statement M
 read-rest-spec =
-    tie.close (tie.spec limits-of-requires read-bic-requires read-names-requires returns returns-2)
+    tie.close (tie.spec (λ c κs. search needs) (λ c κs. search needs) (λ c κs. search needs) returns returns-2)

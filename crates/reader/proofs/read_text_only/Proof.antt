@@ -11,27 +11,12 @@ use borrow.Author.Needs.{needs}
 use Rattle.reader.proofs.read_text_only.Statement.{statement}
 use Rattle.reader.proofs.read_text_only.Tie as tie
 
-find-lf-requires : tie.Need-find-lf-requires
-find-lf-requires c κs = search needs
-
-refuse-requires : tie.Need-refuse-requires
-refuse-requires c κs = search needs
-
 returns : tie.Need-returns
 returns c =
     let p = c .before .before in
     let a = p .before .before .args in
     refusing (a .option) (textOnly (a .option) (now (a .body))) (c .refuse .ensures)
     (text-lf (a .option) (now (a .body)) (among-found (now (a .body)) (omega (arith, p .find-lf .ensures, c .before .if1 .taken))))
-
-account-requires : tie.Need-account-requires
-account-requires c κs = search needs
-
-enum-known-outcome : tie.Need-enum-known-outcome
-enum-known-outcome c = search needs
-
-refuse-requires-2 : tie.Need-refuse-requires-2
-refuse-requires-2 c κs = search needs
 
 returns-2 : tie.Need-returns-2
 returns-2 c =
@@ -41,18 +26,6 @@ returns-2 c =
     refusing (a .option) (textOnly (a .option) (now (a .body))) (c .refuse2 .ensures)
     (text-line (a .option) (now (a .body)) (among-none (now (a .body)) (omega (arith, p .find-lf .ensures, q .before .if1 .left)))
     ∙ sym (q .account .ensures) ∙ ap told (c .before .before .outcome .given .1))
-
-enum-told : tie.Need-enum-told
-enum-told c = search needs
-
-slice-aggregate-nameless-party : tie.Need-slice-aggregate-nameless-party
-slice-aggregate-nameless-party c = search needs
-
-nameless-party-requires : tie.Need-nameless-party-requires
-nameless-party-requires c κs = search needs
-
-accept-requires : tie.Need-accept-requires
-accept-requires c κs = search needs
 
 returns-3 : tie.Need-returns-3
 unfolding partyOf
@@ -69,15 +42,15 @@ pub read-text-only-spec : {M : Type 1} → statement M
 read-text-only-spec =
     tie.close
     (tie.spec
-    find-lf-requires
-    refuse-requires
+    (λ c κs. search needs)
+    (λ c κs. search needs)
     returns
-    account-requires
-    enum-known-outcome
-    refuse-requires-2
+    (λ c κs. search needs)
+    (λ c. search needs)
+    (λ c κs. search needs)
     returns-2
-    enum-told
-    slice-aggregate-nameless-party
-    nameless-party-requires
-    accept-requires
+    (λ c. search needs)
+    (λ c. search needs)
+    (λ c κs. search needs)
+    (λ c κs. search needs)
     returns-3)

@@ -7,11 +7,8 @@ use borrow.Author.Needs.{needs}
 use Rattle.reader.proofs.refuse.Statement.{statement}
 use Rattle.reader.proofs.refuse.Tie as tie
 
-blank-requires : tie.Need-blank-requires
-blank-requires c κs = search needs
-
 returns : tie.Need-returns
 returns c = ap {B = Answer} (λ (p : Party). record { outcome = Refused (c .before .args .e); party = p }) (c .blank .ensures)
 
 pub refuse-spec : {M : Type 1} → statement M
-refuse-spec = tie.close (tie.spec blank-requires returns)
+refuse-spec = tie.close (tie.spec (λ c κs. search needs) returns)

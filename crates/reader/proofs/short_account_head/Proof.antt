@@ -7,23 +7,11 @@ use borrow.Author.Needs.{needs}
 use Rattle.reader.proofs.short_account_head.Statement.{statement}
 use Rattle.reader.proofs.short_account_head.Tie as tie
 
-limits-of-requires : tie.Need-limits-of-requires
-limits-of-requires c κs = search needs
-
-behind-requires : tie.Need-behind-requires
-behind-requires c κs = search needs
-
-no-head-requires : tie.Need-no-head-requires
-no-head-requires c κs = search needs
-
 returns : tie.Need-returns
 returns c =
     let a = c .before .before .before .before .before .before .args in
     ap (toldHead (now (a .line))) (c .no-head .ensures)
     ∙ sym (short-long (a .option) (c .before .before .before .before .limits-of .ensures) (now (a .line)) (rw (c .before .before .before .behind .ensures) at (c .before .if1 .taken)))
-
-account-head-requires : tie.Need-account-head-requires
-account-head-requires c κs = search needs
 
 returns-2 : tie.Need-returns-2
 returns-2 c =
@@ -35,9 +23,9 @@ pub short-account-head-spec : {M : Type 1} → statement M
 short-account-head-spec =
     tie.close
     (tie.spec
-    limits-of-requires
-    behind-requires
-    no-head-requires
+    (λ c κs. search needs)
+    (λ c κs. search needs)
+    (λ c κs. search needs)
     returns
-    account-head-requires
+    (λ c κs. search needs)
     returns-2)

@@ -8,15 +8,6 @@ use borrow.Author.Needs.{needs}
 use Rattle.reader.proofs.slash_head.Statement.{statement}
 use Rattle.reader.proofs.slash_head.Tie as tie
 
-starts-with-slash-requires : tie.Need-starts-with-slash-requires
-starts-with-slash-requires c κs = search needs
-
-head-requires : tie.Need-head-requires
-head-requires c κs = search needs
-
-head-requires-2 : tie.Need-head-requires-2
-head-requires-2 c κs = search needs
-
 returns : tie.Need-returns
 returns c =
     let a = c .before .before .before .before .args in
@@ -29,4 +20,4 @@ returns-2 c =
 
 pub slash-head-spec : {M : Type 1} → statement M
 slash-head-spec =
-    tie.close (tie.spec starts-with-slash-requires head-requires head-requires-2 returns returns-2)
+    tie.close (tie.spec (λ c κs. search needs) (λ c κs. search needs) (λ c κs. search needs) returns returns-2)

@@ -8,16 +8,10 @@ use borrow.Author.Needs.{needs}
 use Rattle.swift_utils.proofs.all_alphanumeric.Statement.{statement}
 use Rattle.swift_utils.proofs.all_alphanumeric.Tie as tie
 
-class-table-requires : tie.Need-class-table-requires
-class-table-requires c κs = search needs
-
-all-at-least-requires : tie.Need-all-at-least-requires
-all-at-least-requires c κs = search needs
-
 returns : tie.Need-returns
 returns c =
     let t = c .before .before in
     c .all-at-least .ensures ∙ by-entries 3 alphanumeric class-alphanumeric (t .class-table .result) (now (t .before .before .args .s)) (t .class-table .ensures)
 
 pub all-alphanumeric-spec : {M : Type 1} → statement M
-all-alphanumeric-spec = tie.close (tie.spec class-table-requires all-at-least-requires returns)
+all-alphanumeric-spec = tie.close (tie.spec (λ c κs. search needs) (λ c κs. search needs) returns)

@@ -4,14 +4,8 @@ use Rattle.swift_utils.proofs.Table.{class-at}
 use Rattle.swift_utils.proofs.class.Statement.{statement}
 use Rattle.swift_utils.proofs.class.Tie as tie
 
-class-table-requires : tie.Need-class-table-requires
-class-table-requires c κs = search needs
-
-array-read-result : tie.Need-array-read-result
-array-read-result c = search needs
-
 returns : tie.Need-returns
 returns c = rw (c .class-table .ensures) (class-at (c .before .args .b))
 
 pub class-spec : {M : Type 1} → statement M
-class-spec = tie.close (tie.spec class-table-requires array-read-result returns)
+class-spec = tie.close (tie.spec (λ c κs. search needs) (λ c. search needs) returns)

@@ -4,11 +4,8 @@ use Rattle.swift_utils.proofs.Classes.{class-digit}
 use Rattle.swift_utils.proofs.is_digit.Statement.{statement}
 use Rattle.swift_utils.proofs.is_digit.Tie as tie
 
-class-requires : tie.Need-class-requires
-class-requires c κs = search needs
-
 returns : tie.Need-returns
 returns c = rw (c .class .ensures) (class-digit (c .before .args .b))
 
 pub is-digit-spec : {M : Type 1} → statement M
-is-digit-spec = tie.close (tie.spec class-requires returns)
+is-digit-spec = tie.close (tie.spec (λ c κs. search needs) returns)

@@ -4,11 +4,8 @@ use Rattle.swift_utils.proofs.Classes.{class-legal}
 use Rattle.swift_utils.proofs.is_legal.Statement.{statement}
 use Rattle.swift_utils.proofs.is_legal.Tie as tie
 
-class-requires : tie.Need-class-requires
-class-requires c κs = search needs
-
 returns : tie.Need-returns
 returns c = rw (c .class .ensures) (class-legal (c .before .args .b))
 
 pub is-legal-spec : {M : Type 1} → statement M
-is-legal-spec = tie.close (tie.spec class-requires returns)
+is-legal-spec = tie.close (tie.spec (λ c κs. search needs) returns)

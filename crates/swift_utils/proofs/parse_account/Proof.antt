@@ -12,13 +12,10 @@ returns c = let a = c .before .before .args in sym (account-short (a .line) (now
 returns-2 : tie.Need-returns-2
 returns-2 c = let a = c .before .before .before .args in sym (account-long (a .line) (now (a .input)) (a .shortest) (a .longest) (c .if2 .taken))
 
-parse-swift-chars-requires : tie.Need-parse-swift-chars-requires
-parse-swift-chars-requires c κs = search needs
-
 returns-3 : tie.Need-returns-3
 returns-3 c =
     let a = c .before .before .before .before .args in
     c .parse-swift-chars .ensures ∙ sym (account-fits (a .line) (now (a .input)) (a .shortest) (a .longest) (c .before .before .if1 .left) (c .before .if2 .left))
 
 pub parse-account-spec : {M : Type 1} → statement M
-parse-account-spec = tie.close (tie.spec returns returns-2 parse-swift-chars-requires returns-3)
+parse-account-spec = tie.close (tie.spec returns returns-2 (λ c κs. search needs) returns-3)

@@ -62,22 +62,13 @@ module _ (c : tie.After-all-at-least2) where
       ∙ sym (c .all-at-least2 .ensures)
       ∙ e))
 
-is-bic-length-requires : tie.Need-is-bic-length-requires
-is-bic-length-requires c κs = search needs
-
 returns : tie.Need-returns
 returns c =
     let a = c .before .before .before .args in
     sym (bic-length (a .line) (now (a .input)) (sym (c .before .is-bic-length .ensures) ∙ not-true _ (c .if1 .taken)))
 
-class-table-requires : tie.Need-class-table-requires
-class-table-requires c κs = search needs
-
 slice-aggregate-bank-and-country : tie.Need-slice-aggregate-bank-and-country
 slice-aggregate-bank-and-country c = sym (length-take-le 6 (input (c .before .before)) (omega (arith, long (c .before .before))))
-
-all-at-least-requires : tie.Need-all-at-least-requires
-all-at-least-requires c κs = search needs
 
 returns-2 : tie.Need-returns-2
 returns-2 c =
@@ -90,12 +81,6 @@ sub-location-and-branch c = omega (arith, long (tested (c .before)))
 part-location-and-branch-start : tie.Need-part-location-and-branch-start
 part-location-and-branch-start c = omega (arith, long (tested (c .before)))
 
-part-location-and-branch-end : tie.Need-part-location-and-branch-end
-part-location-and-branch-end c = search needs
-
-all-at-least-requires-2 : tie.Need-all-at-least-requires-2
-all-at-least-requires-2 c κs = search needs
-
 returns-3 : tie.Need-returns-3
 returns-3 c = rest (c .before) (c .if3 .taken)
 
@@ -106,15 +91,15 @@ pub parse-bic-spec : {M : Type 1} → statement M
 parse-bic-spec =
     tie.close
     (tie.spec
-    is-bic-length-requires
+    (λ c κs. search needs)
     returns
-    class-table-requires
+    (λ c κs. search needs)
     slice-aggregate-bank-and-country
-    all-at-least-requires
+    (λ c κs. search needs)
     returns-2
     sub-location-and-branch
     part-location-and-branch-start
-    part-location-and-branch-end
-    all-at-least-requires-2
+    (λ c. search needs)
+    (λ c κs. search needs)
     returns-3
     returns-4)

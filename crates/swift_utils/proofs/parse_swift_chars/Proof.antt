@@ -20,12 +20,6 @@ tested c e =
     let a = t .before .before .args in
     sym (chars (a .line) (now (a .input)) (sym (by-entries 1 legal class-legal (t .class-table .result) (now (a .input)) (t .class-table .ensures)) ∙ sym (c .all-at-least .ensures) ∙ e))
 
-class-table-requires : tie.Need-class-table-requires
-class-table-requires c κs = search needs
-
-all-at-least-requires : tie.Need-all-at-least-requires
-all-at-least-requires c κs = search needs
-
 returns : tie.Need-returns
 returns c = tested (c .before) (c .if1 .taken)
 
@@ -33,4 +27,4 @@ returns-2 : tie.Need-returns-2
 returns-2 c = tested (c .before) (c .if1 .left)
 
 pub parse-swift-chars-spec : {M : Type 1} → statement M
-parse-swift-chars-spec = tie.close (tie.spec class-table-requires all-at-least-requires returns returns-2)
+parse-swift-chars-spec = tie.close (tie.spec (λ c κs. search needs) (λ c κs. search needs) returns returns-2)

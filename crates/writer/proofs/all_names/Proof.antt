@@ -64,18 +64,6 @@ tested c e =
     ∙ ap (λ (b : Bool). b && allNames (f k) (longest k) (suc (suc i)) (drop (suc i) (namesIn (n k) (p k))))
     (ap (λ (m : ℕ). isName (f k) (longest k) m u) (sym (add-one i)) ∙ sym (c .is-name .ensures) ∙ e)
 
-limits-of-requires : tie.Need-limits-of-requires Inv-loop μ-loop
-limits-of-requires c κs = search needs
-
-numbering-of-requires : tie.Need-numbering-of-requires Inv-loop μ-loop
-numbering-of-requires c κs = search needs
-
-name-count-requires : tie.Need-name-count-requires Inv-loop μ-loop
-name-count-requires c κs = search needs
-
-class-table-requires : tie.Need-class-table-requires Inv-loop μ-loop
-class-table-requires c κs = search needs
-
 loop-holds : tie.Need-loop-holds Inv-loop μ-loop
 loop-holds c = (omega arith, refl)
 
@@ -94,12 +82,6 @@ is-name-requires c κs = (omega (arith, few (c .before .before .before)), c .bef
 returns : tie.Need-returns Inv-loop μ-loop
 returns c = sym (whole (c .before .before .before .before .before) ∙ tested (c .before) (not-true _ (c .if1 .taken)))
 
-add-i : tie.Need-add-i Inv-loop μ-loop
-add-i c = omega arith
-
-loop-less : tie.Need-loop-less Inv-loop μ-loop
-loop-less c = omega arith
-
 loop-again : tie.Need-loop-again Inv-loop μ-loop
 loop-again c = (omega arith, rw (add-one (c .before .before .before .before .before .loop .i)) (tested (c .before) (not-false _ (c .if1 .left))))
 
@@ -114,17 +96,17 @@ all-names-spec =
     (tie.spec
     Inv-loop
     μ-loop
-    limits-of-requires
-    numbering-of-requires
-    name-count-requires
-    class-table-requires
+    (λ c κs. search needs)
+    (λ c κs. search needs)
+    (λ c κs. search needs)
+    (λ c κs. search needs)
     loop-holds
     mul-t
     element-copy-out-t
     add-is-name
     is-name-requires
     returns
-    add-i
-    loop-less
+    (λ c. omega arith)
+    (λ c. omega arith)
     loop-again
     returns-2)

@@ -41,12 +41,6 @@ used e all =
     names-used o (p k .count) (said (p k) .names) (counted k ∙ e .before .before .if1 .left) (rw (k .before .limits-of .ensures) at (e .if2 .left))
     ∙ ap (λ (b : Bool). b && passes (parseCount (limitsOf o .names) (length (said (p k) .names)))) all
 
-limits-of-requires : tie.Need-limits-of-requires
-limits-of-requires c κs = search needs
-
-name-count-requires : tie.Need-name-count-requires
-name-count-requires c κs = search needs
-
 returns : tie.Need-returns
 returns c =
     let k = c .before .before in
@@ -59,17 +53,8 @@ returns-2 c =
     let none = names k ∙ ap (λ (m : ℕ). namesIn m (p k)) (k .name-count .ensures ∙ count-none (p k .option) (p k .count) z) in
     sym (names-unused (p k .option) (p k .count) (said (p k) .names) (counted k ∙ c .before .before .if1 .left) z none)
 
-all-names-requires : tie.Need-all-names-requires
-all-names-requires c κs = search needs
-
 returns-3 : tie.Need-returns-3
 returns-3 c = sym (used (c .before .before) (sym (c .before .all-names .ensures) ∙ not-true _ (c .if3 .taken)))
-
-parse-count-requires : tie.Need-parse-count-requires
-parse-count-requires c κs = search needs
-
-is-accepted-requires : tie.Need-is-accepted-requires
-is-accepted-requires c κs = search needs
 
 returns-4 : tie.Need-returns-4
 returns-4 c =
@@ -84,12 +69,12 @@ pub are-names-spec : {M : Type 1} → statement M
 are-names-spec =
     tie.close
     (tie.spec
-    limits-of-requires
-    name-count-requires
+    (λ c κs. search needs)
+    (λ c κs. search needs)
     returns
     returns-2
-    all-names-requires
+    (λ c κs. search needs)
     returns-3
-    parse-count-requires
-    is-accepted-requires
+    (λ c κs. search needs)
+    (λ c κs. search needs)
     returns-4)

@@ -8,9 +8,6 @@ use borrow.Author.Needs.{needs}
 use Rattle.writer.proofs.has_head.Statement.{statement}
 use Rattle.writer.proofs.has_head.Tie as tie
 
-limits-of-requires : tie.Need-limits-of-requires
-limits-of-requires c κs = search needs
-
 returns : tie.Need-returns
 returns c =
     let a = c .before .before .before .args in
@@ -24,4 +21,4 @@ returns-2 c =
     rw (lt-ltb 0 (limitsOf (a .option) .longest) (omega arith)) (sym (and-true (a .present)))
 
 pub has-head-spec : {M : Type 1} → statement M
-has-head-spec = tie.close (tie.spec limits-of-requires returns returns-2)
+has-head-spec = tie.close (tie.spec (λ c κs. search needs) returns returns-2)

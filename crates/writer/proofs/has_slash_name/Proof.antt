@@ -27,19 +27,10 @@ module _ (k : tie.After-name-count) where
   names : said p .names ≡ namesIn n p
   names = said-names p sizes (k .name-count .ensures)
 
-name-count-requires : tie.Need-name-count-requires
-name-count-requires c κs = search needs
-
 returns : tie.Need-returns
 returns c =
     let k = c .before in
     sym (ap slashName (names k ∙ ap (λ (m : ℕ). namesIn m (p k)) (c .if1 .taken)))
-
-element-copy-out-t : tie.Need-element-copy-out-t
-element-copy-out-t c = search needs
-
-used-length-requires : tie.Need-used-length-requires
-used-length-requires c κs = search needs
 
 array-share-prefix-bytes : tie.Need-array-share-prefix-bytes
 array-share-prefix-bytes c =
@@ -50,9 +41,6 @@ slice-aggregate-starts-with-slash : tie.Need-slice-aggregate-starts-with-slash
 slice-aggregate-starts-with-slash c =
     let u = c .before .before in
     used-count (getD (p (c .before .before .before .before .before) .«name_and_address») 0 none) (u .used-length .result) (u .used-length .ensures .is)
-
-starts-with-slash-requires : tie.Need-starts-with-slash-requires
-starts-with-slash-requires c κs = search needs
 
 returns-2 : tie.Need-returns-2
 returns-2 c =
@@ -65,11 +53,11 @@ pub has-slash-name-spec : {M : Type 1} → statement M
 has-slash-name-spec =
     tie.close
     (tie.spec
-    name-count-requires
+    (λ c κs. search needs)
     returns
-    element-copy-out-t
-    used-length-requires
+    (λ c. search needs)
+    (λ c κs. search needs)
     array-share-prefix-bytes
     slice-aggregate-starts-with-slash
-    starts-with-slash-requires
+    (λ c κs. search needs)
     returns-2)

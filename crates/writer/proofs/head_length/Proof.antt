@@ -12,24 +12,6 @@ use Rattle.writer.proofs.head_length.Tie as tie
 returns : tie.Need-returns
 returns c = rw (not-true (c .before .args .written) (c .if1 .taken)) (record { is = omega arith; most = omega arith })
 
-slash-count-requires : tie.Need-slash-count-requires
-slash-count-requires c κs = search needs
-
-used-length-requires : tie.Need-used-length-requires
-used-length-requires c κs = search needs
-
-add-result : tie.Need-add-result
-add-result c = omega arith
-
-has-gap-requires : tie.Need-has-gap-requires
-has-gap-requires c κs = search needs
-
-lf-count-requires : tie.Need-lf-count-requires
-lf-count-requires c κs = search needs
-
-add-result-2 : tie.Need-add-result-2
-add-result-2 c = omega arith
-
 returns-2 : tie.Need-returns-2
 returns-2 c =
     let s = c .before .before .before in
@@ -41,10 +23,10 @@ head-length-spec =
     tie.close
     (tie.spec
     returns
-    slash-count-requires
-    used-length-requires
-    add-result
-    has-gap-requires
-    lf-count-requires
-    add-result-2
+    (λ c κs. search needs)
+    (λ c κs. search needs)
+    (λ c. omega arith)
+    (λ c κs. search needs)
+    (λ c κs. search needs)
+    (λ c. omega arith)
     returns-2)

@@ -35,9 +35,6 @@ present u e =
     ∙ ap (λ (b : Bool). isAccount (a .option) b (used (a .t))) (not-false (a .present) (u .before .if2 .left))
     ∙ ap (λ (b : Bool). b && passes (textReply (firstOf (a .option)) (a .option) (used (a .t) .bytes))) e
 
-limits-of-requires : tie.Need-limits-of-requires
-limits-of-requires c κs = search needs
-
 returns : tie.Need-returns
 returns c =
     let a = c .before .before .before .args in
@@ -47,9 +44,6 @@ returns-2 : tie.Need-returns-2
 returns-2 c =
     let a = c .before .before .before .before .before .args in
     sym (tested (c .before .before) ∙ ap (λ (b : Bool). isAccount (a .option) b (used (a .t))) (not-true (a .present) (c .before .if2 .taken)) ∙ empty-line (a .t))
-
-used-length-requires : tie.Need-used-length-requires
-used-length-requires c κs = search needs
 
 returns-3 : tie.Need-returns-3
 returns-3 c =
@@ -66,9 +60,6 @@ slice-aggregate-is-account-text c =
     let u = c .before .before .before .before in
     used-count (u .before .before .before .before .before .args .t) (u .used-length .result) (u .used-length .ensures .is)
 
-is-account-text-requires : tie.Need-is-account-text-requires
-is-account-text-requires c κs = search needs
-
 returns-4 : tie.Need-returns-4
 returns-4 c =
     let u = c .before .before .before .before .before in
@@ -83,12 +74,12 @@ pub is-account-spec : {M : Type 1} → statement M
 is-account-spec =
     tie.close
     (tie.spec
-    limits-of-requires
+    (λ c κs. search needs)
     returns
     returns-2
-    used-length-requires
+    (λ c κs. search needs)
     returns-3
     array-share-prefix-bytes
     slice-aggregate-is-account-text
-    is-account-text-requires
+    (λ c κs. search needs)
     returns-4)

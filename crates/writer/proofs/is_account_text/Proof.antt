@@ -15,51 +15,6 @@ use Rattle.writer.proofs.is_account_text.Tie as tie
 by : (o : PartyOption) {f g : First} (x : List ℕ) → f ≡ firstOf o → f ≡ g → lineReply (textReply g o x) x ≡ lineReply (textReply (firstOf o) o x) x
 by o x e d = ap (λ (k : First). lineReply (textReply k o x) x) (sym d ∙ e)
 
-first-of-requires : tie.Need-first-of-requires
-first-of-requires c κs = search needs
-
-enum-told : tie.Need-enum-told
-enum-told c = search needs
-
-is-plain-account-requires : tie.Need-is-plain-account-requires
-is-plain-account-requires c κs = search needs
-
-enum-told-2 : tie.Need-enum-told-2
-enum-told-2 c = search needs
-
-is-identifier-requires : tie.Need-is-identifier-requires
-is-identifier-requires c κs = search needs
-
-enum-told-3 : tie.Need-enum-told-3
-enum-told-3 c = search needs
-
-is-plain-account-requires-2 : tie.Need-is-plain-account-requires-2
-is-plain-account-requires-2 c κs = search needs
-
-enum-told-4 : tie.Need-enum-told-4
-enum-told-4 c = search needs
-
-is-plain-account-requires-3 : tie.Need-is-plain-account-requires-3
-is-plain-account-requires-3 c κs = search needs
-
-enum-told-5 : tie.Need-enum-told-5
-enum-told-5 c = search needs
-
-is-plain-account-requires-4 : tie.Need-is-plain-account-requires-4
-is-plain-account-requires-4 c κs = search needs
-
-enum-told-6 : tie.Need-enum-told-6
-enum-told-6 c = search needs
-
-is-any-account-requires : tie.Need-is-any-account-requires
-is-any-account-requires c κs = search needs
-
-enum-told-7 : tie.Need-enum-told-7
-enum-told-7 c = search needs
-
-is-plain-account-requires-5 : tie.Need-is-plain-account-requires-5
-is-plain-account-requires-5 c κs = search needs
-
 returns : tie.Need-returns
 returns c =
     let f = c .before .before .before in
@@ -99,21 +54,21 @@ pub is-account-text-spec : {M : Type 1} → statement M
 is-account-text-spec =
     tie.close
     (tie.spec
-    first-of-requires
-    enum-told
-    is-plain-account-requires
-    enum-told-2
-    is-identifier-requires
-    enum-told-3
-    is-plain-account-requires-2
-    enum-told-4
-    is-plain-account-requires-3
-    enum-told-5
-    is-plain-account-requires-4
-    enum-told-6
-    is-any-account-requires
-    enum-told-7
-    is-plain-account-requires-5
+    (λ c κs. search needs)
+    (λ c. search needs)
+    (λ c κs. search needs)
+    (λ c. search needs)
+    (λ c κs. search needs)
+    (λ c. search needs)
+    (λ c κs. search needs)
+    (λ c. search needs)
+    (λ c κs. search needs)
+    (λ c. search needs)
+    (λ c κs. search needs)
+    (λ c. search needs)
+    (λ c κs. search needs)
+    (λ c. search needs)
+    (λ c κs. search needs)
     returns
     returns-2
     returns-3

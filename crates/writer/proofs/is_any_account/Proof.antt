@@ -22,19 +22,10 @@ measured :
     passes (lengthReply (a .option) (now (a .text))) ≡ t
 measured c e = sym (c .is-accepted .ensures ∙ ap passes (c .before .account-length .ensures)) ∙ e
 
-is-one-line-requires : tie.Need-is-one-line-requires
-is-one-line-requires c κs = search needs
-
 returns : tie.Need-returns
 returns c =
     let a = c .before .before .before .args in
     line-by (textReply AnyAccount (a .option) (now (a .text))) (now (a .text)) (lined (c .before) (not-true _ (c .if1 .taken)))
-
-account-length-requires : tie.Need-account-length-requires
-account-length-requires c κs = search needs
-
-is-accepted-requires : tie.Need-is-accepted-requires
-is-accepted-requires c κs = search needs
 
 returns-2 : tie.Need-returns-2
 returns-2 c =
@@ -42,9 +33,6 @@ returns-2 c =
     let a = l .before .before .before .args in
     any-account (a .option) (now (a .text)) (measured (c .before) (not-true _ (c .if2 .taken)))
     ∙ line-by (textReply AnyAccount (a .option) (now (a .text))) (now (a .text)) (lined (l .before) (not-false _ (l .if1 .left)))
-
-is-ascii-requires : tie.Need-is-ascii-requires
-is-ascii-requires c κs = search needs
 
 returns-3 : tie.Need-returns-3
 returns-3 c =
@@ -59,10 +47,10 @@ pub is-any-account-spec : {M : Type 1} → statement M
 is-any-account-spec =
     tie.close
     (tie.spec
-    is-one-line-requires
+    (λ c κs. search needs)
     returns
-    account-length-requires
-    is-accepted-requires
+    (λ c κs. search needs)
+    (λ c κs. search needs)
     returns-2
-    is-ascii-requires
+    (λ c κs. search needs)
     returns-3)

@@ -25,16 +25,10 @@ tested u e =
     every-one isBic (limitsOf (a .option) .bic) (used (a .t)) (rw (l .limits-of .ensures) at (u .before .if1 .left))
     ∙ ap (λ (b : Bool). b && passes (parseBic 1 (used (a .t) .bytes))) e
 
-limits-of-requires : tie.Need-limits-of-requires
-limits-of-requires c κs = search needs
-
 returns : tie.Need-returns
 returns c =
     let l = c .before .before in
     sym (every-none isBic (limitsOf (l .before .args .option) .bic) (used (l .before .args .t)) (rw (l .limits-of .ensures) at (c .if1 .taken)))
-
-used-length-requires : tie.Need-used-length-requires
-used-length-requires c κs = search needs
 
 returns-2 : tie.Need-returns-2
 returns-2 c =
@@ -50,12 +44,6 @@ slice-aggregate-parse-bic : tie.Need-slice-aggregate-parse-bic
 slice-aggregate-parse-bic c =
     let u = c .before .before .before .before in
     used-count (u .before .before .before .before .args .t) (u .used-length .result) (u .used-length .ensures .is)
-
-parse-bic-requires : tie.Need-parse-bic-requires
-parse-bic-requires c κs = search needs
-
-is-accepted-requires : tie.Need-is-accepted-requires
-is-accepted-requires c κs = search needs
 
 returns-3 : tie.Need-returns-3
 returns-3 c =
@@ -73,12 +61,12 @@ pub is-bic-spec : {M : Type 1} → statement M
 is-bic-spec =
     tie.close
     (tie.spec
-    limits-of-requires
+    (λ c κs. search needs)
     returns
-    used-length-requires
+    (λ c κs. search needs)
     returns-2
     array-share-prefix-bytes
     slice-aggregate-parse-bic
-    parse-bic-requires
-    is-accepted-requires
+    (λ c κs. search needs)
+    (λ c κs. search needs)
     returns-3)

@@ -21,35 +21,20 @@ bic e = sym (e .before .is-bic .ensures) ∙ not-false _ (e .if3 .left)
 names : (e : tie.Else4) → namesTest (e .before .before .before .before .before .before .before .before .before .before .args .p) ≡ true
 names e = sym (e .before .are-names .ensures) ∙ not-false _ (e .if4 .left)
 
-is-presence-requires : tie.Need-is-presence-requires
-is-presence-requires c κs = search needs
-
 returns : tie.Need-returns
 returns c = given-by (c .before .before .args .p) (sym (c .before .is-presence .ensures) ∙ not-true _ (c .if1 .taken)) refl refl refl refl
-
-is-account-requires : tie.Need-is-account-requires
-is-account-requires c κs = search needs
 
 returns-2 : tie.Need-returns-2
 returns-2 c = given-by (c .before .before .before .before .before .args .p) (presence (c .before .before .before)) (sym (c .before .is-account .ensures) ∙ not-true _ (c .if2 .taken)) refl refl refl
 
-is-bic-requires : tie.Need-is-bic-requires
-is-bic-requires c κs = search needs
-
 returns-3 : tie.Need-returns-3
 returns-3 c = given-by (c .before .before .before .before .before .before .before .before .args .p) (presence (c .before .before .before .before .before .before)) (account (c .before .before .before)) (sym (c .before .is-bic .ensures) ∙ not-true _ (c .if3 .taken)) refl refl
-
-are-names-requires : tie.Need-are-names-requires
-are-names-requires c κs = search needs
 
 returns-4 : tie.Need-returns-4
 returns-4 c = given-by (c .before .before .before .before .before .before .before .before .before .before .args .p) (presence (c .before .before .before .before .before .before .before .before)) (account (c .before .before .before .before .before)) (bic (c .before .before)) (sym (c .before .are-names .ensures) ∙ not-true _ (c .if4 .taken)) refl
 
 returns-5 : tie.Need-returns-5
 returns-5 c = given-by (c .before .before .before .before .before .before .before .before .before .before .before .args .p) (presence (c .before .before .before .before .before .before .before .before .before)) (account (c .before .before .before .before .before .before)) (bic (c .before .before .before)) (names (c .before)) (c .if5 .taken)
-
-is-taken-requires : tie.Need-is-taken-requires
-is-taken-requires c κs = search needs
 
 returns-6 : tie.Need-returns-6
 returns-6 c = ap not (c .is-taken .ensures) ∙ given-by (c .before .before .before .before .before .before .before .before .before .before .before .before .args .p) (presence (c .before .before .before .before .before .before .before .before .before .before)) (account (c .before .before .before .before .before .before .before)) (bic (c .before .before .before .before)) (names (c .before .before)) (c .before .if5 .left)
@@ -58,14 +43,14 @@ pub is-given-spec : {M : Type 1} → statement M
 is-given-spec =
     tie.close
     (tie.spec
-    is-presence-requires
+    (λ c κs. search needs)
     returns
-    is-account-requires
+    (λ c κs. search needs)
     returns-2
-    is-bic-requires
+    (λ c κs. search needs)
     returns-3
-    are-names-requires
+    (λ c κs. search needs)
     returns-4
     returns-5
-    is-taken-requires
+    (λ c κs. search needs)
     returns-6)

@@ -17,22 +17,10 @@ use Rattle.writer.proofs.is_identifier.Tie as tie
 lined : (c : tie.After-is-one-line) {t : Bool} → c .is-one-line .result ≡ t → not (among (now (c .before .before .args .text)) 10) ≡ t
 lined c e = sym (c .is-one-line .ensures) ∙ e
 
-is-one-line-requires : tie.Need-is-one-line-requires
-is-one-line-requires c κs = search needs
-
 returns : tie.Need-returns
 returns c =
     let a = c .before .before .before .args in
     line-by (textReply Identified (a .option) (now (a .text))) (now (a .text)) (lined (c .before) (not-true _ (c .if1 .taken)))
-
-limits-of-requires : tie.Need-limits-of-requires
-limits-of-requires c κs = search needs
-
-parse-remaining-requires : tie.Need-parse-remaining-requires
-parse-remaining-requires c κs = search needs
-
-is-accepted-requires : tie.Need-is-accepted-requires
-is-accepted-requires c κs = search needs
 
 returns-2 : tie.Need-returns-2
 returns-2 c =
@@ -49,9 +37,9 @@ pub is-identifier-spec : {M : Type 1} → statement M
 is-identifier-spec =
     tie.close
     (tie.spec
-    is-one-line-requires
+    (λ c κs. search needs)
     returns
-    limits-of-requires
-    parse-remaining-requires
-    is-accepted-requires
+    (λ c κs. search needs)
+    (λ c κs. search needs)
+    (λ c κs. search needs)
     returns-2)

@@ -29,18 +29,6 @@ kept c e =
 room : (c : tie.Else1) → 2 ≤ length (now (c .before .before .before .before .before .args .text))
 room c = numbered-room (now (c .before .before .before .before .before .args .text)) (sym (c .before .is-numbered-line .ensures) ∙ not-false _ (c .if1 .left))
 
-enum-told : tie.Need-enum-told
-enum-told c = search needs
-
-enum-told-2 : tie.Need-enum-told-2
-enum-told-2 c = search needs
-
-enum-told-3 : tie.Need-enum-told-3
-enum-told-3 c = search needs
-
-is-numbered-line-requires : tie.Need-is-numbered-line-requires
-is-numbered-line-requires c κs = search needs
-
 returns : tie.Need-returns
 returns c = kept (c .before) (not-true _ (c .if1 .taken))
 
@@ -49,12 +37,6 @@ shared-slice-read-result c = omega (arith, room (c .before))
 
 cast-result : tie.Need-cast-result
 cast-result c = omega (arith, c .shared-slice-known2 .given 0)
-
-add-result : tie.Need-add-result
-add-result c = search needs
-
-returns-2 : tie.Need-returns-2
-returns-2 c = search needs
 
 returns-3 : tie.Need-returns-3
 returns-3 c =
@@ -68,14 +50,14 @@ pub is-in-turn-spec : {M : Type 1} → statement M
 is-in-turn-spec =
     tie.close
     (tie.spec
-    enum-told
-    enum-told-2
-    enum-told-3
-    is-numbered-line-requires
+    (λ c. search needs)
+    (λ c. search needs)
+    (λ c. search needs)
+    (λ c κs. search needs)
     returns
     shared-slice-read-result
     cast-result
-    add-result
-    returns-2
+    (λ c. search needs)
+    (λ c. search needs)
     returns-3
     returns-4)

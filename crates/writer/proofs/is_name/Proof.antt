@@ -34,9 +34,6 @@ text-length l =
     let a = l .before .before .before .before .before .before .before .before .args in
     omega (arith, length-drop (numberIn (a .numbering)) (used (a .t) .bytes), l .before .before .before .before .before .before .before .used-length .ensures .is, l .number-length .ensures)
 
-used-length-requires : tie.Need-used-length-requires
-used-length-requires c κs = search needs
-
 returns : tie.Need-returns
 returns c =
     let u = c .before .before in
@@ -61,9 +58,6 @@ returns-2 c =
     let a = c .before .before .before .before .before .before .before .args in
     sym (name-not-turn (a .numbering) (a .longest) (a .turn) (used (a .t)) (turn (c .before) (not-true _ (c .if2 .taken))))
 
-number-length-requires : tie.Need-number-length-requires
-number-length-requires c κs = search needs
-
 sub-if3 : tie.Need-sub-if3
 sub-if3 c =
     let a = c .before .before .before .before .before .before .before .before .args in
@@ -84,9 +78,6 @@ slice-aggregate-all-at-least c =
     let u = c .before .before .before .before .before .before .before .before .before in
     used-count (u .before .args .t) (u .used-length .result) (u .used-length .ensures .is)
 
-all-at-least-requires : tie.Need-all-at-least-requires
-all-at-least-requires c κs = search needs
-
 returns-4 : tie.Need-returns-4
 returns-4 c =
     let u = c .before .before .before .before .before .before .before .before .before .before in
@@ -103,16 +94,16 @@ pub is-name-spec : {M : Type 1} → statement M
 is-name-spec =
     tie.close
     (tie.spec
-    used-length-requires
+    (λ c κs. search needs)
     returns
     array-share-prefix-bytes
     slice-aggregate-is-in-turn
     is-in-turn-requires
     returns-2
-    number-length-requires
+    (λ c κs. search needs)
     sub-if3
     returns-3
     array-share-prefix-bytes-2
     slice-aggregate-all-at-least
-    all-at-least-requires
+    (λ c κs. search needs)
     returns-4)

@@ -9,13 +9,10 @@ use borrow.Author.Needs.{needs}
 use Rattle.writer.proofs.is_one_line.Statement.{statement}
 use Rattle.writer.proofs.is_one_line.Tie as tie
 
-find-lf-requires : tie.Need-find-lf-requires
-find-lf-requires c κs = search needs
-
 returns : tie.Need-returns
 returns c =
     let x = now (c .before .before .args .text) in
     ap (leb (length x)) (c .find-lf .ensures ∙ zero-add _) ∙ no-lf x
 
 pub is-one-line-spec : {M : Type 1} → statement M
-is-one-line-spec = tie.close (tie.spec find-lf-requires returns)
+is-one-line-spec = tie.close (tie.spec (λ c κs. search needs) returns)

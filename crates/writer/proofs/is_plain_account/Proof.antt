@@ -18,22 +18,10 @@ measured :
     (c : tie.After-is-accepted) {t : Bool} → c .is-accepted .result ≡ t → let a = c .before .before .before .args in passes (lengthReply (a .option) (now (a .text))) ≡ t
 measured c e = sym (c .is-accepted .ensures ∙ ap passes (c .before .account-length .ensures)) ∙ e
 
-account-length-requires : tie.Need-account-length-requires
-account-length-requires c κs = search needs
-
-is-accepted-requires : tie.Need-is-accepted-requires
-is-accepted-requires c κs = search needs
-
 returns : tie.Need-returns
 returns c =
     let a = c .before .before .before .before .args in
     plain-account (a .option) (now (a .text)) (measured (c .before) (not-true _ (c .if1 .taken)))
-
-class-table-requires : tie.Need-class-table-requires
-class-table-requires c κs = search needs
-
-all-at-least-requires : tie.Need-all-at-least-requires
-all-at-least-requires c κs = search needs
 
 returns-2 : tie.Need-returns-2
 returns-2 c =
@@ -48,9 +36,9 @@ pub is-plain-account-spec : {M : Type 1} → statement M
 is-plain-account-spec =
     tie.close
     (tie.spec
-    account-length-requires
-    is-accepted-requires
+    (λ c κs. search needs)
+    (λ c κs. search needs)
     returns
-    class-table-requires
-    all-at-least-requires
+    (λ c κs. search needs)
+    (λ c κs. search needs)
     returns-2)

@@ -6,9 +6,6 @@ use borrow.Author.Needs.{needs}
 use Rattle.writer.proofs.is_presence.Statement.{statement}
 use Rattle.writer.proofs.is_presence.Tie as tie
 
-limits-of-requires : tie.Need-limits-of-requires
-limits-of-requires c κs = search needs
-
 returns : tie.Need-returns
 returns c = rw (c .before .if1 .taken) (ap (λ (l : Limits). ltb 0 (l .longest)) (c .before .before .limits-of .ensures))
 
@@ -16,4 +13,4 @@ returns-2 : tie.Need-returns-2
 returns-2 c = rw (c .before .if1 .left) (ap (λ (l : Limits). eqb (l .shortest) 0) (c .before .before .limits-of .ensures))
 
 pub is-presence-spec : {M : Type 1} → statement M
-is-presence-spec = tie.close (tie.spec limits-of-requires returns returns-2)
+is-presence-spec = tie.close (tie.spec (λ c κs. search needs) returns returns-2)

@@ -6,9 +6,6 @@ use borrow.Author.Needs.{needs}
 use Rattle.writer.proofs.name_count.Statement.{statement}
 use Rattle.writer.proofs.name_count.Tie as tie
 
-limits-of-requires : tie.Need-limits-of-requires
-limits-of-requires c κs = search needs
-
 returns : tie.Need-returns
 returns c =
     let l = c .before .before in
@@ -25,4 +22,4 @@ returns-3 c =
     omega (arith, count-some (l .before .args .option) (l .before .args .count) (rw (l .limits-of .ensures) at (c .before .if1 .left)))
 
 pub name-count-spec : {M : Type 1} → statement M
-name-count-spec = tie.close (tie.spec limits-of-requires returns returns-2 returns-3)
+name-count-spec = tie.close (tie.spec (λ c κs. search needs) returns returns-2 returns-3)

@@ -40,15 +40,6 @@ module _ (k : tie.At-loop Inv-loop μ-loop) where
   narrow : k .before .mark-count .result ≤ 2
   narrow = rw marked (marks-most (numberingOf (p .option)))
 
-name-count-requires : tie.Need-name-count-requires Inv-loop μ-loop
-name-count-requires c κs = search needs
-
-numbering-of-requires : tie.Need-numbering-of-requires Inv-loop μ-loop
-numbering-of-requires c κs = search needs
-
-mark-count-requires : tie.Need-mark-count-requires Inv-loop μ-loop
-mark-count-requires c κs = search needs
-
 loop-holds : tie.Need-loop-holds Inv-loop μ-loop
 loop-holds c = (omega arith, omega arith, omega arith)
 
@@ -58,26 +49,14 @@ mul-t c = omega (arith, few (c .before))
 element-copy-out-t : tie.Need-element-copy-out-t Inv-loop μ-loop
 element-copy-out-t c = omega (arith, few (c .before))
 
-lf-count-requires : tie.Need-lf-count-requires Inv-loop μ-loop
-lf-count-requires c κs = search needs
-
 add-total : tie.Need-add-total Inv-loop μ-loop
 add-total c = omega (arith, narrow (c .before .before .before))
-
-used-length-requires : tie.Need-used-length-requires Inv-loop μ-loop
-used-length-requires c κs = search needs
 
 add-total-2 : tie.Need-add-total-2 Inv-loop μ-loop
 add-total-2 c = omega (arith, narrow (c .before .before .before .before))
 
 add-total-3 : tie.Need-add-total-3 Inv-loop μ-loop
 add-total-3 c = omega (arith, narrow (c .before .before .before .before), few (c .before .before .before .before))
-
-add-i : tie.Need-add-i Inv-loop μ-loop
-add-i c = omega arith
-
-loop-less : tie.Need-loop-less Inv-loop μ-loop
-loop-less c = omega arith
 
 loop-again : tie.Need-loop-again Inv-loop μ-loop
 loop-again c =
@@ -104,18 +83,18 @@ names-length-spec =
     (tie.spec
     Inv-loop
     μ-loop
-    name-count-requires
-    numbering-of-requires
-    mark-count-requires
+    (λ c κs. search needs)
+    (λ c κs. search needs)
+    (λ c κs. search needs)
     loop-holds
     mul-t
     element-copy-out-t
-    lf-count-requires
+    (λ c κs. search needs)
     add-total
-    used-length-requires
+    (λ c κs. search needs)
     add-total-2
     add-total-3
-    add-i
-    loop-less
+    (λ c. omega arith)
+    (λ c. omega arith)
     loop-again
     returns)

@@ -34,12 +34,6 @@ line l = rw (mark (l .before .before .before)) at (l .put-line .ensures)
 returns : tie.Need-returns
 returns c = rw (not-true (c .before .before .args .written) (c .if1 .taken)) (puts-none (now (c .before .before .args .buf)) (c .before .before .args .at))
 
-slash-count-requires : tie.Need-slash-count-requires
-slash-count-requires c κs = search needs
-
-array-share-prefix-slash : tie.Need-array-share-prefix-slash
-array-share-prefix-slash c = omega arith
-
 slice-aggregate-put-line : tie.Need-slice-aggregate-put-line
 slice-aggregate-put-line c = rw (mark (c .before .before)) (c .before .before .slash-count .ensures .is)
 
@@ -48,17 +42,11 @@ put-line-requires c κs =
     let a = c .before .before .before .before .before .args in
     rw (mark (c .before .before)) (space-first (now (a .buf)) (a .at) (slashOf (a .option) ++ used (a .account) .bytes) (lead (hasGap (a .option))) (room (c .before .before .before)))
 
-has-gap-requires : tie.Need-has-gap-requires
-has-gap-requires c κs = search needs
-
 put-lf-requires : tie.Need-put-lf-requires
 put-lf-requires c κs =
     let a = c .before .before .before .before .before .before .before .before .before .before .args in
     let room = space (slashOf (a .option) ++ used (a .account) .bytes) (lead (hasGap (a .option))) (line (c .before .before .before .before)) (room (c .before .before .before .before .before .before .before .before)) in
     omega (arith, room, ap (λ (b : Bool). length (lead b)) (c .before .has-gap .ensures))
-
-same-length : tie.Need-same-length
-same-length c = search needs
 
 returns-2 : tie.Need-returns-2
 returns-2 c =
@@ -72,11 +60,11 @@ put-head-spec =
     tie.close
     (tie.spec
     returns
-    slash-count-requires
-    array-share-prefix-slash
+    (λ c κs. search needs)
+    (λ c. omega arith)
     slice-aggregate-put-line
     put-line-requires
-    has-gap-requires
+    (λ c κs. search needs)
     put-lf-requires
-    same-length
+    (λ c. search needs)
     returns-2)

@@ -14,12 +14,6 @@ room t = let r : t .before .args .at + 1 ≤ length (now (t .before .args .buf))
 slice-write-buf : tie.Need-slice-write-buf
 slice-write-buf c = room c
 
-add-result : tie.Need-add-result
-add-result c = search needs
-
-same-length : tie.Need-same-length
-same-length c = search needs
-
 returns : tie.Need-returns
 returns c = rw (c .if1 .taken) (puts-byte (now (c .before .args .buf)) (c .before .args .at) 10 (room c))
 
@@ -27,4 +21,4 @@ returns-2 : tie.Need-returns-2
 returns-2 c = rw (c .if1 .left) (puts-none (now (c .before .args .buf)) (c .before .args .at))
 
 pub put-lf-spec : {M : Type 1} → statement M
-put-lf-spec = tie.close (tie.spec slice-write-buf add-result same-length returns returns-2)
+put-lf-spec = tie.close (tie.spec slice-write-buf (λ c. search needs) (λ c. search needs) returns returns-2)

@@ -40,9 +40,6 @@ put-bytes-requires c κs =
     let a = l .before .before .before .before .args in
     space-first (l .put-lf .last .0) (l .put-lf .result) (now (a .mark)) (used (a .t) .bytes) (rest l)
 
-used-length-requires : tie.Need-used-length-requires
-used-length-requires c κs = search needs
-
 array-share-prefix-bytes : tie.Need-array-share-prefix-bytes
 array-share-prefix-bytes c =
     let u = c .before .before in
@@ -59,9 +56,6 @@ put-bytes-requires-2 c κs =
     let l = b .before .before .before .before in
     let a = l .before .before .before .before .args in
     omega (arith, ap length (part (c .before .before .before)), space (now (a .mark)) (used (a .t) .bytes) (b .put-bytes .ensures) (rest l))
-
-same-length : tie.Need-same-length
-same-length c = search needs
 
 returns : tie.Need-returns
 returns c =
@@ -80,9 +74,9 @@ put-line-spec =
     (tie.spec
     put-lf-requires
     put-bytes-requires
-    used-length-requires
+    (λ c κs. search needs)
     array-share-prefix-bytes
     slice-aggregate-put-bytes
     put-bytes-requires-2
-    same-length
+    (λ c. search needs)
     returns)

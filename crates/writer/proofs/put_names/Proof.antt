@@ -68,15 +68,6 @@ module _ (k : tie.At-loop Inv-loop μ-loop) where
   turn : k .loop .i < n → Partway (now (k .before .before .before .before .before .args .buf)) (k .before .before .before .before .before .args .at) (led (k .before .before .before .before .before .args .later) (nameLines f 1 (namesIn n p))) (k .loop .buf) (k .loop .end) (line ++ later)
   turn inside = rw (left-next p sizes (k .before .before .before .name-count .ensures) f (k .loop .after) (k .loop .i) inside) at (k .loop .inv .1)
 
-name-count-requires : tie.Need-name-count-requires Inv-loop μ-loop
-name-count-requires c κs = search needs
-
-numbering-of-requires : tie.Need-numbering-of-requires Inv-loop μ-loop
-numbering-of-requires c κs = search needs
-
-mark-count-requires : tie.Need-mark-count-requires Inv-loop μ-loop
-mark-count-requires c κs = search needs
-
 loop-holds : tie.Need-loop-holds Inv-loop μ-loop
 loop-holds c =
     let s = c .before .before .before .before in
@@ -108,12 +99,6 @@ put-line-requires c κs =
     let fits = simp length-append at (next-space (line k) (later k) (turn k (c .before .before .before .loop-test .taken)) (room k)) in
     simp length-append (omega (arith, fits, slice-aggregate-put-line c, marked k, number-length (f k) (suc (k .loop .i))))
 
-add-i : tie.Need-add-i Inv-loop μ-loop
-add-i c = omega arith
-
-loop-less : tie.Need-loop-less Inv-loop μ-loop
-loop-less c = omega arith
-
 loop-again : tie.Need-loop-again Inv-loop μ-loop
 loop-again c =
     let k = c .before .before .before .before .before .before .before in
@@ -136,9 +121,9 @@ put-names-spec =
     (tie.spec
     Inv-loop
     μ-loop
-    name-count-requires
-    numbering-of-requires
-    mark-count-requires
+    (λ c κs. search needs)
+    (λ c κs. search needs)
+    (λ c κs. search needs)
     loop-holds
     cast-t17
     add-t18
@@ -147,8 +132,8 @@ put-names-spec =
     array-share-prefix-mark
     slice-aggregate-put-line
     put-line-requires
-    add-i
-    loop-less
+    (λ c. omega arith)
+    (λ c. omega arith)
     loop-again
     same-length
     returns)

@@ -28,9 +28,6 @@ rest t =
     let later = t .before .before .has-head .result in
     space (tagOf (p .option)) (headOf (p .option) later (used (p .account)) ++ restOn later p) (t .put-tag .ensures) (room (t .before .before))
 
-has-head-requires : tie.Need-has-head-requires
-has-head-requires c κs = search needs
-
 put-tag-requires : tie.Need-put-tag-requires
 put-tag-requires c κs =
     let a = c .before .before .before .before .args in
@@ -51,9 +48,6 @@ put-rest-requires c κs =
     let later = t .before .before .has-head .result in
     space (headOf (p .option) later (used (p .account))) (restOn later p) (c .before .before .before .put-head .ensures) (rest t)
 
-same-length : tie.Need-same-length
-same-length c = search needs
-
 returns : tie.Need-returns
 returns c =
     let t = c .before .before .before .before .before .before .before .before .before .before in
@@ -68,9 +62,9 @@ pub put-parts-spec : {M : Type 1} → statement M
 put-parts-spec =
     tie.close
     (tie.spec
-    has-head-requires
+    (λ c κs. search needs)
     put-tag-requires
     put-head-requires
     put-rest-requires
-    same-length
+    (λ c. search needs)
     returns)

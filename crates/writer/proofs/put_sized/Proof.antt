@@ -13,9 +13,6 @@ returns c =
     let a = c .before .before .args in
     placed-not (now (a .buf)) (a .at) (writtenField (said (a .p))) (omega arith)
 
-sub-if2 : tie.Need-sub-if2
-sub-if2 c = search needs
-
 returns-2 : tie.Need-returns-2
 returns-2 c =
     let a = c .before .before .before .args in
@@ -24,9 +21,6 @@ returns-2 c =
 put-parts-requires : tie.Need-put-parts-requires
 put-parts-requires c κs = omega (arith, c .before .before .before .before .pre)
 
-same-length : tie.Need-same-length
-same-length c = search needs
-
 returns-3 : tie.Need-returns-3
 returns-3 c =
     let a = c .before .before .before .before .before .before .before .args in
@@ -34,4 +28,4 @@ returns-3 c =
 
 pub put-sized-spec : {M : Type 1} → statement M
 put-sized-spec =
-    tie.close (tie.spec returns sub-if2 returns-2 put-parts-requires same-length returns-3)
+    tie.close (tie.spec returns (λ c. search needs) returns-2 put-parts-requires (λ c. search needs) returns-3)

@@ -5,41 +5,20 @@ use borrow.Author.Needs.{needs}
 use Rattle.writer.proofs.put_tag.Statement.{statement}
 use Rattle.writer.proofs.put_tag.Tie as tie
 
-limits-of-requires : tie.Need-limits-of-requires
-limits-of-requires c κs = search needs
-
-add-tens : tie.Need-add-tens
-add-tens c = search needs
-
-add-ones : tie.Need-add-ones
-add-ones c = search needs
-
-slice-aggregate-put-bytes : tie.Need-slice-aggregate-put-bytes
-slice-aggregate-put-bytes c = search needs
-
 put-bytes-requires : tie.Need-put-bytes-requires
 put-bytes-requires c κs =
     let l = c .before .before .before .before .before in
     rw (← tag-plain (l .before .before .args .option) (l .limits-of .ensures) (c .before .before .if1 .taken)) at (l .before .before .pre)
-
-same-length : tie.Need-same-length
-same-length c = search needs
 
 returns : tie.Need-returns
 returns c =
     let l = c .before .before .before .before .before .before .before .before in
     puts-as (tag-plain (l .before .before .args .option) (l .limits-of .ensures) (c .before .before .before .before .before .if1 .taken)) (c .before .before .put-bytes .ensures)
 
-slice-aggregate-put-bytes-2 : tie.Need-slice-aggregate-put-bytes-2
-slice-aggregate-put-bytes-2 c = search needs
-
 put-bytes-requires-2 : tie.Need-put-bytes-requires-2
 put-bytes-requires-2 c κs =
     let l = c .before .before .before .before .before in
     rw (← tag-lettered (l .before .before .args .option) (l .limits-of .ensures) (c .before .before .if1 .left)) at (l .before .before .pre)
-
-same-length-2 : tie.Need-same-length-2
-same-length-2 c = search needs
 
 returns-2 : tie.Need-returns-2
 returns-2 c =
@@ -50,14 +29,14 @@ pub put-tag-spec : {M : Type 1} → statement M
 put-tag-spec =
     tie.close
     (tie.spec
-    limits-of-requires
-    add-tens
-    add-ones
-    slice-aggregate-put-bytes
+    (λ c κs. search needs)
+    (λ c. search needs)
+    (λ c. search needs)
+    (λ c. search needs)
     put-bytes-requires
-    same-length
+    (λ c. search needs)
     returns
-    slice-aggregate-put-bytes-2
+    (λ c. search needs)
     put-bytes-requires-2
-    same-length-2
+    (λ c. search needs)
     returns-2)

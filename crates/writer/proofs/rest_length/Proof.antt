@@ -6,26 +6,11 @@ use borrow.Author.Needs.{needs}
 use Rattle.writer.proofs.rest_length.Statement.{statement}
 use Rattle.writer.proofs.rest_length.Tie as tie
 
-limits-of-requires : tie.Need-limits-of-requires
-limits-of-requires c κs = search needs
-
-names-length-requires : tie.Need-names-length-requires
-names-length-requires c κs = search needs
-
 returns : tie.Need-returns
 returns c =
     let l = c .before .before .before in
     let a = l .before .args in
     rw (rest-names (a .later) (a .p) (rw (l .limits-of .ensures) at (c .before .if1 .taken))) (c .names-length .ensures)
-
-lf-count-requires : tie.Need-lf-count-requires
-lf-count-requires c κs = search needs
-
-used-length-requires : tie.Need-used-length-requires
-used-length-requires c κs = search needs
-
-add-result : tie.Need-add-result
-add-result c = search needs
 
 returns-2 : tie.Need-returns-2
 returns-2 c =
@@ -38,10 +23,10 @@ pub rest-length-spec : {M : Type 1} → statement M
 rest-length-spec =
     tie.close
     (tie.spec
-    limits-of-requires
-    names-length-requires
+    (λ c κs. search needs)
+    (λ c κs. search needs)
     returns
-    lf-count-requires
-    used-length-requires
-    add-result
+    (λ c κs. search needs)
+    (λ c κs. search needs)
+    (λ c. search needs)
     returns-2)

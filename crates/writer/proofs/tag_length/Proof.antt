@@ -7,9 +7,6 @@ use borrow.Author.Needs.{needs}
 use Rattle.writer.proofs.tag_length.Statement.{statement}
 use Rattle.writer.proofs.tag_length.Tie as tie
 
-limits-of-requires : tie.Need-limits-of-requires
-limits-of-requires c κs = search needs
-
 returns : tie.Need-returns
 returns c =
     let o = c .before .before .before .args .option in
@@ -23,4 +20,4 @@ returns-2 c =
     rw (tag-by o, ne-eqb (limitsOf o .letter) 0 e)
 
 pub tag-length-spec : {M : Type 1} → statement M
-tag-length-spec = tie.close (tie.spec limits-of-requires returns returns-2)
+tag-length-spec = tie.close (tie.spec (λ c κs. search needs) returns returns-2)

@@ -15,29 +15,11 @@ use Rattle.writer.proofs.to_swift_string.Tie as tie
 given : (e : tie.Else1) → isGiven (said (e .before .before .before .args .p)) ≡ true
 given e = sym (e .before .is-given .ensures) ∙ not-false _ (e .if1 .left)
 
-is-given-requires : tie.Need-is-given-requires
-is-given-requires c κs = search needs
-
-refuse-requires : tie.Need-refuse-requires
-refuse-requires c κs = search needs
-
 returns : tie.Need-returns
 returns c =
     let a = c .before .before .before .before .args in
     ap (λ (w : Written). toldWritten w (now (a .buf))) (c .refuse .ensures)
     ∙ written-22 (said (a .p)) (now (a .buf)) (sym (c .before .before .is-given .ensures) ∙ not-true _ (c .before .if1 .taken))
-
-written-length-requires : tie.Need-written-length-requires
-written-length-requires c κs = search needs
-
-put-sized-requires : tie.Need-put-sized-requires
-put-sized-requires c κs = search needs
-
-refuse-requires-2 : tie.Need-refuse-requires-2
-refuse-requires-2 c κs = search needs
-
-same-length : tie.Need-same-length
-same-length c = search needs
 
 returns-2 : tie.Need-returns-2
 returns-2 c =
@@ -45,9 +27,6 @@ returns-2 c =
     let f = c .before .before .before .before .put-sized in
     ap (λ (w : Written). toldWritten w (f .last .1 .0)) (c .refuse2 .ensures)
     ∙ written-24 (said (a .p)) (now (a .buf)) (given (c .before .before .before .before .before .before .before)) (f .ensures .1) (sym (f .ensures .0) ∙ not-true _ (c .before .if2 .taken))
-
-same-length-2 : tie.Need-same-length-2
-same-length-2 c = search needs
 
 returns-3 : tie.Need-returns-3
 returns-3 c =
@@ -59,13 +38,13 @@ pub to-swift-string-spec : {M : Type 1} → statement M
 to-swift-string-spec =
     tie.close
     (tie.spec
-    is-given-requires
-    refuse-requires
+    (λ c κs. search needs)
+    (λ c κs. search needs)
     returns
-    written-length-requires
-    put-sized-requires
-    refuse-requires-2
-    same-length
+    (λ c κs. search needs)
+    (λ c κs. search needs)
+    (λ c κs. search needs)
+    (λ c. search needs)
     returns-2
-    same-length-2
+    (λ c. search needs)
     returns-3)

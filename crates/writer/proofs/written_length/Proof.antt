@@ -6,22 +6,10 @@ use borrow.Author.Needs.{needs}
 use Rattle.writer.proofs.written_length.Statement.{statement}
 use Rattle.writer.proofs.written_length.Tie as tie
 
-has-head-requires : tie.Need-has-head-requires
-has-head-requires c κs = search needs
-
-tag-length-requires : tie.Need-tag-length-requires
-tag-length-requires c κs = search needs
-
-head-length-requires : tie.Need-head-length-requires
-head-length-requires c κs = search needs
-
 add-result : tie.Need-add-result
 add-result c =
     let t = c .before in
     omega (arith, t .tag-length .ensures, tag-most (t .before .before .before .args .p .option), c .head-length .ensures .most)
-
-rest-length-requires : tie.Need-rest-length-requires
-rest-length-requires c κs = search needs
 
 add-result-2 : tie.Need-add-result-2
 add-result-2 c =
@@ -39,10 +27,10 @@ pub written-length-spec : {M : Type 1} → statement M
 written-length-spec =
     tie.close
     (tie.spec
-    has-head-requires
-    tag-length-requires
-    head-length-requires
+    (λ c κs. search needs)
+    (λ c κs. search needs)
+    (λ c κs. search needs)
     add-result
-    rest-length-requires
+    (λ c κs. search needs)
     add-result-2
     returns)

@@ -10,12 +10,6 @@ use borrow.Author.Needs.{needs}
 use Rattle.field50.proofs.Field50Creditor.parse.Statement.{statement}
 use Rattle.field50.proofs.Field50Creditor.parse.Tie as tie
 
-last-is-bic-requires : tie.Need-last-is-bic-requires
-last-is-bic-requires c κs = search needs
-
-detect-requires : tie.Need-detect-requires
-detect-requires c κs = search needs
-
 returns : tie.Need-returns
 unfolding creditor
 returns c =
@@ -23,4 +17,4 @@ returns c =
     c .detect .ensures ∙ ap (λ (t : Bool). detected body (firstThat (when t Field50A ++ (Field50K ∷ [])) body)) (c .before .last-is-bic .ensures)
 
 pub parse-spec : {M : Type 1} → statement M
-parse-spec = tie.close (tie.spec last-is-bic-requires detect-requires returns)
+parse-spec = tie.close (tie.spec (λ c κs. search needs) (λ c κs. search needs) returns)

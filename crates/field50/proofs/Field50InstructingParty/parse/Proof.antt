@@ -10,12 +10,6 @@ use borrow.Author.Needs.{needs}
 use Rattle.field50.proofs.Field50InstructingParty.parse.Statement.{statement}
 use Rattle.field50.proofs.Field50InstructingParty.parse.Tie as tie
 
-trim-requires : tie.Need-trim-requires
-trim-requires c κs = search needs
-
-detect-requires : tie.Need-detect-requires
-detect-requires c κs = search needs
-
 returns : tie.Need-returns
 unfolding instructingParty
 returns c =
@@ -23,4 +17,4 @@ returns c =
     c .detect .ensures ∙ ap (λ (l : List ℕ). detected body (firstThat (Field50C ∷ Field50L ∷ []) l)) (c .before .trim .ensures)
 
 pub parse-spec : {M : Type 1} → statement M
-parse-spec = tie.close (tie.spec trim-requires detect-requires returns)
+parse-spec = tie.close (tie.spec (λ c κs. search needs) (λ c κs. search needs) returns)

@@ -11,15 +11,6 @@ use borrow.Author.Needs.{needs}
 use Rattle.field50.proofs.Field50OrderingCustomerAFK.parse.Statement.{statement}
 use Rattle.field50.proofs.Field50OrderingCustomerAFK.parse.Tie as tie
 
-any-numbered-requires : tie.Need-any-numbered-requires
-any-numbered-requires c κs = search needs
-
-last-is-bic-requires : tie.Need-last-is-bic-requires
-last-is-bic-requires c κs = search needs
-
-detect-requires : tie.Need-detect-requires
-detect-requires c κs = search needs
-
 returns : tie.Need-returns
 unfolding orderingCustomerAFK
 returns c =
@@ -30,4 +21,4 @@ returns c =
 
 pub parse-spec : {M : Type 1} → statement M
 parse-spec =
-    tie.close (tie.spec any-numbered-requires last-is-bic-requires detect-requires returns)
+    tie.close (tie.spec (λ c κs. search needs) (λ c κs. search needs) (λ c κs. search needs) returns)

@@ -14,30 +14,6 @@ use borrow.Author.Needs.{needs}
 use Rattle.field50.proofs.Field50OrderingCustomerFGH.parse.Statement.{statement}
 use Rattle.field50.proofs.Field50OrderingCustomerFGH.parse.Tie as tie
 
-count-lines-requires : tie.Need-count-lines-requires
-count-lines-requires c κs = search needs
-
-first-line-requires : tie.Need-first-line-requires
-first-line-requires c κs = search needs
-
-starts-with-slash-requires : tie.Need-starts-with-slash-requires
-starts-with-slash-requires c κs = search needs
-
-both-requires : tie.Need-both-requires
-both-requires c κs = search needs
-
-later-numbered-requires : tie.Need-later-numbered-requires
-later-numbered-requires c κs = search needs
-
-both-requires-2 : tie.Need-both-requires-2
-both-requires-2 c κs = search needs
-
-both-requires-3 : tie.Need-both-requires-3
-both-requires-3 c κs = search needs
-
-detect-requires : tie.Need-detect-requires
-detect-requires c κs = search needs
-
 returns : tie.Need-returns
 unfolding orderingCustomerFGH
 returns c =
@@ -69,12 +45,12 @@ pub parse-spec : {M : Type 1} → statement M
 parse-spec =
     tie.close
     (tie.spec
-    count-lines-requires
-    first-line-requires
-    starts-with-slash-requires
-    both-requires
-    later-numbered-requires
-    both-requires-2
-    both-requires-3
-    detect-requires
+    (λ c κs. search needs)
+    (λ c κs. search needs)
+    (λ c κs. search needs)
+    (λ c κs. search needs)
+    (λ c κs. search needs)
+    (λ c κs. search needs)
+    (λ c κs. search needs)
+    (λ c κs. search needs)
     returns)

@@ -15,24 +15,6 @@ use borrow.Author.Needs.{needs}
 use Rattle.field50.proofs.Field50OrderingCustomerNCF.parse.Statement.{statement}
 use Rattle.field50.proofs.Field50OrderingCustomerNCF.parse.Tie as tie
 
-count-lines-requires : tie.Need-count-lines-requires
-count-lines-requires c κs = search needs
-
-first-line-requires : tie.Need-first-line-requires
-first-line-requires c κs = search needs
-
-both-requires : tie.Need-both-requires
-both-requires c κs = search needs
-
-both-requires-2 : tie.Need-both-requires-2
-both-requires-2 c κs = search needs
-
-any-numbered-requires : tie.Need-any-numbered-requires
-any-numbered-requires c κs = search needs
-
-detect-requires : tie.Need-detect-requires
-detect-requires c κs = search needs
-
 returns : tie.Need-returns
 unfolding orderingCustomerNCF
 returns c =
@@ -56,10 +38,10 @@ pub parse-spec : {M : Type 1} → statement M
 parse-spec =
     tie.close
     (tie.spec
-    count-lines-requires
-    first-line-requires
-    both-requires
-    both-requires-2
-    any-numbered-requires
-    detect-requires
+    (λ c κs. search needs)
+    (λ c κs. search needs)
+    (λ c κs. search needs)
+    (λ c κs. search needs)
+    (λ c κs. search needs)
+    (λ c κs. search needs)
     returns)

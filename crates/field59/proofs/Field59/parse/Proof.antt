@@ -11,15 +11,6 @@ use borrow.Author.Needs.{needs}
 use Rattle.field59.proofs.Field59.parse.Statement.{statement}
 use Rattle.field59.proofs.Field59.parse.Tie as tie
 
-test-line-requires : tie.Need-test-line-requires
-test-line-requires c κs = search needs
-
-is-numbered-line-requires : tie.Need-is-numbered-line-requires
-is-numbered-line-requires c κs = search needs
-
-detect-requires : tie.Need-detect-requires
-detect-requires c κs = search needs
-
 returns : tie.Need-returns
 unfolding field59
 returns c =
@@ -29,4 +20,4 @@ returns c =
 
 pub parse-spec : {M : Type 1} → statement M
 parse-spec =
-    tie.close (tie.spec test-line-requires is-numbered-line-requires detect-requires returns)
+    tie.close (tie.spec (λ c κs. search needs) (λ c κs. search needs) (λ c κs. search needs) returns)

@@ -4,12 +4,9 @@ use borrow.Author.Needs.{needs}
 use Rattle.field59.proofs.Field59Debtor.parse.Statement.{statement}
 use Rattle.field59.proofs.Field59Debtor.parse.Tie as tie
 
-detect-requires : tie.Need-detect-requires
-detect-requires c κs = search needs
-
 returns : tie.Need-returns
 unfolding debtor
 returns c = c .detect .ensures
 
 pub parse-spec : {M : Type 1} → statement M
-parse-spec = tie.close (tie.spec detect-requires returns)
+parse-spec = tie.close (tie.spec (λ c κs. search needs) returns)

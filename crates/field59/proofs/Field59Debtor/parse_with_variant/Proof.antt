@@ -10,27 +10,6 @@ use borrow.Author.Needs.{needs}
 use Rattle.field59.proofs.Field59Debtor.parse_with_variant.Statement.{statement}
 use Rattle.field59.proofs.Field59Debtor.parse_with_variant.Tie as tie
 
-pick-variant-requires : tie.Need-pick-variant-requires
-pick-variant-requires c κs = search needs
-
-enum-told : tie.Need-enum-told
-enum-told c = search needs
-
-refuse-requires : tie.Need-refuse-requires
-refuse-requires c κs = search needs
-
-enum-known-picked : tie.Need-enum-known-picked
-enum-known-picked c = search needs
-
-read-requires : tie.Need-read-requires
-read-requires c κs = search needs
-
-enum-told-2 : tie.Need-enum-told-2
-enum-told-2 c = search needs
-
-parse-requires : tie.Need-parse-requires
-parse-requires c κs = search needs
-
 returns : tie.Need-returns
 unfolding debtorBy
 returns c =
@@ -56,13 +35,13 @@ pub parse-with-variant-spec : {M : Type 1} → statement M
 parse-with-variant-spec =
     tie.close
     (tie.spec
-    pick-variant-requires
-    enum-told
-    refuse-requires
-    enum-known-picked
-    read-requires
-    enum-told-2
-    parse-requires
+    (λ c κs. search needs)
+    (λ c. search needs)
+    (λ c κs. search needs)
+    (λ c. search needs)
+    (λ c κs. search needs)
+    (λ c. search needs)
+    (λ c κs. search needs)
     returns
     returns-2
     returns-3)

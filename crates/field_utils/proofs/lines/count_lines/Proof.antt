@@ -24,18 +24,6 @@ module _ (c : tie.After-known-told Inv-loop μ-loop) where
   fits : let v = c .before .found .given .0 in Found (now (at .before .before .args .s)) (at .loop .cursor .at) (v .0) (v .1 .0) (v .1 .1 .0 .at)
   fits = found (now (at .before .before .args .s)) (at .loop .cursor .at) (c .before .before .before .next .ensures) (c .before .found .given .1)
 
-loop-holds : tie.Need-loop-holds Inv-loop μ-loop
-loop-holds c = omega arith
-
-next-requires : tie.Need-next-requires Inv-loop μ-loop
-next-requires c κs = search needs
-
-enum-known-found : tie.Need-enum-known-found Inv-loop μ-loop
-enum-known-found c = search needs
-
-enum-told : tie.Need-enum-told Inv-loop μ-loop
-enum-told c = search needs
-
 returns : tie.Need-returns Inv-loop μ-loop
 returns c =
     let at = c .before .before .before in
@@ -57,10 +45,10 @@ count-lines-spec =
     (tie.spec
     Inv-loop
     μ-loop
-    loop-holds
-    next-requires
-    enum-known-found
-    enum-told
+    (λ c. omega arith)
+    (λ c κs. search needs)
+    (λ c. search needs)
+    (λ c. search needs)
     returns
     add-count
     loop-less

@@ -21,24 +21,6 @@ abbrev μ-loop : tie.MeasureT-loop
 loop-holds : tie.Need-loop-holds Inv-loop μ-loop
 loop-holds c = refl
 
-shared-slice-read-is-white : tie.Need-shared-slice-read-is-white Inv-loop μ-loop
-shared-slice-read-is-white c = omega arith
-
-is-white-requires : tie.Need-is-white-requires Inv-loop μ-loop
-is-white-requires c κs = search needs
-
-sub-trim-end : tie.Need-sub-trim-end Inv-loop μ-loop
-sub-trim-end c = omega arith
-
-part-trim-end-start : tie.Need-part-trim-end-start Inv-loop μ-loop
-part-trim-end-start c = omega arith
-
-part-trim-end-end : tie.Need-part-trim-end-end Inv-loop μ-loop
-part-trim-end-end c = search needs
-
-trim-end-requires : tie.Need-trim-end-requires Inv-loop μ-loop
-trim-end-requires c κs = search needs
-
 -- the part from the place on is the trimmed start
 at-start : (c : tie.Then1 Inv-loop μ-loop) → let a = c .before .before .before .before .before .before .args in
     trimmedStart (now (a .s)) ≡ drop (c .before .before .before .before .loop .start) (now (a .s))
@@ -53,12 +35,6 @@ returns c =
     let d = c .before .before in
     let a = d .before .before .before .before .before .before .args in
     c .trim-end .ensures ∙ ap trimmedEnd (part-end (now (a .s)) (d .before .before .before .before .loop .start) ∙ sym (at-start d))
-
-add-start : tie.Need-add-start Inv-loop μ-loop
-add-start c = omega arith
-
-loop-less : tie.Need-loop-less Inv-loop μ-loop
-loop-less c = omega arith
 
 loop-again : tie.Need-loop-again Inv-loop μ-loop
 loop-again c =
@@ -83,15 +59,15 @@ trim-spec =
     Inv-loop
     μ-loop
     loop-holds
-    shared-slice-read-is-white
-    is-white-requires
-    sub-trim-end
-    part-trim-end-start
-    part-trim-end-end
-    trim-end-requires
+    (λ c. omega arith)
+    (λ c κs. search needs)
+    (λ c. omega arith)
+    (λ c. omega arith)
+    (λ c. search needs)
+    (λ c κs. search needs)
     returns
-    add-start
-    loop-less
+    (λ c. omega arith)
+    (λ c. omega arith)
     loop-again
     slice-aggregate-result
     returns-2)

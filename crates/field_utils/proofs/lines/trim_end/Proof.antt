@@ -21,15 +21,6 @@ abbrev μ-loop : tie.MeasureT-loop
 loop-holds : tie.Need-loop-holds Inv-loop μ-loop
 loop-holds c = (omega arith, rw take-length)
 
-sub-is-white : tie.Need-sub-is-white Inv-loop μ-loop
-sub-is-white c = omega arith
-
-shared-slice-read-is-white : tie.Need-shared-slice-read-is-white Inv-loop μ-loop
-shared-slice-read-is-white c = omega arith
-
-is-white-requires : tie.Need-is-white-requires Inv-loop μ-loop
-is-white-requires c κs = search needs
-
 slice-aggregate-result : tie.Need-slice-aggregate-result Inv-loop μ-loop
 slice-aggregate-result c = sym (length-take-le _ _ (omega arith))
 
@@ -38,12 +29,6 @@ returns c =
     let a = c .before .before .before .before .before .before .before .args in
     let k = c .before .before .before .before .before .loop in
     sym (k .inv .1 ∙ end-there (now (a .s)) (k .end) (omega arith) (omega arith) (sym (c .before .before .is-white .ensures) ∙ not-true _ (c .before .if1 .taken)))
-
-sub-end : tie.Need-sub-end Inv-loop μ-loop
-sub-end c = omega arith
-
-loop-less : tie.Need-loop-less Inv-loop μ-loop
-loop-less c = omega arith
 
 loop-again : tie.Need-loop-again Inv-loop μ-loop
 loop-again c =
@@ -67,13 +52,13 @@ trim-end-spec =
     Inv-loop
     μ-loop
     loop-holds
-    sub-is-white
-    shared-slice-read-is-white
-    is-white-requires
+    (λ c. omega arith)
+    (λ c. omega arith)
+    (λ c κs. search needs)
     slice-aggregate-result
     returns
-    sub-end
-    loop-less
+    (λ c. omega arith)
+    (λ c. omega arith)
     loop-again
     slice-aggregate-result-2
     returns-2)

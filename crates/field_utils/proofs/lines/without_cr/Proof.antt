@@ -16,21 +16,12 @@ returns c =
     let e : a .lf - a .start ≡ 0 = omega arith in
     rw e (omega arith)
 
-sub-if2 : tie.Need-sub-if2
-sub-if2 c = search needs
-
-shared-slice-read-if2 : tie.Need-shared-slice-read-if2
-shared-slice-read-if2 c = search needs
-
 returns-2 : tie.Need-returns-2
 returns-2 c = let a = c .before .before .before .args in sym (end-cr (now (a .s)) (a .start) (a .lf) (omega arith) (omega arith) (c .if2 .taken))
 
 returns-3 : tie.Need-returns-3
 returns-3 c = let a = c .before .before .before .args in sym (end-kept (now (a .s)) (a .start) (a .lf) (omega arith) (omega arith) (c .if2 .left))
 
-sub-result : tie.Need-sub-result
-sub-result c = search needs
-
 pub without-cr-spec : {M : Type 1} → statement M
 without-cr-spec =
-    tie.close (tie.spec returns sub-if2 shared-slice-read-if2 sub-result returns-2 returns-3)
+    tie.close (tie.spec returns (λ c. search needs) (λ c. search needs) (λ c. search needs) returns-2 returns-3)

@@ -14,9 +14,6 @@ use Rattle.field_utils.proofs.lines.Lines.next_from.Tie as tie
 returns : tie.Need-returns
 returns c = sym (next-done (now (c .before .before .args .s)) (c .before .before .args .self .at) (omega arith))
 
-find-lf-requires : tie.Need-find-lf-requires
-find-lf-requires c κs = search needs
-
 -- the LF is the first from the cursor on
 lf-is : (c : tie.After-find-lf) → let a = c .before .before .before .args in c .find-lf .result ≡ a .self .at + upto 10 (drop (a .self .at) (now (a .s)))
 lf-is c =
@@ -32,9 +29,6 @@ returns-2 c =
 without-cr-requires : tie.Need-without-cr-requires
 without-cr-requires c κs = let e = lf-is (c .before) in search needs
 
-add-t9 : tie.Need-add-t9
-add-t9 c = search needs
-
 returns-3 : tie.Need-returns-3
 returns-3 c =
     let a = c .before .before .before .before .before .args in
@@ -43,4 +37,4 @@ returns-3 c =
 
 pub next-from-spec : {M : Type 1} → statement M
 next-from-spec =
-    tie.close (tie.spec returns find-lf-requires returns-2 without-cr-requires add-t9 returns-3)
+    tie.close (tie.spec returns (λ c κs. search needs) returns-2 without-cr-requires (λ c. search needs) returns-3)
