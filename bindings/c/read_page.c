@@ -1,4 +1,8 @@
-/* Reads a page from standard input and prints its answers, one to a line, up to the end. */
+/*
+ * Reads a page from standard input and prints its answers, one to a line, up to the end: a record's
+ * option and texts, or a refusal and the lines of the body that is refused. Says on standard error
+ * what each refusal is for.
+ */
 #include "yewdome.h"
 
 #include <stdio.h>
@@ -18,6 +22,67 @@ static void print_record(const uint8_t *record)
     putchar('\n');
 }
 
+/* The lines of a body; a byte that does not print stands as a backslash and two digits. */
+static void print_body(const uint8_t *body, size_t length)
+{
+    size_t i;
+    if (length != 0)
+        printf(" | ");
+    for (i = 0; i < length; i++) {
+        if (body[i] == '\n')
+            printf(" | ");
+        else if (body[i] >= ' ' && body[i] <= '~')
+            putchar(body[i]);
+        else
+            printf("\\%02x", (unsigned)body[i]);
+    }
+    putchar('\n');
+}
+
+static const char *name(unsigned number)
+{
+#define CASE(name) \
+    case YEWDOME_##name: \
+        return #name
+    switch ((enum yewdome_refusal)number) {
+        CASE(LINE_COUNT);
+        CASE(PARTY_IDENTIFIER);
+        CASE(ILLEGAL_BYTE);
+        CASE(TOO_LONG);
+        CASE(NOT_NUMBERED);
+        CASE(OUT_OF_TURN);
+        CASE(NAME_COUNT);
+        CASE(BIC_MISSING);
+        CASE(BIC_LENGTH);
+        CASE(BIC_BYTE);
+        CASE(NO_OPTION);
+        CASE(BODY_TOO_LONG);
+        CASE(NOT_ASCII);
+        CASE(NOT_A_LETTER);
+        CASE(UNKNOWN_TAG);
+        CASE(STRAY_LINE);
+        CASE(PAGE_LENGTH);
+        CASE(PAGE_TOO_LONG);
+        CASE(POSITION);
+        CASE(NO_SUCH_RECORD);
+        CASE(NOT_CARRIED);
+        CASE(NO_SPACE);
+        CASE(NO_SUCH_OPTION);
+        CASE(SHORT_RECORD);
+    }
+#undef CASE
+    return "unknown";
+}
+
+static void print_refusal(const uint8_t *page, size_t length, size_t at, uint32_t answer)
+{
+    uint64_t body = yewdome_page_body(page, length, at);
+    unsigned number = yewdome_number(answer);
+    printf("refused with %u, line %u", number, yewdome_line(answer));
+    print_body(page + yewdome_body_place(body), yewdome_body_length(body));
+    fprintf(stderr, "byte %zu: refused, %s\n", at, name(number));
+}
+
 int main(void)
 {
     static uint8_t page[YEWDOME_LONGEST_PAGE + 1];
@@ -25,7 +90,7 @@ int main(void)
     size_t length = fread(page, 1, sizeof page, stdin);
     size_t at = 0;
     for (;;) {
-        uint64_t read = page_read(page, length, at, record, sizeof record);
+        uint64_t read = yewdome_page_read(page, length, at, record, sizeof record);
         uint32_t answer = yewdome_read_answer(read);
         if (yewdome_read_ended(read)) {
             printf("end at %zu\n", at + yewdome_read_moved(read));
@@ -34,7 +99,7 @@ int main(void)
         if (yewdome_number(answer) == 0)
             print_record(record);
         else
-            printf("refused with %u, line %u\n", yewdome_number(answer), yewdome_line(answer));
+            print_refusal(page, length, at, answer);
         if (yewdome_read_moved(read) == 0) {
             fprintf(stderr, "error: the page cannot be read on from byte %zu\n", at);
             return 1;

@@ -1,14 +1,11 @@
 /*
  * Party fields 50 and 59 of SWIFT MT messages, and pages of them: the functions of the static
- * library that `rt staticlib exports` builds, target/staticlib/libexports.a, for x86-64.
+ * library that `rt staticlib yewdome` builds, target/staticlib/libyewdome.a, for x86-64.
  *
  * Every function takes any bytes, any lengths and any numbers, keeps no pointer and no state, and
- * is proved equal to its definition in crates/exports/specs/Exports.antt. The caller owes only what
- * C cannot say: a pointer is valid for its length and not null, also where the length is 0, and what
- * is written overlaps nothing else that is lent in the same call.
- *
- * A refusal changes no byte. Its number and line are those of the README's paper, document 01; but 41, no
- * such option or choice, and 42, a lent record of under 237 bytes, are this interface's own.
+ * is proved equal to its definition in crates/yewdome/specs/Interface.antt. The caller owes only
+ * what C cannot say: a pointer is valid for its length and not null, also where the length is 0,
+ * and what is written overlaps nothing else that is lent in the same call.
  */
 #ifndef YEWDOME_H
 #define YEWDOME_H
@@ -20,15 +17,22 @@
 extern "C" {
 #endif
 
+#define YEWDOME_VERSION_MAJOR 0
+#define YEWDOME_VERSION_MINOR 1
+#define YEWDOME_VERSION_PATCH 0
+#define YEWDOME_VERSION "0.1.0"
+
 /*
  * A record as bytes: the option's place, 1 or 0 for whether there is an account or identifier, the
  * count of names, then six texts: the account or identifier, the BIC, four names. A text is its
- * length and 38 bytes, of which those after the length are not used.
+ * length and room for the longest one, of which the bytes after the length are not used. A record
+ * that is lent may have more bytes than these; the others are neither read nor written.
  */
 #define YEWDOME_RECORD_LENGTH 237
 #define YEWDOME_FIRST_TEXT 3
-#define YEWDOME_TEXT_LENGTH 39
 #define YEWDOME_TEXTS 6
+#define YEWDOME_TEXT_LENGTH 39
+#define YEWDOME_LONGEST_TEXT 38
 
 /* The longest body that is read, the longest field that is written, and the longest page. */
 #define YEWDOME_LONGEST_BODY 2048
@@ -61,7 +65,45 @@ enum yewdome_choice {
     YEWDOME_FIELD59_DEBTOR = 6
 };
 
-/* The refusal's number in what a function gave, 0 where it accepted; and the body line that it names, 0 for none. */
+/*
+ * What a function refuses for, by the numbers of the README's paper, document 01; the last two are
+ * this interface's own. A refusal changes no byte.
+ */
+enum yewdome_refusal {
+    /* of a body; of these 2 to 6, 9 and 10 name a line */
+    YEWDOME_LINE_COUNT = 1,       /* a wrong count of lines at the start */
+    YEWDOME_PARTY_IDENTIFIER = 2, /* the form or the length of an account or identifier */
+    YEWDOME_ILLEGAL_BYTE = 3,     /* an illegal byte outside a BIC */
+    YEWDOME_TOO_LONG = 4,         /* a name or a numbered text that is too long */
+    YEWDOME_NOT_NUMBERED = 5,     /* not a numbered line */
+    YEWDOME_OUT_OF_TURN = 6,      /* a number of 59F out of turn */
+    YEWDOME_NAME_COUNT = 7,       /* no name, or more than four */
+    YEWDOME_BIC_MISSING = 8,      /* no line for the BIC */
+    YEWDOME_BIC_LENGTH = 9,       /* the length of a BIC */
+    YEWDOME_BIC_BYTE = 10,        /* a byte of a BIC */
+    YEWDOME_NO_OPTION = 11,       /* no option of the choice accepts */
+    YEWDOME_BODY_TOO_LONG = 12,   /* over YEWDOME_LONGEST_BODY bytes */
+    YEWDOME_NOT_ASCII = 13,       /* a byte above 127 */
+    YEWDOME_NOT_A_LETTER = 14,    /* a letter that is neither A to Z nor 0 */
+    /* of a page that is read */
+    YEWDOME_UNKNOWN_TAG = 15,     /* a tag that is none of the eleven */
+    YEWDOME_STRAY_LINE = 16,      /* a line that neither opens a field nor ends the page */
+    YEWDOME_PAGE_LENGTH = 17,     /* a read at the page's length */
+    YEWDOME_PAGE_TOO_LONG = 18,   /* over YEWDOME_LONGEST_PAGE bytes */
+    /* of a position, a record and a buffer */
+    YEWDOME_POSITION = 21,        /* a position that is none to read or write at */
+    YEWDOME_NO_SUCH_RECORD = 22,  /* a record that no reader gives */
+    YEWDOME_NOT_CARRIED = 23,     /* a record that would not read back from a page */
+    YEWDOME_NO_SPACE = 24,        /* too little space */
+    /* of a call */
+    YEWDOME_NO_SUCH_OPTION = 41,  /* no option, or no choice, has the place */
+    YEWDOME_SHORT_RECORD = 42     /* a lent record of under YEWDOME_RECORD_LENGTH bytes */
+};
+
+/*
+ * The refusal's number in what a function gave, 0 where it accepted; and the body line that it
+ * names, counted from 1, 0 for none.
+ */
 static inline unsigned yewdome_number(uint32_t answer)
 {
     return answer >> 16;
@@ -69,40 +111,37 @@ static inline unsigned yewdome_number(uint32_t answer)
 
 static inline unsigned yewdome_line(uint32_t answer)
 {
-    return answer >> 16 == 0 ? 0 : answer & 0xffff;
+    return yewdome_number(answer) == 0 ? 0 : answer & 0xffff;
 }
 
-/*
- * Reads a body by an option, and stores the record. Gives 0, or the refusal: 42 where `record` has
- * under 237 bytes, 41 where there is no such option, else 1 to 13.
- */
-uint32_t party_read(uint8_t option, const uint8_t *body, size_t body_length,
-                    uint8_t *record, size_t record_length);
+/* Reads a body by an option, and stores the record. Gives 0, or the refusal: 42, 41, 1 to 13. */
+uint32_t yewdome_party_read(uint8_t option, const uint8_t *body, size_t body_length,
+                            uint8_t *record, size_t record_length);
 
 /* The same by a choice, which detects the option. */
-uint32_t party_parse(uint8_t choice, const uint8_t *body, size_t body_length,
-                     uint8_t *record, size_t record_length);
+uint32_t yewdome_party_parse(uint8_t choice, const uint8_t *body, size_t body_length,
+                             uint8_t *record, size_t record_length);
 
-/* The same by a choice and a letter, 0 for none; 14 where the letter is none of A to Z. */
-uint32_t party_parse_with_variant(uint8_t choice, const uint8_t *body, size_t body_length,
-                                  uint8_t letter, uint8_t *record, size_t record_length);
+/* The same by a choice and a letter, 0 for none; 14 comes after 41. */
+uint32_t yewdome_party_parse_with_variant(uint8_t choice, const uint8_t *body, size_t body_length,
+                                          uint8_t letter, uint8_t *record, size_t record_length);
 
 /*
  * Writes the field of a record, tag and body, at the start of a buffer. Gives its length, or the
- * refusal: 22 where no reader gives this record, 24 where the buffer is too short.
+ * refusal: 42, 41, 22, 24.
  */
-uint32_t party_write(const uint8_t *record, size_t record_length,
-                     uint8_t *buffer, size_t buffer_length);
+uint32_t yewdome_party_write(const uint8_t *record, size_t record_length,
+                             uint8_t *buffer, size_t buffer_length);
 
 /*
  * Reads the page at a position, 0 at first, and stores the record, if it gives one; the end changes
  * no byte. The functions below take apart what it gives. The next read is at the position and the
- * bytes moved past; 17, 18, 21 and 42 (`record` has under 237 bytes) move past none.
+ * bytes moved past; 17, 18, 21 and 42 move past none.
  */
-uint64_t page_read(const uint8_t *page, size_t page_length, size_t at,
-                   uint8_t *record, size_t record_length);
+uint64_t yewdome_page_read(const uint8_t *page, size_t page_length, size_t at,
+                           uint8_t *record, size_t record_length);
 
-/* What of a page's read the two functions above take. */
+/* What of a page's read `yewdome_number` and `yewdome_line` take. */
 static inline uint32_t yewdome_read_answer(uint64_t read)
 {
     return (uint32_t)(read >> 32);
@@ -119,15 +158,31 @@ static inline size_t yewdome_read_moved(uint64_t read)
 }
 
 /*
- * Adds a record to the page in a buffer at a position, 0 at first, then the position that the last
- * call gave. Gives the position after, or the refusal: 21, 22, 23 where the page would not read
- * back, 24.
+ * The body of the field that a read at the same position reads or refuses, as a part of the page.
+ * The functions below take apart what it gives: 0 at 15 to 18, 21 and the end, which have no body.
  */
-uint32_t page_add(const uint8_t *record, size_t record_length,
-                  uint8_t *buffer, size_t buffer_length, size_t position);
+uint64_t yewdome_page_body(const uint8_t *page, size_t page_length, size_t at);
+
+/* Where in the page the body starts, and how many bytes it has. */
+static inline size_t yewdome_body_place(uint64_t body)
+{
+    return (size_t)(body >> 32);
+}
+
+static inline size_t yewdome_body_length(uint64_t body)
+{
+    return (size_t)(body & 0xffffffff);
+}
+
+/*
+ * Adds a record to the page in a buffer at a position, 0 at first, then the position that the last
+ * call gave. Gives the position after, or the refusal: 42, 41, 21, 22, 23, 24.
+ */
+uint32_t yewdome_page_add(const uint8_t *record, size_t record_length,
+                          uint8_t *buffer, size_t buffer_length, size_t position);
 
 /* Closes the page in a buffer at a position. Gives the page's length, or the refusal: 21, 24. */
-uint32_t page_close(uint8_t *buffer, size_t buffer_length, size_t position);
+uint32_t yewdome_page_close(uint8_t *buffer, size_t buffer_length, size_t position);
 
 #ifdef __cplusplus
 }

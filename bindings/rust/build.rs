@@ -1,4 +1,4 @@
-//! Links the static library that `rt staticlib exports` writes.
+//! Links the static library that `rt staticlib yewdome` writes.
 
 use std::path::Path;
 
@@ -10,17 +10,17 @@ fn main() {
     let package = std::env::var("CARGO_MANIFEST_DIR").expect("cargo sets it");
     let folder = std::env::var(FOLDER).unwrap_or_else(|_| "../../target/staticlib".to_string());
     let folder = Path::new(&package).join(folder);
-    let library = folder.join("libexports.a");
+    let library = folder.join("libyewdome.a");
     println!("cargo:rerun-if-env-changed={FOLDER}");
     println!("cargo:rerun-if-changed={}", library.display());
     if !library.is_file() {
         eprintln!("{} is not there.", library.display());
         eprintln!(
-            "`rt staticlib exports`, run in the root of Yewdome, writes it to target/staticlib;"
+            "`rt staticlib yewdome`, run in the root of Yewdome, writes it to target/staticlib;"
         );
         eprintln!("the variable {FOLDER} may name another folder that holds it.");
         std::process::exit(1);
     }
     println!("cargo:rustc-link-search=native={}", folder.display());
-    println!("cargo:rustc-link-lib=static=exports");
+    println!("cargo:rustc-link-lib=static=yewdome");
 }

@@ -1,6 +1,6 @@
 //! The fields: a struct for each option, an enum for each choice among options.
 
-use crate::errors::{ParseError, Result};
+use crate::errors::{ErrorKind, ParseError, Result};
 
 /// Makes a struct the field of an option: its place in the library's table, and what part of the
 /// record each of its fields is.
@@ -86,7 +86,7 @@ fn letter(variant: Option<&str>) -> Result<u8> {
     match variant.map(str::as_bytes) {
         None => Ok(0),
         Some(&[letter]) if letter != 0 => Ok(letter),
-        Some(_) => Err(ParseError::NOT_A_LETTER),
+        Some(_) => Err(ParseError::new(ErrorKind::NotALetter, 0)),
     }
 }
 

@@ -7,16 +7,16 @@
 //!
 //! - [`SwiftField::to_swift_string`] gives a [`Result`]: a value that no reader gives is refused
 //!   with 22, and nothing is cut off;
-//! - [`ParseError`] is a number and a body line;
-//! - a body over 2,048 bytes is refused with 12, one with a byte above 127 with 13, and a variant
-//!   that is no letter from A to Z with 14;
+//! - [`ParseError`] is a kind, which has a number, and a body line;
+//! - a body over [`pages::LONGEST_BODY`] bytes is refused with 12, one with a byte above 127 with
+//!   13, and a variant that is no letter from A to Z with 14;
 //! - the account of 50H takes bytes of any kind up to 127.
 //!
 //! # A field
 //!
 //! ```
 //! use yewdome::fields::{Field50K, Field50OrderingCustomerAFK};
-//! use yewdome::SwiftField;
+//! use yewdome::{ErrorKind, SwiftField};
 //!
 //! let customer = Field50OrderingCustomerAFK::parse("/DE89370400440532013000\nJOHN DOE")?;
 //! let Field50OrderingCustomerAFK::K(field) = &customer else {
@@ -27,7 +27,8 @@
 //! assert_eq!(customer.to_swift_string()?, ":50K:/DE89370400440532013000\nJOHN DOE");
 //!
 //! let refusal = Field50K::parse("JOHN DOE\nCAF~").unwrap_err();
-//! assert_eq!((refusal.number(), refusal.line()), (3, 2));
+//! assert_eq!((refusal.kind(), refusal.line()), (ErrorKind::IllegalByte, 2));
+//! assert_eq!(refusal.number(), 3);
 //! assert_eq!(refusal.to_string(), "illegal byte outside a BIC, in line 2 (refusal 3)");
 //! # Ok::<(), yewdome::ParseError>(())
 //! ```
@@ -56,6 +57,9 @@
 //! assert_eq!(answers.next(), Some(Answer::Record(receiver.into())));
 //! assert_eq!(answers.next(), Some(Answer::End));
 //! assert_eq!(answers.next(), None);
+//!
+//! let first = pages::read_at(page, 0);
+//! assert_eq!(&page[first.body], b"BNPAFRPPXXX");
 //! # Ok::<(), yewdome::ParseError>(())
 //! ```
 
@@ -70,5 +74,5 @@ pub mod pages;
 mod record;
 pub mod traits;
 
-pub use errors::{ParseError, Result};
+pub use errors::{ErrorKind, ParseError, Result};
 pub use traits::SwiftField;

@@ -2,26 +2,30 @@
 //!
 //! What each function takes and gives is in `bindings/c/yewdome.h`.
 
-use crate::errors::{ParseError, Result};
+use crate::errors::{ErrorKind, ParseError, Result};
 use crate::pages::LONGEST_FIELD;
 use crate::record::{text_of, Record};
+use std::ops::Range;
+
+#[cfg(test)]
+mod tests;
 
 extern "C" {
-    fn party_read(
+    fn yewdome_party_read(
         option: u8,
         body: *const u8,
         body_length: usize,
         record: *mut u8,
         record_length: usize,
     ) -> u32;
-    fn party_parse(
+    fn yewdome_party_parse(
         choice: u8,
         body: *const u8,
         body_length: usize,
         record: *mut u8,
         record_length: usize,
     ) -> u32;
-    fn party_parse_with_variant(
+    fn yewdome_party_parse_with_variant(
         choice: u8,
         body: *const u8,
         body_length: usize,
@@ -29,70 +33,103 @@ extern "C" {
         record: *mut u8,
         record_length: usize,
     ) -> u32;
-    fn party_write(
+    fn yewdome_party_write(
         record: *const u8,
         record_length: usize,
         buffer: *mut u8,
         buffer_length: usize,
     ) -> u32;
-    fn page_read(
+    fn yewdome_page_read(
         page: *const u8,
         page_length: usize,
         at: usize,
         record: *mut u8,
         record_length: usize,
     ) -> u64;
-    fn page_add(
+    fn yewdome_page_body(page: *const u8, page_length: usize, at: usize) -> u64;
+    fn yewdome_page_add(
         record: *const u8,
         record_length: usize,
         buffer: *mut u8,
         buffer_length: usize,
         position: usize,
     ) -> u32;
-    fn page_close(buffer: *mut u8, buffer_length: usize, position: usize) -> u32;
+    fn yewdome_page_close(buffer: *mut u8, buffer_length: usize, position: usize) -> u32;
+}
+
+// The functions as they are, on slices.
+//
+// SAFETY, of them all: a slice's pointer is not null, and the slices are valid for their lengths
+// during the call. The one that is written is borrowed for the call alone, so that no other
+// overlaps it. The library keeps no pointer.
+
+fn party_read(option: u8, body: &[u8], record: &mut [u8]) -> u32 {
+    let (text, length) = (body.as_ptr(), body.len());
+    unsafe { yewdome_party_read(option, text, length, record.as_mut_ptr(), record.len()) }
+}
+
+fn party_parse(choice: u8, body: &[u8], record: &mut [u8]) -> u32 {
+    let (text, length) = (body.as_ptr(), body.len());
+    unsafe { yewdome_party_parse(choice, text, length, record.as_mut_ptr(), record.len()) }
+}
+
+fn party_parse_with_variant(choice: u8, body: &[u8], letter: u8, record: &mut [u8]) -> u32 {
+    let (text, length) = (body.as_ptr(), body.len());
+    let (out, room) = (record.as_mut_ptr(), record.len());
+    unsafe { yewdome_party_parse_with_variant(choice, text, length, letter, out, room) }
+}
+
+fn party_write(record: &[u8], buffer: &mut [u8]) -> u32 {
+    let (out, room) = (buffer.as_mut_ptr(), buffer.len());
+    unsafe { yewdome_party_write(record.as_ptr(), record.len(), out, room) }
+}
+
+fn page_read(page: &[u8], at: usize, record: &mut [u8]) -> u64 {
+    let (text, length) = (page.as_ptr(), page.len());
+    unsafe { yewdome_page_read(text, length, at, record.as_mut_ptr(), record.len()) }
+}
+
+fn page_body(page: &[u8], at: usize) -> u64 {
+    unsafe { yewdome_page_body(page.as_ptr(), page.len(), at) }
+}
+
+fn page_add(record: &[u8], buffer: &mut [u8], position: usize) -> u32 {
+    let (out, room) = (buffer.as_mut_ptr(), buffer.len());
+    unsafe { yewdome_page_add(record.as_ptr(), record.len(), out, room, position) }
+}
+
+fn page_close(buffer: &mut [u8], position: usize) -> u32 {
+    unsafe { yewdome_page_close(buffer.as_mut_ptr(), buffer.len(), position) }
 }
 
 /// Reads a body by the option at a place in the library's table.
 pub(crate) fn read(option: u8, body: &[u8]) -> Result<Record> {
-    // SAFETY: a slice's pointer is not null, and both slices are valid for their lengths during the
-    // call. The one that is written is borrowed for the call alone, so the other does not overlap
-    // it. The library keeps no pointer.
-    record_of(|out| unsafe {
-        party_read(option, body.as_ptr(), body.len(), out.as_mut_ptr(), out.len())
-    })
+    record_of(|out| party_read(option, body, out))
 }
 
 /// Reads a body by the choice at a place in the library's table, which detects the option.
 pub(crate) fn parse(choice: u8, body: &[u8]) -> Result<Record> {
-    // SAFETY: as in `read`.
-    record_of(|out| unsafe {
-        party_parse(choice, body.as_ptr(), body.len(), out.as_mut_ptr(), out.len())
-    })
+    record_of(|out| party_parse(choice, body, out))
 }
 
 /// The same by a letter; 0 is none.
 pub(crate) fn parse_with_variant(choice: u8, body: &[u8], letter: u8) -> Result<Record> {
-    let (text, length) = (body.as_ptr(), body.len());
-    // SAFETY: as in `read`.
-    record_of(|out| unsafe {
-        party_parse_with_variant(choice, text, length, letter, out.as_mut_ptr(), out.len())
-    })
+    record_of(|out| party_parse_with_variant(choice, body, letter, out))
 }
 
 /// The field of a record, tag and body.
 pub(crate) fn write(record: &Record) -> Result<String> {
-    let record = record.bytes();
     let mut field = [0; LONGEST_FIELD];
-    // SAFETY: as in `read`.
-    let answer =
-        unsafe { party_write(record.as_ptr(), record.len(), field.as_mut_ptr(), field.len()) };
-    Ok(text_of(&field[..accepted(answer)?]))
+    let length = accepted(party_write(record.bytes(), &mut field))?;
+    Ok(text_of(&field[..length]))
 }
 
 /// What a page's read gave.
 pub(crate) struct PageRead {
     /// The record, none at the end of the page.
     pub(crate) outcome: Result<Option<Record>>,
+    /// Where the body stands in the page.
+    pub(crate) body: Range<usize>,
     /// How many bytes the read moved past.
     pub(crate) moved: usize,
 }
@@ -100,29 +137,23 @@ pub(crate) struct PageRead {
 /// Reads the page at a position.
 pub(crate) fn read_page(page: &[u8], at: usize) -> PageRead {
     let mut record = Record::new(0);
-    let out = record.bytes_mut();
-    // SAFETY: as in `read`.
-    let read = unsafe { page_read(page.as_ptr(), page.len(), at, out.as_mut_ptr(), out.len()) };
-    let [a, b, c, d, _, ended, high, low] = read.to_be_bytes();
-    let answer = accepted(u32::from_be_bytes([a, b, c, d]));
+    let [answer, low] = halves(page_read(page, at, record.bytes_mut()));
+    let [_, ended, high, low] = low.to_be_bytes();
     PageRead {
-        outcome: answer.map(|_| (ended == 0).then_some(record)),
+        outcome: accepted(answer).map(|_| (ended == 0).then_some(record)),
+        body: body_of(page, at),
         moved: usize::from(u16::from_be_bytes([high, low])),
     }
 }
 
 /// Adds a record to the page in a buffer at a position, and gives the position after.
 pub(crate) fn add(record: &Record, buffer: &mut [u8], position: usize) -> Result<usize> {
-    let record = record.bytes();
-    let (page, length) = (buffer.as_mut_ptr(), buffer.len());
-    // SAFETY: as in `read`.
-    accepted(unsafe { page_add(record.as_ptr(), record.len(), page, length, position) })
+    accepted(page_add(record.bytes(), buffer, position))
 }
 
 /// Closes the page in a buffer at a position, and gives the page's length.
 pub(crate) fn close(buffer: &mut [u8], position: usize) -> Result<usize> {
-    // SAFETY: as in `read`.
-    accepted(unsafe { page_close(buffer.as_mut_ptr(), buffer.len(), position) })
+    accepted(page_close(buffer, position))
 }
 
 /// The record that a reader stores, where it accepts.
@@ -132,13 +163,27 @@ fn record_of(reader: impl FnOnce(&mut [u8]) -> u32) -> Result<Record> {
     Ok(record)
 }
 
+/// Where the body of the read at a position stands in the page.
+fn body_of(page: &[u8], at: usize) -> Range<usize> {
+    let [place, length] = halves(page_body(page, at)).map(|half| half as usize);
+    place..place + length
+}
+
+/// The high and the low half.
+fn halves(number: u64) -> [u32; 2] {
+    [(number >> 32) as u32, number as u32]
+}
+
 /// The length or position in what a function gave, or the refusal, whose number stands above the
 /// line in its two low bytes.
 fn accepted(answer: u32) -> Result<usize> {
     let [_, number, high, low] = answer.to_be_bytes();
     let rest = u16::from_be_bytes([high, low]);
-    match number {
-        0 => Ok(usize::from(rest)),
-        _ => Err(ParseError::new(number, rest)),
+    if number == 0 {
+        return Ok(usize::from(rest));
     }
+    let kind = ErrorKind::of(number).unwrap_or_else(|| {
+        panic!("the linked library refuses with {number}, which yewdome.h does not have")
+    });
+    Err(ParseError::new(kind, rest))
 }

@@ -11,6 +11,7 @@ use crate::library;
 use crate::record::one_of;
 pub use crate::record::Recorded;
 use std::iter::FusedIterator;
+use std::ops::Range;
 
 /// The most bytes that a page has.
 pub const LONGEST_PAGE: usize = 32_768;
@@ -84,6 +85,9 @@ pub struct Read {
     pub at: usize,
     /// What it answers.
     pub answer: Answer,
+    /// Where the body of the field stands in the page, read or refused: `&page[read.body]`. It is
+    /// empty where there is none: at the end, and at the refusals 15 to 18 and 21.
+    pub body: Range<usize>,
     /// The position of the next read; `at` where the refusal is 17, 18 or 21. At the end it is past
     /// the line `-`.
     pub next: usize,
@@ -97,7 +101,7 @@ pub fn read_at(page: &[u8], at: usize) -> Read {
         Ok(None) => Answer::End,
         Err(refusal) => Answer::Refused(refusal),
     };
-    Read { at, answer, next: at + read.moved }
+    Read { at, answer, body: read.body, next: at + read.moved }
 }
 
 /// The reads of a page from its start.

@@ -1,10 +1,10 @@
-//! A record as the library has it, 237 bytes: the option's place in the library's table, 1 or 0 for
+//! A record as the library has it, in bytes: the option's place in the library's table, 1 or 0 for
 //! whether there is an account or identifier, the count of names, then six texts: the account or
-//! identifier, the BIC, four names. A text is its length and 38 bytes.
+//! identifier, the BIC, four names. A text is its length and room for the longest one.
 
-use crate::errors::{ParseError, Result};
+use crate::errors::{ErrorKind, ParseError, Result};
 
-const LENGTH: usize = 237;
+pub(crate) const LENGTH: usize = 237;
 const OPTION: usize = 0;
 const PRESENCE: usize = 1;
 const COUNT: usize = 2;
@@ -17,62 +17,58 @@ const BIC: usize = 1;
 const NAMES: std::ops::Range<usize> = 2..6;
 
 /// The record of a value, or of an answer of the library.
-pub struct Record {
-    bytes: [u8; LENGTH],
-    /// Whether the bytes hold all of the value.
-    whole: bool,
-}
+///
+/// Of a value that the bytes cannot hold, a length or the count is over the most that they hold. The
+/// library refuses that with 22, in its turn among the refusals.
+pub struct Record([u8; LENGTH]);
 
 impl Record {
     /// A record of an option, with nothing in it.
     pub(crate) fn new(option: u8) -> Self {
         let mut bytes = [0; LENGTH];
         bytes[OPTION] = option;
-        Self { bytes, whole: true }
+        Self(bytes)
     }
 
-    /// The bytes for the library. Of a value that they cannot hold there are none, and the library
-    /// refuses that with 22, in its turn among the refusals.
+    /// The bytes for the library.
     pub(crate) fn bytes(&self) -> &[u8] {
-        if self.whole {
-            &self.bytes
-        } else {
-            &[]
-        }
+        &self.0
     }
 
     /// The bytes for the library to write.
     pub(crate) fn bytes_mut(&mut self) -> &mut [u8] {
-        &mut self.bytes
+        &mut self.0
     }
 
     /// The place of the option in the library's table.
     pub(crate) fn option(&self) -> u8 {
-        self.bytes[OPTION]
+        self.0[OPTION]
     }
 
     /// The value of a record that the library gave, which is of an option that was asked for.
     pub(crate) fn value<T: Recorded>(&self) -> Result<T> {
-        T::of(self).ok_or(ParseError::OTHER_OPTION)
+        T::of(self).ok_or(ParseError::new(ErrorKind::NoSuchOption, 0))
     }
 
     fn text(&self, place: usize) -> String {
         let at = FIRST_TEXT + place * TEXT_LENGTH;
-        let length = usize::from(self.bytes[at]);
-        text_of(&self.bytes[at + 1..at + TEXT_LENGTH][..length])
+        let length = usize::from(self.0[at]);
+        text_of(&self.0[at + 1..at + TEXT_LENGTH][..length])
     }
 
     fn put_text(&mut self, place: usize, text: &str) {
         let at = FIRST_TEXT + place * TEXT_LENGTH;
-        let room = &mut self.bytes[at..at + TEXT_LENGTH];
-        match (u8::try_from(text.len()), room[1..].get_mut(..text.len())) {
-            (Ok(length), Some(used)) => {
-                used.copy_from_slice(text.as_bytes());
-                room[0] = length;
-            }
-            _ => self.whole = false,
+        let room = &mut self.0[at..at + TEXT_LENGTH];
+        room[0] = length_of(text.as_bytes());
+        if let Some(used) = room[1..].get_mut(..text.len()) {
+            used.copy_from_slice(text.as_bytes());
         }
     }
+}
+
+/// A length as a byte. What is longer than a byte tells is longer than what a record holds.
+fn length_of<T>(list: &[T]) -> u8 {
+    u8::try_from(list.len()).unwrap_or(u8::MAX)
 }
 
 /// Bytes of the library as text. They are ASCII, of which this is exact.
@@ -96,7 +92,7 @@ pub(crate) trait Part<Place> {
 /// Of an option that may have none.
 impl Part<Account> for Option<String> {
     fn get(record: &Record) -> Self {
-        (record.bytes[PRESENCE] == 1).then(|| record.text(ACCOUNT))
+        (record.0[PRESENCE] == 1).then(|| record.text(ACCOUNT))
     }
 
     fn put(&self, record: &mut Record) {
@@ -113,7 +109,7 @@ impl Part<Account> for String {
     }
 
     fn put(&self, record: &mut Record) {
-        record.bytes[PRESENCE] = 1;
+        record.0[PRESENCE] = 1;
         record.put_text(ACCOUNT, self);
     }
 }
@@ -130,14 +126,11 @@ impl Part<Bic> for String {
 
 impl Part<Names> for Vec<String> {
     fn get(record: &Record) -> Self {
-        NAMES.take(usize::from(record.bytes[COUNT])).map(|place| record.text(place)).collect()
+        NAMES.take(usize::from(record.0[COUNT])).map(|place| record.text(place)).collect()
     }
 
     fn put(&self, record: &mut Record) {
-        match u8::try_from(self.len()) {
-            Ok(count) if self.len() <= NAMES.len() => record.bytes[COUNT] = count,
-            _ => record.whole = false,
-        }
+        record.0[COUNT] = length_of(self);
         for (place, name) in NAMES.zip(self) {
             record.put_text(place, name);
         }

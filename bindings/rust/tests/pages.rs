@@ -24,7 +24,7 @@ fn parsed<T: SwiftField>(body: &str) -> T {
 /// Number, line, and the bytes moved past, of the first read.
 fn first(page: &[u8]) -> (u8, u16, usize) {
     match read_at(page, 0) {
-        Read { at: 0, answer: Answer::Refused(it), next } => (it.number(), it.line(), next),
+        Read { at: 0, answer: Answer::Refused(it), next, .. } => (it.number(), it.line(), next),
         other => panic!("not refused: {other:?}"),
     }
 }
@@ -62,13 +62,15 @@ fn what_is_filed_reads_back() {
         let next = add(&party, &mut buffer, position).expect("a page carries it");
         let field = party.to_swift_string().expect("a reader gave it");
         assert_eq!(&buffer[position..next], format!("{field}\n").as_bytes());
-        expected.push(Read { at: position, answer: Answer::Record(party), next });
+        let tag = field[1..].find(':').expect("a field has a tag") + 2;
+        let body = position + tag..position + field.len();
+        expected.push(Read { at: position, answer: Answer::Record(party), body, next });
         position = next;
     }
     let length = close(&mut buffer, position).expect("there is space");
     assert_eq!(&buffer[position..length], b"-\n");
     assert!(buffer[length..].iter().all(|&byte| byte == STALE));
-    expected.push(Read { at: position, answer: Answer::End, next: length });
+    expected.push(Read { at: position, answer: Answer::End, body: 0..0, next: length });
     assert_eq!(answers(&buffer[..length]).collect::<Vec<_>>(), expected);
 }
 
@@ -97,10 +99,44 @@ fn the_reads_go_on_after_a_refusal() {
 }
 
 #[test]
+fn each_read_hands_back_its_body() {
+    let page = b"junk\n:52A:X\n:59F:2/A\n:50K:\n:50K:/12\nA\n\n:50C:BNPAFRPP\n-\n";
+    let told: Vec<(u8, &[u8])> = answers(page)
+        .map(|read| match read.answer {
+            Answer::Refused(refusal) => (refusal.number(), &page[read.body]),
+            Answer::Record(_) => (0, &page[read.body]),
+            Answer::End => (255, &page[read.body]),
+        })
+        .collect();
+    let due: [(u8, &[u8]); 7] = [
+        (16, b""),
+        (15, b""),
+        (6, b"2/A"),
+        (1, b""),
+        (0, b"/12\nA\n"),
+        (0, b"BNPAFRPP"),
+        (255, b""),
+    ];
+    assert_eq!(told, due);
+    let places: Vec<_> = answers(page).map(|read| read.body).collect();
+    assert_eq!(places, [0..0, 0..0, 17..20, 26..26, 32..38, 44..52, 0..0]);
+    for (page, at) in [(&b""[..], 0), (b"-\n", 1), (b"-\n", 3), (&[b'\n'; LONGEST_PAGE + 1], 0)] {
+        assert_eq!(read_at(page, at).body, 0..0);
+    }
+}
+
+#[test]
+fn a_body_runs_to_the_length_of_a_page_without_an_end() {
+    for (page, body) in [(&b":50C:BNPAFRPP"[..], 5..13), (b":50C:BNPAFRPP\n", 5..13)] {
+        assert_eq!(read_at(page, 0).body, body);
+    }
+}
+
+#[test]
 fn the_reads_stop_where_they_cannot_go_on() {
     let page = b":50C:BNPAFRPP\n";
     let mut reads = answers(page);
-    assert!(matches!(reads.next(), Some(Read { at: 0, answer: Answer::Record(_), next: 14 })));
+    assert!(matches!(reads.next(), Some(Read { at: 0, answer: Answer::Record(_), next: 14, .. })));
     let last = reads.next().expect("the page has no end");
     assert_eq!((last.at, last.next), (14, 14));
     assert!(matches!(last.answer, Answer::Refused(refusal) if refusal.number() == 17));
@@ -109,7 +145,7 @@ fn the_reads_stop_where_they_cannot_go_on() {
     assert_eq!(answers(&[b'\n'; LONGEST_PAGE + 1]).count(), 1);
     assert_eq!(answers(b"").count(), 1);
     let mut ended = answers(b"-\n");
-    assert_eq!(ended.next(), Some(Read { at: 0, answer: Answer::End, next: 2 }));
+    assert_eq!(ended.next(), Some(Read { at: 0, answer: Answer::End, body: 0..0, next: 2 }));
     assert_eq!(ended.next(), None);
 }
 
@@ -207,7 +243,7 @@ fn every_refusal_of_a_page_has_its_text() {
         "tag of none of the eleven options (refusal 15)",
         "line that neither opens a field nor ends the page (refusal 16)",
         "read at the page's length (refusal 17)",
-        "page over 32,768 bytes (refusal 18)",
+        "page too long (refusal 18)",
         "position past the end or not at the start of a line (refusal 21)",
         "value that no reader gives (refusal 22)",
         "record that a page cannot carry (refusal 23)",

@@ -1,7 +1,7 @@
 //! Values that are refused, variants, and the text of refusals.
 
 use yewdome::fields::*;
-use yewdome::pages::Party;
+use yewdome::pages::{Party, LONGEST_BODY, LONGEST_FIELD};
 use yewdome::{Result, SwiftField};
 
 fn names(names: &[&str]) -> Vec<String> {
@@ -37,7 +37,7 @@ fn the_longest_field_is_written() {
     let identifier = format!("AB/{}", "1".repeat(34));
     let names: Vec<String> = (1..=4).map(|n| format!("{n}/{}", "A".repeat(33))).collect();
     let due = format!(":59F:/{identifier}\n\n{}", names.join("\n"));
-    assert_eq!(due.len(), yewdome::pages::LONGEST_FIELD);
+    assert_eq!(due.len(), LONGEST_FIELD);
     let field = Field59F { party_identifier: Some(identifier), name_and_address: names };
     assert_eq!(field.to_swift_string(), Ok(due));
 }
@@ -96,7 +96,7 @@ fn variants_that_are_no_letter_are_14() {
             Field50OrderingCustomerNCF::parse_with_variant("BNPAFRPP", Some(variant), None);
         assert_eq!(refused(answer), (14, 0), "{variant:?}");
     }
-    let answer = Field59::parse_with_variant(&"é".repeat(2000), Some("\0"), None);
+    let answer = Field59::parse_with_variant(&"é".repeat(LONGEST_BODY), Some("\0"), None);
     assert_eq!(refused(answer), (14, 0), "14 comes before 12 and 13");
 }
 
@@ -160,7 +160,7 @@ fn every_refusal_of_a_reader_has_its_text() {
         text(Field50A::parse("/1\nA")),
         text(Field50C::parse("BNPAFR~P")),
         text(Field50Creditor::parse("")),
-        text(Field50K::parse(&"A".repeat(2049))),
+        text(Field50K::parse(&"A".repeat(LONGEST_BODY + 1))),
         text(Field50K::parse("é")),
         text(Field50Creditor::parse_with_variant("A", Some("k"), None)),
     ];
@@ -176,7 +176,7 @@ fn every_refusal_of_a_reader_has_its_text() {
         "BIC of a wrong length, in line 2 (refusal 9)",
         "illegal byte in a BIC, in line 1 (refusal 10)",
         "no option of the choice accepts the body (refusal 11)",
-        "body over 2,048 bytes (refusal 12)",
+        "body too long (refusal 12)",
         "byte above 127 (refusal 13)",
         "variant that is no letter from A to Z (refusal 14)",
     ];

@@ -1,2 +1,4 @@
-pub mod Trials
 pub mod LineTests
+pub mod Trials
+pub mod Letters
+pub mod Every

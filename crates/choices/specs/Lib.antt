@@ -1,1 +1,2 @@
 pub mod Detection
+pub mod Choices

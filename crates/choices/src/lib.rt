@@ -1,30 +1,66 @@
-// What the seven choices of field50.rs and field59.rs share: tests on lines, the first option that accepts, and letters.
+// The seven choices among options of field50.rs and field59.rs, in one form: by a letter, or detected.
 use errors::Outcome;
 use errors::ParseError;
 use field_utils::is_numbered_line;
 use field_utils::lines::Line;
 use field_utils::lines::Lines;
+use field_utils::lines::count_lines;
 use field_utils::lines::trim;
+use field_utils::starts_with_slash;
 use party::PartyOption;
 use party::limits_of;
 use reader::Answer;
 use reader::parse_body;
 use reader::read;
 use reader::refuse;
+use swift_utils::BIC_LONG;
+use swift_utils::BIC_SHORT;
 use swift_utils::all_alphanumeric;
 use swift_utils::is_bic_length;
 ghost use mathlib.Core.Path.{_≡_};
-ghost use mathlib.Core.List.{[], _∷_, _++_};
-ghost use lib.Dec.{eqb};
-ghost use lib.ListN.{drop};
-ghost use Rattle.errors.specs.Refusals.{told};
+ghost use lib.Dec.{eqb, leb};
+ghost use lib.ListN.{length, drop};
 ghost use Rattle.party.specs.Limits.{limitsOf};
 ghost use Rattle.field_utils.specs.Lines.{lines};
 ghost use Rattle.reader.specs.Reading.{toldAnswer};
-ghost use Rattle.choices.specs.Detection.{anyNumbered, firstLine, lastIsBic, when, firstThat, detected, letterReply, variantOf, bicLike, lastLine};
+ghost use Rattle.choices.specs.Detection.{anyNumbered, firstLine, lastLine, bicLike, testLine, holds as holdsOf};
+ghost use Rattle.choices.specs.Choices.{trialsOf, triedText, wanted, firstThat, parse as parseOf, isLetter, parseWithVariant};
+
+// The seven choices, under the names of the Rust's enums.
+pub enum Choice {
+    Field50InstructingParty,
+    Field50OrderingCustomerFGH,
+    Field50OrderingCustomerAFK,
+    Field50OrderingCustomerNCF,
+    Field50Creditor,
+    Field59,
+    Field59Debtor,
+}
+
+// What is asked of a body's lines before an option is tried.
+pub enum Test {
+    Always,
+    // with 2 lines or more: a line after the first is numbered; the first has a slash and there are 2; the first has a slash
+    LaterNumbered,
+    SlashFirstOfTwo,
+    SlashFirst,
+    AnyNumbered,
+    // the last, trimmed, is 8 or 11 letters or digits
+    LastIsBic,
+    // there is one, of 8 to 11 bytes
+    BicSized,
+    // the first, or the second where the first has a slash, is numbered
+    FirstNumbered,
+}
+
+// An option that a choice tries, with its test; nothing at the third place of a choice between two.
+pub enum Trial {
+    Try(PartyOption, Test),
+    Nothing,
+}
 
 // The first line from a place on, empty where there is none.
-pub fn first_line(body: &[u8], from: Lines) -> &[u8]
+fn first_line(body: &[u8], from: Lines) -> &[u8]
     ensures { λ r. ⌜ now r ≡ firstLine (lines (drop (from .at) (now (body .entry)))) ⌝ }
 {
     let found = from.next(body);
@@ -40,7 +76,7 @@ pub fn first_line(body: &[u8], from: Lines) -> &[u8]
 }
 
 // Whether a line from a place on is numbered.
-pub fn any_numbered(body: &[u8], from: Lines) -> bool
+fn any_numbered(body: &[u8], from: Lines) -> bool
     ensures { λ r. ⌜ r ≡ anyNumbered (lines (drop (from .at) (now (body .entry)))) ⌝ }
 {
     let mut cursor = from;
@@ -73,18 +109,47 @@ fn after_first(body: &[u8]) -> Lines
     rest
 }
 
-// The second line, empty where there is none.
-pub fn second_line(body: &[u8]) -> &[u8]
-    ensures { λ r. ⌜ now r ≡ firstLine (drop 1 (lines (now (body .entry)))) ⌝ }
+// Whether there are 2 lines or more.
+fn has_second(body: &[u8]) -> bool
+    ensures { λ r. ⌜ r ≡ leb 2 (length (lines (now (body .entry)))) ⌝ }
 {
-    first_line(body, after_first(body))
+    let rest = after_first(body);
+    let found = rest.next(body);
+    if let Line::Done = found {
+        return false;
+    }
+    true
 }
 
-// Whether a line after the first is numbered.
-pub fn later_numbered(body: &[u8]) -> bool
-    ensures { λ r. ⌜ r ≡ anyNumbered (drop 1 (lines (now (body .entry)))) ⌝ }
+// Whether, with 2 lines or more, the first has a slash.
+fn slash_first(body: &[u8]) -> bool
+    ensures { λ r. ⌜ r ≡ holdsOf Test.SlashFirst (lines (now (body .entry))) ⌝ }
 {
-    any_numbered(body, after_first(body))
+    if !starts_with_slash(body) {
+        return false;
+    }
+    has_second(body)
+}
+
+// Whether there are 2 lines, and the first has a slash.
+fn slash_first_of_two(body: &[u8]) -> bool
+    ensures { λ r. ⌜ r ≡ holdsOf Test.SlashFirstOfTwo (lines (now (body .entry))) ⌝ }
+{
+    if !starts_with_slash(body) {
+        return false;
+    }
+    count_lines(body) == 2
+}
+
+// Whether there is one line, of 8 to 11 bytes.
+fn is_bic_sized(body: &[u8]) -> bool
+    ensures { λ r. ⌜ r ≡ holdsOf Test.BicSized (lines (now (body .entry))) ⌝ }
+{
+    if count_lines(body) != 1 {
+        return false;
+    }
+    let n = first_line(body, Lines { at: 0 }).len();
+    BIC_SHORT <= n && n <= BIC_LONG
 }
 
 // The last line, empty where there is none.
@@ -115,74 +180,130 @@ fn is_bic_like(text: &[u8]) -> bool
     all_alphanumeric(text)
 }
 
-// Whether the last line, trimmed, is 8 or 11 letters or digits.
-pub fn last_is_bic(body: &[u8]) -> bool
-    ensures { λ r. ⌜ r ≡ lastIsBic (lines (now (body .entry))) ⌝ }
+// The line that is tested for a number: the first, or the second where the first has a slash.
+fn test_line(body: &[u8]) -> &[u8]
+    ensures { λ r. ⌜ now r ≡ testLine (lines (now (body .entry))) ⌝ }
 {
-    is_bic_like(trim(last_line(body)))
+    if starts_with_slash(body) {
+        first_line(body, after_first(body))
+    } else {
+        first_line(body, Lines { at: 0 })
+    }
 }
 
-// What an option reads, where its test holds; else 11.
-fn attempt(wanted: bool, option: PartyOption, body: &[u8]) -> Answer
-    ensures { λ r. ⌜ toldAnswer r ≡ firstThat (when wanted option) (now (body .entry)) ⌝ }
+// Whether a test holds of a body.
+fn holds(test: Test, body: &[u8]) -> bool
+    ensures { λ r. ⌜ r ≡ holdsOf test (lines (now (body .entry))) ⌝ }
 {
-    if !wanted {
-        return refuse(ParseError::NoOption);
+    match test {
+        Test::Always => true,
+        Test::LaterNumbered => any_numbered(body, after_first(body)),
+        Test::SlashFirstOfTwo => slash_first_of_two(body),
+        Test::SlashFirst => slash_first(body),
+        Test::AnyNumbered => any_numbered(body, Lines { at: 0 }),
+        Test::LastIsBic => is_bic_like(trim(last_line(body))),
+        Test::BicSized => is_bic_sized(body),
+        Test::FirstNumbered => is_numbered_line(test_line(body)),
     }
-    let answer = read(option, body);
-    let outcome = answer.outcome;
-    if let Outcome::Accepted = outcome {
-        return answer;
+}
+
+// What a choice tries, in its order.
+fn trials_of(choice: Choice) -> [Trial; 3]
+    ensures { λ r. ⌜ r ≡ trialsOf choice ⌝ }
+{
+    match choice {
+        Choice::Field50InstructingParty => [
+            Trial::Try(PartyOption::Field50C, Test::Always),
+            Trial::Try(PartyOption::Field50L, Test::Always),
+            Trial::Nothing,
+        ],
+        Choice::Field50OrderingCustomerFGH => [
+            Trial::Try(PartyOption::Field50F, Test::LaterNumbered),
+            Trial::Try(PartyOption::Field50G, Test::SlashFirstOfTwo),
+            Trial::Try(PartyOption::Field50H, Test::SlashFirst),
+        ],
+        Choice::Field50OrderingCustomerAFK => [
+            Trial::Try(PartyOption::Field50F, Test::AnyNumbered),
+            Trial::Try(PartyOption::Field50A, Test::LastIsBic),
+            Trial::Try(PartyOption::Field50K, Test::Always),
+        ],
+        Choice::Field50OrderingCustomerNCF => [
+            Trial::Try(PartyOption::Field50C, Test::BicSized),
+            Trial::Try(PartyOption::Field50F, Test::AnyNumbered),
+            Trial::Try(PartyOption::Field50NoOption, Test::Always),
+        ],
+        Choice::Field50Creditor => [
+            Trial::Try(PartyOption::Field50A, Test::LastIsBic),
+            Trial::Try(PartyOption::Field50K, Test::Always),
+            Trial::Nothing,
+        ],
+        Choice::Field59 => [
+            Trial::Try(PartyOption::Field59A, Test::Always),
+            Trial::Try(PartyOption::Field59F, Test::FirstNumbered),
+            Trial::Try(PartyOption::Field59NoOption, Test::Always),
+        ],
+        Choice::Field59Debtor => [
+            Trial::Try(PartyOption::Field59A, Test::Always),
+            Trial::Try(PartyOption::Field59NoOption, Test::Always),
+            Trial::Nothing,
+        ],
+    }
+}
+
+// What is tried: the body, trimmed in one choice.
+fn tried_text(choice: Choice, body: &[u8]) -> &[u8]
+    ensures { λ r. ⌜ now r ≡ triedText choice (now (body .entry)) ⌝ }
+{
+    if let Choice::Field50InstructingParty = choice {
+        return trim(body);
+    }
+    body
+}
+
+// The first option that accepts, of those whose test holds; 11 where none does.
+fn first_that(choice: Choice, body: &[u8]) -> Answer
+    ensures { λ r. ⌜ toldAnswer r ≡ firstThat (wanted (lines (now (body .entry))) (trialsOf choice)) (triedText choice (now (body .entry))) ⌝ }
+{
+    let text = tried_text(choice, body);
+    let tried = trials_of(choice);
+    let mut k = 0;
+    while k < 3 {
+        let trial = tried[k];
+        k += 1;
+        let Trial::Try(option, test) = trial else {
+            continue;
+        };
+        if !holds(test, body) {
+            continue;
+        }
+        let answer = read(option, text);
+        let outcome = answer.outcome;
+        if let Outcome::Accepted = outcome {
+            return answer;
+        }
     }
     refuse(ParseError::NoOption)
 }
 
-// The first of three options, those whose test holds, that accepts; 11 where none does.
-fn first_that(
-    body: &[u8],
-    a: bool,
-    first: PartyOption,
-    b: bool,
-    second: PartyOption,
-    c: bool,
-    third: PartyOption,
-) -> Answer
-    ensures { λ r. ⌜ toldAnswer r ≡ firstThat (when a first ++ (when b second ++ when c third)) (now (body .entry)) ⌝ }
+// Detects: 12 and 13 of the body as it came, then the options.
+pub fn parse(choice: Choice, body: &[u8]) -> Answer
+    ensures { λ r. ⌜ toldAnswer r ≡ parseOf choice (now (body .entry)) ⌝ }
 {
-    let one = attempt(a, first, body);
-    let outcome = one.outcome;
-    if let Outcome::Accepted = outcome {
-        return one;
+    let outcome = parse_body(body);
+    if let Outcome::Refused(e) = outcome {
+        return refuse(e);
     }
-    let two = attempt(b, second, body);
-    let outcome = two.outcome;
-    if let Outcome::Accepted = outcome {
-        return two;
-    }
-    attempt(c, third, body)
+    first_that(choice, body)
 }
 
-// What a letter picks of a choice.
-pub enum Pick {
-    NotALetter,
-    Picked(PartyOption),
-    Detect,
-}
-
-// A letter that is A to Z, or 0 for none, or 14.
-fn parse_letter(letter: u8) -> Outcome
-    ensures { λ r. ⌜ told r ≡ letterReply letter ⌝ }
+// Whether a letter is A to Z, or 0 for none.
+fn is_letter(letter: u8) -> bool
+    ensures { λ r. ⌜ r ≡ isLetter letter ⌝ }
 {
     if letter == 0 {
-        return Outcome::Accepted;
+        return true;
     }
-    if letter < b'A' {
-        return Outcome::Refused(ParseError::NotALetter);
-    }
-    if b'Z' < letter {
-        return Outcome::Refused(ParseError::NotALetter);
-    }
-    Outcome::Accepted
+    b'A' <= letter && letter <= b'Z'
 }
 
 // Whether an option has a letter; 0 is that of the options without one.
@@ -193,42 +314,24 @@ fn has_letter(option: PartyOption, letter: u8) -> bool
     letter == limits.letter
 }
 
-// What a letter picks of three options.
-pub fn pick_variant(letter: u8, first: PartyOption, second: PartyOption, third: PartyOption) -> Pick
-    ensures { λ r. ⌜ r ≡ variantOf letter (first ∷ second ∷ third ∷ []) ⌝ }
+// By a letter, 0 for none: 14, then the option that has it; where none has, it detects.
+pub fn parse_with_variant(choice: Choice, body: &[u8], letter: u8) -> Answer
+    ensures { λ r. ⌜ toldAnswer r ≡ parseWithVariant choice (now (body .entry)) letter ⌝ }
 {
-    let outcome = parse_letter(letter);
-    if let Outcome::Refused(_) = outcome {
-        return Pick::NotALetter;
+    if !is_letter(letter) {
+        return refuse(ParseError::NotALetter);
     }
-    if has_letter(first, letter) {
-        return Pick::Picked(first);
+    let tried = trials_of(choice);
+    let mut k = 0;
+    while k < 3 {
+        let trial = tried[k];
+        k += 1;
+        let Trial::Try(option, _) = trial else {
+            continue;
+        };
+        if has_letter(option, letter) {
+            return read(option, body);
+        }
     }
-    if has_letter(second, letter) {
-        return Pick::Picked(second);
-    }
-    if has_letter(third, letter) {
-        return Pick::Picked(third);
-    }
-    Pick::Detect
-}
-
-// Detection: 12 and 13 of the body as it came, then the first of three options that accepts what is tried.
-pub fn detect(
-    body: &[u8],
-    tried: &[u8],
-    a: bool,
-    first: PartyOption,
-    b: bool,
-    second: PartyOption,
-    c: bool,
-    third: PartyOption,
-) -> Answer
-    ensures { λ r. ⌜ toldAnswer r ≡ detected (now (body .entry)) (firstThat (when a first ++ (when b second ++ when c third)) (now (tried .entry))) ⌝ }
-{
-    let outcome = parse_body(body);
-    if let Outcome::Refused(e) = outcome {
-        return refuse(e);
-    }
-    first_that(tried, a, first, b, second, c, third)
+    parse(choice, body)
 }

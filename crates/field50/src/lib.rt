@@ -1,26 +1,16 @@
 // The eight options of field 50 and the five choices among them, ported from field50.rs of swift-mt-message.
-use choices::Pick;
-use choices::any_numbered;
-use choices::detect;
-use choices::first_line;
-use choices::last_is_bic;
-use choices::later_numbered;
-use choices::pick_variant;
-use errors::ParseError;
-use field_utils::lines::Lines;
-use field_utils::lines::count_lines;
-use field_utils::lines::trim;
-use field_utils::starts_with_slash;
+use choices::Choice;
+use choices::parse;
+use choices::parse_with_variant;
 use party::PartyOption;
 use reader::Answer;
 use reader::read;
-use reader::refuse;
 ghost use mathlib.Core.Path.{_≡_};
-ghost use mathlib.Core.Bool.{_&&_};
 ghost use Rattle.party.specs.declared.PartyOption.{PartyOption};
 ghost use Rattle.reader.specs.Reading.{toldAnswer};
 ghost use Rattle.reader.specs.Options.{read as readOf};
-ghost use Rattle.field50.specs.Choices.{instructingParty, orderingCustomerFGH, orderingCustomerAFK, orderingCustomerNCF, creditor, instructingPartyBy, orderingCustomerFGHBy, orderingCustomerAFKBy, orderingCustomerNCFBy, creditorBy};
+ghost use Rattle.choices.specs.declared.Choice.{Choice};
+ghost use Rattle.choices.specs.Choices.{parse as parseOf, parseWithVariant};
 
 // Name and address only.
 pub struct Field50NoOption {}
@@ -110,48 +100,22 @@ impl Field50H {
     }
 }
 
-// Whether both hold.
-fn both(a: bool, b: bool) -> bool
-    ensures { λ r. ⌜ r ≡ (a && b) ⌝ }
-{
-    if a { b } else { false }
-}
-
 // C or L.
 pub struct Field50InstructingParty {}
 
 impl Field50InstructingParty {
     // Detects.
     pub fn parse(input: &[u8]) -> Answer
-        ensures { λ r. ⌜ toldAnswer r ≡ instructingParty (now (input .entry)) ⌝ }
+        ensures { λ r. ⌜ toldAnswer r ≡ parseOf Choice.Field50InstructingParty (now (input .entry)) ⌝ }
     {
-        detect(
-            input,
-            trim(input),
-            true,
-            PartyOption::Field50C,
-            true,
-            PartyOption::Field50L,
-            false,
-            PartyOption::Field50L,
-        )
+        parse(Choice::Field50InstructingParty, input)
     }
 
     // By a letter, 0 for none.
     pub fn parse_with_variant(input: &[u8], letter: u8) -> Answer
-        ensures { λ r. ⌜ toldAnswer r ≡ instructingPartyBy (now (input .entry)) letter ⌝ }
+        ensures { λ r. ⌜ toldAnswer r ≡ parseWithVariant Choice.Field50InstructingParty (now (input .entry)) letter ⌝ }
     {
-        let picked = pick_variant(
-            letter,
-            PartyOption::Field50C,
-            PartyOption::Field50L,
-            PartyOption::Field50L,
-        );
-        match picked {
-            Pick::NotALetter => refuse(ParseError::NotALetter),
-            Pick::Picked(option) => read(option, input),
-            Pick::Detect => Field50InstructingParty::parse(input),
-        }
+        parse_with_variant(Choice::Field50InstructingParty, input, letter)
     }
 }
 
@@ -161,39 +125,16 @@ pub struct Field50OrderingCustomerFGH {}
 impl Field50OrderingCustomerFGH {
     // Detects.
     pub fn parse(input: &[u8]) -> Answer
-        ensures { λ r. ⌜ toldAnswer r ≡ orderingCustomerFGH (now (input .entry)) ⌝ }
+        ensures { λ r. ⌜ toldAnswer r ≡ parseOf Choice.Field50OrderingCustomerFGH (now (input .entry)) ⌝ }
     {
-        let n = count_lines(input);
-        let two = 2 <= n;
-        let exactly = n == 2;
-        let slash = both(two, starts_with_slash(first_line(input, Lines { at: 0 })));
-        detect(
-            input,
-            input,
-            both(two, later_numbered(input)),
-            PartyOption::Field50F,
-            both(slash, exactly),
-            PartyOption::Field50G,
-            slash,
-            PartyOption::Field50H,
-        )
+        parse(Choice::Field50OrderingCustomerFGH, input)
     }
 
     // By a letter, 0 for none.
     pub fn parse_with_variant(input: &[u8], letter: u8) -> Answer
-        ensures { λ r. ⌜ toldAnswer r ≡ orderingCustomerFGHBy (now (input .entry)) letter ⌝ }
+        ensures { λ r. ⌜ toldAnswer r ≡ parseWithVariant Choice.Field50OrderingCustomerFGH (now (input .entry)) letter ⌝ }
     {
-        let picked = pick_variant(
-            letter,
-            PartyOption::Field50F,
-            PartyOption::Field50G,
-            PartyOption::Field50H,
-        );
-        match picked {
-            Pick::NotALetter => refuse(ParseError::NotALetter),
-            Pick::Picked(option) => read(option, input),
-            Pick::Detect => Field50OrderingCustomerFGH::parse(input),
-        }
+        parse_with_variant(Choice::Field50OrderingCustomerFGH, input, letter)
     }
 }
 
@@ -203,35 +144,16 @@ pub struct Field50OrderingCustomerAFK {}
 impl Field50OrderingCustomerAFK {
     // Detects.
     pub fn parse(input: &[u8]) -> Answer
-        ensures { λ r. ⌜ toldAnswer r ≡ orderingCustomerAFK (now (input .entry)) ⌝ }
+        ensures { λ r. ⌜ toldAnswer r ≡ parseOf Choice.Field50OrderingCustomerAFK (now (input .entry)) ⌝ }
     {
-        detect(
-            input,
-            input,
-            any_numbered(input, Lines { at: 0 }),
-            PartyOption::Field50F,
-            last_is_bic(input),
-            PartyOption::Field50A,
-            true,
-            PartyOption::Field50K,
-        )
+        parse(Choice::Field50OrderingCustomerAFK, input)
     }
 
     // By a letter, 0 for none.
     pub fn parse_with_variant(input: &[u8], letter: u8) -> Answer
-        ensures { λ r. ⌜ toldAnswer r ≡ orderingCustomerAFKBy (now (input .entry)) letter ⌝ }
+        ensures { λ r. ⌜ toldAnswer r ≡ parseWithVariant Choice.Field50OrderingCustomerAFK (now (input .entry)) letter ⌝ }
     {
-        let picked = pick_variant(
-            letter,
-            PartyOption::Field50A,
-            PartyOption::Field50F,
-            PartyOption::Field50K,
-        );
-        match picked {
-            Pick::NotALetter => refuse(ParseError::NotALetter),
-            Pick::Picked(option) => read(option, input),
-            Pick::Detect => Field50OrderingCustomerAFK::parse(input),
-        }
+        parse_with_variant(Choice::Field50OrderingCustomerAFK, input, letter)
     }
 }
 
@@ -241,39 +163,16 @@ pub struct Field50OrderingCustomerNCF {}
 impl Field50OrderingCustomerNCF {
     // Detects.
     pub fn parse(input: &[u8]) -> Answer
-        ensures { λ r. ⌜ toldAnswer r ≡ orderingCustomerNCF (now (input .entry)) ⌝ }
+        ensures { λ r. ⌜ toldAnswer r ≡ parseOf Choice.Field50OrderingCustomerNCF (now (input .entry)) ⌝ }
     {
-        let one = count_lines(input) == 1;
-        let n = first_line(input, Lines { at: 0 }).len();
-        let long = 8 <= n;
-        let short = n <= 11;
-        detect(
-            input,
-            input,
-            both(one, both(long, short)),
-            PartyOption::Field50C,
-            any_numbered(input, Lines { at: 0 }),
-            PartyOption::Field50F,
-            true,
-            PartyOption::Field50NoOption,
-        )
+        parse(Choice::Field50OrderingCustomerNCF, input)
     }
 
     // By a letter, 0 for none.
     pub fn parse_with_variant(input: &[u8], letter: u8) -> Answer
-        ensures { λ r. ⌜ toldAnswer r ≡ orderingCustomerNCFBy (now (input .entry)) letter ⌝ }
+        ensures { λ r. ⌜ toldAnswer r ≡ parseWithVariant Choice.Field50OrderingCustomerNCF (now (input .entry)) letter ⌝ }
     {
-        let picked = pick_variant(
-            letter,
-            PartyOption::Field50NoOption,
-            PartyOption::Field50C,
-            PartyOption::Field50F,
-        );
-        match picked {
-            Pick::NotALetter => refuse(ParseError::NotALetter),
-            Pick::Picked(option) => read(option, input),
-            Pick::Detect => Field50OrderingCustomerNCF::parse(input),
-        }
+        parse_with_variant(Choice::Field50OrderingCustomerNCF, input, letter)
     }
 }
 
@@ -283,35 +182,16 @@ pub struct Field50Creditor {}
 impl Field50Creditor {
     // Detects.
     pub fn parse(input: &[u8]) -> Answer
-        ensures { λ r. ⌜ toldAnswer r ≡ creditor (now (input .entry)) ⌝ }
+        ensures { λ r. ⌜ toldAnswer r ≡ parseOf Choice.Field50Creditor (now (input .entry)) ⌝ }
     {
-        detect(
-            input,
-            input,
-            last_is_bic(input),
-            PartyOption::Field50A,
-            true,
-            PartyOption::Field50K,
-            false,
-            PartyOption::Field50K,
-        )
+        parse(Choice::Field50Creditor, input)
     }
 
     // By a letter, 0 for none.
     pub fn parse_with_variant(input: &[u8], letter: u8) -> Answer
-        ensures { λ r. ⌜ toldAnswer r ≡ creditorBy (now (input .entry)) letter ⌝ }
+        ensures { λ r. ⌜ toldAnswer r ≡ parseWithVariant Choice.Field50Creditor (now (input .entry)) letter ⌝ }
     {
-        let picked = pick_variant(
-            letter,
-            PartyOption::Field50A,
-            PartyOption::Field50K,
-            PartyOption::Field50K,
-        );
-        match picked {
-            Pick::NotALetter => refuse(ParseError::NotALetter),
-            Pick::Picked(option) => read(option, input),
-            Pick::Detect => Field50Creditor::parse(input),
-        }
+        parse_with_variant(Choice::Field50Creditor, input, letter)
     }
 }
 

@@ -3,4 +3,3 @@ pub mod Trims
 pub mod Identifiers
 pub mod NameLines
 pub mod NameTexts
-pub mod NameBytes

@@ -18,11 +18,11 @@ use Rattle.party.specs.Text.{fourTexts}
 use Rattle.swift_utils.specs.Bytes.{all, letter, digit, alphanumeric, signs, legal}
 use Rattle.swift_utils.specs.Checks.{parseSwiftChars}
 use Rattle.swift_utils.proofs.Checks.{chars}
-use Rattle.field_utils.specs.declared.Numbering.{Numbering}
-use Rattle.field_utils.specs.declared.Numbering.the-variants.{Unnumbered, Numbered, InTurn}
+use Rattle.party.specs.declared.Numbering.{Numbering}
+use Rattle.party.specs.declared.Numbering.the-variants.{Unnumbered, Numbered, InTurn}
 use Rattle.field_utils.specs.Identifier.{isNumbered}
-use Rattle.field_utils.specs.Names.{skipOf, numberingOf, parseNumber, parseLine, parseLines, parseCount, parseNameAndAddress, kept, namesOr, readNames}
-use Rattle.field_utils.specs.Code.{keptFrom, parseShape, parseRest, givenNames}
+use Rattle.field_utils.specs.Names.{skipOf, parseNumber, parseLine, parseLines, parseCount, parseNameAndAddress, kept, namesOr, readNames, keptFrom}
+use Rattle.field_utils.specs.Code.{parseShape, parseRest, givenNames}
 
 -- a numbered line has room for its digit and slash
 room : (l : List ℕ) → isNumbered l ≡ true → 2 ≤ length l
@@ -69,7 +69,7 @@ text-legal Numbered n k l e = number-legal l (must-held (isNumbered l) 5 n e)
 text-legal InTurn n k l e = number-legal l (must-held (isNumbered l) 5 n (then-first _ _ e))
 
 -- what is not kept of a line stands before its text
-kept-least : (f : Numbering) → keptFrom f ≤ skipOf f
+pub kept-least : (f : Numbering) → keptFrom f ≤ skipOf f
 kept-least Unnumbered = omega arith
 kept-least Numbered = omega arith
 kept-least InTurn = omega arith
@@ -129,25 +129,25 @@ given : (r : Reply) (ns : List (List ℕ)) → namesOr r ns ≡ givenNames r (le
 given accepted ns = refl
 given (refused k n) ns = refl
 
--- names, by what their lines say; f and m are what the code holds of the option
-module _ (o : PartyOption) {f : Numbering} {m : Limits} (e : f ≡ numberingOf o) (g : m ≡ limitsOf o) (n : ℕ) (ls : List (List ℕ)) where
-  names-refused : {r j : ℕ} → parseLines f (m .name) n 1 ls ≡ refused r j → parseNameAndAddress o n ls ≡ refused r j
+-- names, by what their lines say; m is what the code holds of the option
+module _ (o : PartyOption) {m : Limits} (e : m ≡ limitsOf o) (n : ℕ) (ls : List (List ℕ)) where
+  names-refused : {r j : ℕ} → parseLines (m .numbering) (m .name) n 1 ls ≡ refused r j → parseNameAndAddress o n ls ≡ refused r j
   unfolding parseNameAndAddress
-  names-refused h = rw (← e, ← g, h)
+  names-refused h = rw (← e, h)
 
-  names-counted : parseLines f (m .name) n 1 ls ≡ accepted → parseNameAndAddress o n ls ≡ parseCount (m .names) (length ls)
+  names-counted : parseLines (m .numbering) (m .name) n 1 ls ≡ accepted → parseNameAndAddress o n ls ≡ parseCount (m .names) (length ls)
   unfolding parseNameAndAddress
-  names-counted h = rw (← e, ← g, h)
+  names-counted h = rw (← e, h)
 
   -- what they give: none where a line is refused, else what their count says
-  pub read-refused : {r j : ℕ} → parseLines f (m .name) n 1 ls ≡ refused r j → readNames o n ls ≡ (record { reply = refused r j; count = 0; texts = fourTexts [] })
+  pub read-refused : {r j : ℕ} → parseLines (m .numbering) (m .name) n 1 ls ≡ refused r j → readNames o n ls ≡ (record { reply = refused r j; count = 0; texts = fourTexts [] })
   unfolding readNames
-  read-refused h = ap (λ (r : Reply). namesOr r (map (kept (numberingOf o)) ls)) (names-refused h)
+  read-refused h = ap (λ (r : Reply). namesOr r (map (kept (limitsOf o .numbering)) ls)) (names-refused h)
 
-  pub read-counted : {count : ℕ} {texts : List Text} → parseLines f (m .name) n 1 ls ≡ accepted → count ≡ length ls → texts ≡ fourTexts (map (kept f) ls)
+  pub read-counted : {count : ℕ} {texts : List Text} → parseLines (m .numbering) (m .name) n 1 ls ≡ accepted → count ≡ length ls → texts ≡ fourTexts (map (kept (m .numbering)) ls)
       → readNames o n ls ≡ givenNames (parseCount (m .names) count) count texts
   unfolding readNames
   read-counted h c t =
-      ap (λ (r : Reply). namesOr r (map (kept (numberingOf o)) ls)) (names-counted h)
-      ∙ given (parseCount (m .names) (length ls)) (map (kept (numberingOf o)) ls)
-      ∙ rw (length-map ls (kept (numberingOf o)), ← e, ← t, ← c)
+      ap (λ (r : Reply). namesOr r (map (kept (limitsOf o .numbering)) ls)) (names-counted h)
+      ∙ given (parseCount (m .names) (length ls)) (map (kept (limitsOf o .numbering)) ls)
+      ∙ rw (length-map ls (kept (limitsOf o .numbering)), ← e, ← t, ← c)

@@ -6,15 +6,8 @@ use lib.ListN.{length, drop}
 use Rattle.errors.specs.Refusals.{Reply, accepted, refused, must, _then_}
 use Rattle.party.specs.declared.Text.{Text}
 use Rattle.party.specs.Text.{fourTexts}
-use Rattle.field_utils.specs.declared.Numbering.{Numbering}
-use Rattle.field_utils.specs.declared.Numbering.the-variants.{Unnumbered, Numbered, InTurn}
+use Rattle.party.specs.declared.Numbering.{Numbering}
 use Rattle.field_utils.specs.Names.{skipOf, parseNumber, parseCount, NamesRead}
-
--- how many bytes of a line of names are not kept
-abbrev pub keptFrom : Numbering → ℕ
-keptFrom Unnumbered = 0
-keptFrom Numbered = 2
-keptFrom InTurn = 0
 
 -- a line of names before its bytes: its number, then the length of its text
 abbrev pub parseShape : Numbering → ℕ → ℕ → ℕ → List ℕ → Reply

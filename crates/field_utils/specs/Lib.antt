@@ -1,4 +1,5 @@
 pub mod Lines
+pub mod Cursor
 pub mod Trim
 pub mod Identifier
 pub mod Names

@@ -5,30 +5,15 @@ use lib.Dec.{leb, eqb}
 use lib.ListN.{length, drop, getD}
 use Rattle.errors.specs.Refusals.{Reply, accepted, refused, told, must, _then_}
 use Rattle.party.specs.declared.PartyOption.{PartyOption}
-use Rattle.party.specs.declared.PartyOption.the-variants.{Field50NoOption, Field50A, Field50F, Field50K, Field50C, Field50L, Field50G, Field50H, Field59NoOption, Field59A, Field59F}
 use Rattle.party.specs.declared.Text.{Text}
 use Rattle.party.specs.Limits.{limitsOf}
 use Rattle.party.specs.Text.{fourTexts}
 use Rattle.swift_utils.specs.Bytes.{between}
 use Rattle.swift_utils.specs.Checks.{parseSwiftChars}
-use Rattle.field_utils.specs.declared.Numbering.{Numbering}
-use Rattle.field_utils.specs.declared.Numbering.the-variants.{Unnumbered, Numbered, InTurn}
+use Rattle.party.specs.declared.Numbering.{Numbering}
+use Rattle.party.specs.declared.Numbering.the-variants.{Unnumbered, Numbered, InTurn}
 use Rattle.field_utils.specs.declared.Names.{Names}
 use Rattle.field_utils.specs.Identifier.{isNumbered}
-
--- 50F: each line is numbered; 59F: lines are numbered 1, 2, 3 .. in order
-abbrev pub numberingOf : PartyOption → Numbering
-numberingOf Field50NoOption = Unnumbered
-numberingOf Field50A = Unnumbered
-numberingOf Field50F = Numbered
-numberingOf Field50K = Unnumbered
-numberingOf Field50C = Unnumbered
-numberingOf Field50L = Unnumbered
-numberingOf Field50G = Unnumbered
-numberingOf Field50H = Unnumbered
-numberingOf Field59NoOption = Unnumbered
-numberingOf Field59A = Unnumbered
-numberingOf Field59F = InTurn
 
 -- how many bytes stand before the text of a line: a numbered one has its digit and slash
 abbrev pub skipOf : Numbering → ℕ
@@ -36,7 +21,7 @@ skipOf Unnumbered = 0
 skipOf Numbered = 2
 skipOf InTurn = 2
 
--- 5 not a numbered line; 6 a number out of turn
+-- 50F: each line is numbered, else 5; 59F: 1, 2, 3 .. in order, else 6
 abbrev pub parseNumber : Numbering → ℕ → ℕ → List ℕ → Reply
 parseNumber Unnumbered n k l = accepted
 parseNumber Numbered n k l = must (isNumbered l) 5 n
@@ -60,13 +45,17 @@ parseCount most count = must (between 1 most count) 7 0
 
 -- names: the lines from body line n on, tested in order and counted last
 unfoldable pub parseNameAndAddress : PartyOption → ℕ → List (List ℕ) → Reply
-parseNameAndAddress o n ls = parseLines (numberingOf o) (limitsOf o .name) n 1 ls then parseCount (limitsOf o .names) (length ls)
+parseNameAndAddress o n ls = parseLines (limitsOf o .numbering) (limitsOf o .name) n 1 ls then parseCount (limitsOf o .names) (length ls)
 
--- what is kept of a line of names: 50F's digits are not, 59F's are
+-- how many of them are not kept: 50F's digits are not, 59F's are
+abbrev pub keptFrom : Numbering → ℕ
+keptFrom Unnumbered = 0
+keptFrom Numbered = 2
+keptFrom InTurn = 0
+
+-- what is kept of a line of names
 abbrev pub kept : Numbering → List ℕ → List ℕ
-kept Unnumbered l = l
-kept Numbered l = drop 2 l
-kept InTurn l = l
+kept f l = drop (keptFrom f) l
 
 -- what the names give: the reply, how many there are, and the first four by value; none where they are refused
 pub record NamesRead : Type 0 where
@@ -80,7 +69,7 @@ namesOr (refused k n) ns = record { reply = refused k n; count = 0; texts = four
 
 -- names from body line n on, as they are kept
 unfoldable pub readNames : PartyOption → ℕ → List (List ℕ) → NamesRead
-readNames o n ls = namesOr (parseNameAndAddress o n ls) (map (kept (numberingOf o)) ls)
+readNames o n ls = namesOr (parseNameAndAddress o n ls) (map (kept (limitsOf o .numbering)) ls)
 
 -- the names that the code gives, in document 01's terms
 abbrev pub toldNames : Names → NamesRead

@@ -5,6 +5,7 @@ use lines::Line;
 use lines::Lines;
 use lines::find;
 use party::NOTHING;
+use party::Numbering;
 use party::PartyOption;
 use party::Text;
 use party::limits_of;
@@ -26,8 +27,8 @@ ghost use Rattle.errors.specs.Refusals.{told, must};
 ghost use Rattle.party.specs.Text.{fourTexts};
 ghost use Rattle.field_utils.specs.Lines.{starts, lines as linesOf};
 ghost use Rattle.field_utils.specs.Identifier.{isNumbered, toldIdentifier, parsePartyIdentifier, identifierReply};
-ghost use Rattle.field_utils.specs.Names.{numberingOf, skipOf, parseNumber, parseCount, readNames, toldNames};
-ghost use Rattle.field_utils.specs.Code.{keptFrom, parseShape, parseRest, givenNames};
+ghost use Rattle.field_utils.specs.Names.{skipOf, keptFrom, parseNumber, parseCount, readNames, toldNames};
+ghost use Rattle.field_utils.specs.Code.{parseShape, parseRest, givenNames};
 
 // Whether a line starts with a slash.
 pub fn starts_with_slash(line: &[u8]) -> bool
@@ -95,34 +96,8 @@ pub fn parse_remaining(remaining: &[u8], longest: usize, line: usize) -> Outcome
     parse_account(&remaining[id..], 0, longest, line)
 }
 
-// How an option's lines of names are numbered: not at all, with any digits, or in turn.
-pub enum Numbering {
-    Unnumbered,
-    Numbered,
-    InTurn,
-}
-
-// How the option's lines are numbered.
-pub fn numbering_of(option: PartyOption) -> Numbering
-    ensures { λ r. ⌜ r ≡ numberingOf option ⌝ }
-{
-    match option {
-        PartyOption::Field50NoOption => Numbering::Unnumbered,
-        PartyOption::Field50A => Numbering::Unnumbered,
-        PartyOption::Field50F => Numbering::Numbered,
-        PartyOption::Field50K => Numbering::Unnumbered,
-        PartyOption::Field50C => Numbering::Unnumbered,
-        PartyOption::Field50L => Numbering::Unnumbered,
-        PartyOption::Field50G => Numbering::Unnumbered,
-        PartyOption::Field50H => Numbering::Unnumbered,
-        PartyOption::Field59NoOption => Numbering::Unnumbered,
-        PartyOption::Field59A => Numbering::Unnumbered,
-        PartyOption::Field59F => Numbering::InTurn,
-    }
-}
-
 // How many bytes stand before a line's text.
-fn skip_of(numbering: Numbering) -> usize
+pub fn skip_of(numbering: Numbering) -> usize
     ensures { λ r. ⌜ r ≡ skipOf numbering ⌝ }
 {
     match numbering {
@@ -209,7 +184,7 @@ fn parse_line(
 }
 
 // How many bytes of a line of names are not kept.
-fn kept_from(numbering: Numbering) -> usize
+pub fn kept_from(numbering: Numbering) -> usize
     ensures { λ r. ⌜ r ≡ keptFrom numbering ⌝ }
 {
     match numbering {
@@ -261,38 +236,34 @@ pub fn parse_name_and_address(body: &[u8], from: Lines, start_idx: u8, option: P
     ensures { λ r. ⌜ toldNames r ≡ readNames option (suc «start_idx») (linesOf (drop (from .at) (now (body .entry)))) ⌝ }
 {
     let limits = limits_of(option);
-    let numbering = numbering_of(option);
+    let numbering = limits.numbering;
     let kept = kept_from(numbering);
     let classes = class_table();
     let mut texts = [NOTHING; 4];
     let mut cursor = from;
     let mut count = 0;
     let illegal = 'lines: loop {
-        // the bytes up to the first that is illegal or an LF
-        let mut i = cursor.at;
-        while i < body.len() {
-            let b = body[i] as usize;
-            if classes[b] < 2 {
-                break;
-            }
-            i += 1;
-        }
-        let found = cursor.next_from(body, i);
+        let found = cursor.next(body);
         let Line::Next { start, end, rest } = found else {
             break 'lines 0;
         };
         let turn = count + 1;
         let line = start_idx as usize + turn;
-        let outcome = parse_line(&body[start..end], line, turn, numbering, limits.name);
+        let input = &body[start..end];
+        let outcome = parse_line(input, line, turn, numbering, limits.name);
         if let Outcome::Refused(e) = outcome {
             return refuse_names(e);
         }
-        if i < end {
-            break 'lines line;
+        let mut i = 0;
+        while i < input.len() {
+            let b = input[i] as usize;
+            if classes[b] == 0 {
+                break 'lines line;
+            }
+            i += 1;
         }
         if count < 4 {
-            let first = start + kept;
-            texts[count] = text_of(&body[first..end]);
+            texts[count] = text_of(&input[kept..]);
         }
         count = turn;
         cursor = rest;

@@ -2,7 +2,8 @@
 ghost use mathlib.Core.Path.{_≡_};
 ghost use Prim.Native.Nat.{_+_, _-_, _≤_, _<_};
 ghost use lib.ListN.{length, take, drop};
-ghost use Rattle.field_utils.specs.Lines.{upto, withoutCr, nextLine, lines};
+ghost use Rattle.field_utils.specs.Lines.{upto, lines};
+ghost use Rattle.field_utils.specs.Cursor.{withoutCr, nextLine};
 ghost use Rattle.field_utils.specs.Trim.{white, trimmed, trimmedEnd};
 
 // Where a byte first stands from a place on, or the length where it does not; a place past the length is given back.
@@ -47,19 +48,10 @@ impl Lines {
         ensures { λ r. ⌜ r ≡ nextLine (now (s .entry)) (self .at) ⌝ }
     {
         let at = self.at;
-        self.next_from(s, at)
-    }
-
-    // The next line, whose LF is not before a place.
-    pub(crate) fn next_from(self, s: &[u8], from: usize) -> Line
-        requires { ⌜ (self .at ≤ from) × (from - self .at ≤ upto 10 (drop (self .at) (now s))) ⌝ }
-        ensures { λ r. ⌜ r ≡ nextLine (now (s .entry)) (self .at) ⌝ }
-    {
-        let at = self.at;
         if s.len() <= at {
             return Line::Done;
         }
-        let lf = find_lf(s, from);
+        let lf = find_lf(s, at);
         if s.len() <= lf {
             return Line::Next {
                 start: at,

@@ -3,9 +3,12 @@
 // there are.
 mod tally;
 
+use filing::StepOutcome;
 use filing::file_next;
 use libc::STDIN_FILENO;
 use libc::STDOUT_FILENO;
+use pages::Filed;
+use pages::PAGE_MOST;
 use pages::close;
 use tally::Tally;
 use tally::say;
@@ -13,13 +16,35 @@ ghost use mathlib.Core.Path.{_≡_};
 ghost use Prim.Native.Nat.{_≤_};
 ghost use lib.ListN.{length};
 ghost use Rattle.pages.specs.Demand3.{closing};
-ghost use Rattle.filing.specs.Filing.{Closable, filling, fileAll, recordsOf};
+ghost use Rattle.filing.specs.Filing.{toldStepOutcome, lastAdded, isEnded, Closable, openPage, fileAll, recordsOf};
+
+// The position after a step: that after the record it added, if it added one.
+fn position_after(outcome: StepOutcome, position: usize) -> usize
+    ensures { λ r. ⌜ r ≡ lastAdded (toldStepOutcome outcome) position ⌝ }
+{
+    match outcome {
+        StepOutcome::End => position,
+        StepOutcome::Refused(_) => position,
+        StepOutcome::Added(n) => n,
+    }
+}
+
+// Whether a step met the end.
+fn is_end(outcome: StepOutcome) -> bool
+    ensures { λ r. ⌜ r ≡ isEnded (toldStepOutcome outcome) ⌝ }
+{
+    match outcome {
+        StepOutcome::End => true,
+        StepOutcome::Refused(_) => false,
+        StepOutcome::Added(_) => false,
+    }
+}
 
 // Files from the page on the one in the buffer, up to the end or a read that does not move on, which is 17: no end line. Gives the position
 // to close at.
 fn file_all(page: &[u8], buf: &mut [u8]) -> usize
     requires { ⌜ 2 ≤ length (now buf) ⌝ }
-    ensures { λ r. ⌜ filling (now (buf .exit)) r ≡ fileAll (now (page .entry)) (now (buf .entry)) ⌝ }
+    ensures { λ r. ⌜ openPage (now (buf .exit)) r ≡ fileAll (now (page .entry)) (now (buf .entry)) ⌝ }
     ensures closable { λ r. ⌜ Closable (now (buf .exit)) r ⌝ }
 {
     let mut tally = Tally::new();
@@ -27,11 +52,11 @@ fn file_all(page: &[u8], buf: &mut [u8]) -> usize
     let mut position = 0;
     loop {
         let step = file_next(page, at, buf, position);
-        position = step.position;
-        if step.ended {
+        let outcome = step.outcome;
+        position = position_after(outcome, position);
+        if is_end(outcome) {
             break;
         }
-        let outcome = step.outcome;
         tally = tally.note(outcome);
         if step.next == at {
             break;
@@ -42,14 +67,16 @@ fn file_all(page: &[u8], buf: &mut [u8]) -> usize
     position
 }
 
-// Files the page on a new one, and writes that: it is what `whole-page` speaks of, for the records that the page's reads give.
+// Files the page on a new one, and writes that: it is what `whole-page` speaks of, for the records that the page's reads give. Closing is not
+// refused, since the page can be closed where filing left it.
 fn file_page(page: &[u8], buf: &mut [u8])
     requires { ⌜ 2 ≤ length (now buf) ⌝ }
     ensures { λ r. ⌜ now (buf .exit) ≡ closing (recordsOf (now (page .entry))) (now (buf .entry)) .buffer ⌝ }
 {
     let position = file_all(page, buf);
-    let closed = close(buf, position);
-    let end = closed.position;
+    let Filed::Position(end) = close(buf, position) else {
+        return;
+    };
     if !io::write_all(STDOUT_FILENO, &buf[..end]) {
         say(b"error: the page was not written whole\n");
     }
@@ -64,7 +91,7 @@ fn run(room: &mut [u8], buf: &mut [u8])
         say(b"error: no page on standard input: it is empty\n");
         return;
     }
-    if 32768 < len {
+    if PAGE_MOST < len {
         say(b"error: no page on standard input: it is over 32,768 bytes\n");
         return;
     }

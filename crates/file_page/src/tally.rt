@@ -1,9 +1,9 @@
 // What is said on standard error.
-use errors::Outcome;
 use errors::Refusal;
+use filing::StepOutcome;
 use libc::STDERR_FILENO;
 
-// How many answers were filed, and how many were refusals.
+// How many records were filed, and how many answers were refusals.
 pub struct Tally {
     filed: u64,
     refused: u64,
@@ -22,11 +22,12 @@ impl Tally {
         }
     }
 
-    // Counts an answer, and says which it is if it is a refusal.
-    pub(crate) fn note(mut self, outcome: Outcome) -> Self {
+    // Counts an answer, and says which it is if it is a refusal. The end is none.
+    pub(crate) fn note(mut self, outcome: StepOutcome) -> Self {
         match outcome {
-            Outcome::Accepted => self.filed = sum(self.filed, 1),
-            Outcome::Refused(e) => {
+            StepOutcome::End => {}
+            StepOutcome::Added(_) => self.filed = sum(self.filed, 1),
+            StepOutcome::Refused(e) => {
                 self.refused = sum(self.refused, 1);
                 print_refusal(sum(self.filed, self.refused), e.refusal());
             }

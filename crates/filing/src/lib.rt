@@ -1,5 +1,7 @@
 // Filing from one page to another, which is ours: no Rust file has it.
-use errors::Outcome;
+use errors::ParseError;
+use pages::Filed;
+use pages::ReadOutcome;
 use pages::add;
 use pages::read_at;
 ghost use mathlib.Core.Path.{_≡_};
@@ -7,12 +9,16 @@ ghost use Prim.Native.Nat.{_≤_, _<_};
 ghost use lib.ListN.{length};
 ghost use Rattle.filing.specs.Filing.{fileNext, toldStep};
 
-// What a step gives: whether the page ended; what the read refused, or the add; the position after on the new page, unchanged where
-// nothing was filed; and where to read next.
+// A step meets the end, is refused by the read or by the add, or adds a record, with the position after it on the new page.
+pub enum StepOutcome {
+    End,
+    Refused(ParseError),
+    Added(usize),
+}
+
+// What a step gives, with where to read next.
 pub struct Step {
-    pub ended: bool,
-    pub outcome: Outcome,
-    pub position: usize,
+    pub outcome: StepOutcome,
     pub next: usize,
 }
 
@@ -26,28 +32,21 @@ pub fn file_next(page: &[u8], at: usize, buf: &mut [u8], position: usize) -> Ste
     let outcome = got.outcome;
     let party = got.party;
     let next = got.next;
-    if got.ended {
-        return Step {
-            ended: true,
-            outcome,
-            position,
+    match outcome {
+        ReadOutcome::Record => {
+            let outcome = match add(party, buf, position) {
+                Filed::Position(n) => StepOutcome::Added(n),
+                Filed::Refused(e) => StepOutcome::Refused(e),
+            };
+            Step { outcome, next }
+        }
+        ReadOutcome::End => Step {
+            outcome: StepOutcome::End,
             next,
-        };
-    }
-    if let Outcome::Refused(e) = outcome {
-        return Step {
-            ended: false,
-            outcome: Outcome::Refused(e),
-            position,
+        },
+        ReadOutcome::Refused(e) => Step {
+            outcome: StepOutcome::Refused(e),
             next,
-        };
-    }
-    let filed = add(party, buf, position);
-    let outcome = filed.outcome;
-    Step {
-        ended: false,
-        outcome,
-        position: filed.position,
-        next,
+        },
     }
 }

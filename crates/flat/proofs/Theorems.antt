@@ -1,4 +1,4 @@
--- The flat record: 237 bytes, from which the record comes back.
+-- The flat record: its bytes, from which the record comes back.
 -- Assumes nothing.
 use Prim.Native.Nat.{ℕ, zero, suc, _+_, _*_, _-_, _<_, _≤_}
 use mathlib.Core.Path.{_≡_, refl, _∙_, ap}
@@ -7,18 +7,18 @@ use mathlib.Core.List.{List, [], _∷_, _++_}
 use native.Mathlib.Omega.{arith}
 use borrow.Author.Tests.{le-leb}
 use lib.Dec.{eqb}
-use lib.ListN.{length, getD, take, drop}
-use Rattle.party.specs.declared.PartyOption.{PartyOption}
-use Rattle.party.specs.declared.PartyOption.the-variants.{Field50NoOption, Field50A, Field50F, Field50K, Field50C, Field50L, Field50G, Field50H, Field59NoOption, Field59A, Field59F}
+use lib.ListN.{length, getD, take, drop, length-append, length-drop}
+use lib.Seq.{take-append-le, drop-append-le}
 use Rattle.party.specs.declared.Text.{Text}
 use Rattle.party.specs.declared.Party.{Party}
 use Rattle.party.specs.Limits.{placeOf}
 use Rattle.party.specs.Party.{IsParty}
-use Rattle.flat.specs.Flat.{byteOf, bit, flatText, flatTexts, textsOf, flatten, optionAt, textFrom, textAt, isFlat, partyFrom, unflatten}
-use Rattle.flat.proofs.Laws.{none, place-small, loaded, Sizes, text-in, sizes, six}
+use Rattle.party.proofs.Options.{placed, place-most}
+use Rattle.flat.specs.Flat.{textSize, recordSize, byteOf, bit, flatText, flatTexts, textsOf, flatten, textFrom, textAt, isFlat, partyFrom, unflatten}
+use Rattle.flat.proofs.Laws.{none, loaded, Sizes, text-in, sizes, six}
 
 -- ---- the bytes
-pub flatten-size : (p : Party) → IsParty p → length (flatten p) ≡ 237
+pub flatten-size : (p : Party) → IsParty p → length (flatten p) ≡ recordSize
 unfolding flatten
 flatten-size p h = rw (six p (h .size) (sizes p h))
 
@@ -51,7 +51,7 @@ bit-small false = omega arith
 -- each is a byte
 pub flatten-bytes : (p : Party) → IsParty p → (i : ℕ) → getD (flatten p) i 0 < 256
 unfolding flatten
-flatten-bytes p h zero = omega (arith, place-small (p .option))
+flatten-bytes p h zero = omega (arith, place-most (p .option))
 flatten-bytes p h (suc zero) = omega (arith, bit-small (p .present))
 flatten-bytes p h (suc (suc zero)) = omega arith
 flatten-bytes p h (suc (suc (suc i))) = bytes-texts (textsOf p) (texts-bytes p h) i
@@ -63,20 +63,6 @@ pub record Small (p : Party) : Type 0 where
   pub bic : p .bic .len ≤ 255
   pub count : p .count ≤ 255
   pub name : (i : ℕ) → i < 4 → getD (p .«name_and_address») i none .len ≤ 255
-
-option-back : (o : PartyOption) → optionAt (placeOf o) ≡ o
-unfolding optionAt
-option-back Field50NoOption = refl
-option-back Field50A = refl
-option-back Field50F = refl
-option-back Field50K = refl
-option-back Field50C = refl
-option-back Field50L = refl
-option-back Field50G = refl
-option-back Field50H = refl
-option-back Field59NoOption = refl
-option-back Field59A = refl
-option-back Field59F = refl
 
 bit-back : (b : Bool) → eqb (bit b) 1 ≡ b
 bit-back true = refl
@@ -96,27 +82,34 @@ four (a ∷ b ∷ c ∷ []) d h = absurd (omega arith)
 four (a ∷ b ∷ c ∷ e ∷ []) d h = refl
 four (a ∷ b ∷ c ∷ e ∷ f ∷ l) d h = absurd (omega arith)
 
--- a record of four names and of texts of 38 bytes
-module _ (p : Party) (size : length (p .«name_and_address») ≡ 4) (h : Sizes (textsOf p)) (s : Small p) where
+-- a record of four names and of texts of 38 bytes, and whatever bytes follow it
+module _ (p : Party) (rest : List ℕ) (size : length (p .«name_and_address») ≡ 4) (h : Sizes (textsOf p)) (s : Small p) where
   small : (k : ℕ) → k < 6 → getD (textsOf p) k none .len ≤ 255
   small zero l = s .account
   small (suc zero) l = s .bic
   small (suc (suc i)) l = s .name i (omega arith)
 
   -- the text at a place, by its number among the six
-  text-at : (k : ℕ) → k < 6 → textFrom (take 39 (drop (39 * k) (flatTexts (textsOf p)))) ≡ getD (textsOf p) k none
+  text-at : (k : ℕ) → k < 6 → textFrom (take textSize (drop (textSize * k) (flatTexts (textsOf p) ++ rest))) ≡ getD (textsOf p) k none
   text-at k l =
-      ap textFrom (text-in (textsOf p) k h (omega arith)) ∙ text-back (getD (textsOf p) k none) (small k l)
+      let texts = flatTexts (textsOf p) in
+      let n = six p size h in
+      let part : take textSize (drop (textSize * k) (texts ++ rest)) ≡ take textSize (drop (textSize * k) texts) =
+      ap (take textSize) (drop-append-le (textSize * k) texts rest (omega (arith, n)))
+      ∙ take-append-le textSize (drop (textSize * k) texts) rest (omega (arith, n, length-drop (textSize * k) texts)) in
+      ap textFrom (part ∙ text-in (textsOf p) k h (omega arith)) ∙ text-back (getD (textsOf p) k none) (small k l)
 
-  is-flat : isFlat (flatten p) ≡ true
+  is-flat : isFlat (flatten p ++ rest) ≡ true
   unfolding isFlat flatten
-  is-flat = rw (six p size h, le-leb (placeOf (p .option)) 10 (place-small (p .option))) (le-leb (bit (p .present)) 1 (bit-small (p .present)))
+  is-flat =
+      let n : recordSize ≤ length (flatten p ++ rest) = omega (arith, six p size h, length-append (flatTexts (textsOf p)) rest) in
+      rw (le-leb recordSize (length (flatten p ++ rest)) n, le-leb (placeOf (p .option)) 10 (place-most (p .option))) (le-leb (bit (p .present)) 1 (bit-small (p .present)))
 
-  party-back : partyFrom (flatten p) ≡ p
+  party-back : partyFrom (flatten p ++ rest) ≡ p
   unfolding partyFrom textAt flatten
   party-back =
       rw
-      (option-back (p .option), bit-back (p .present), byte-back (p .count) (s .count), text-at 0 (omega arith), text-at 1 (omega arith), text-at 2 (omega arith), text-at 3 (omega arith), text-at 4 (omega arith), text-at 5 (omega arith))
+      (placed (p .option), bit-back (p .present), byte-back (p .count) (s .count), text-at 0 (omega arith), text-at 1 (omega arith), text-at 2 (omega arith), text-at 3 (omega arith), text-at 4 (omega arith), text-at 5 (omega arith))
       (ap
       (λ (names : List Text).
       record {
@@ -129,9 +122,9 @@ module _ (p : Party) (size : length (p .«name_and_address») ≡ 4) (h : Sizes 
       })
       (four (p .«name_and_address») none size))
 
-  pub loads-back : unflatten (flatten p) ≡ record { ok = true; party = p }
-  loads-back = loaded (flatten p) is-flat ∙ rw party-back
+  pub loads-back : unflatten (flatten p ++ rest) ≡ p
+  loads-back = loaded (flatten p ++ rest) is-flat ∙ party-back
 
 -- every value of the Rattle type is such
-pub round-trip : (p : Party) → IsParty p → Small p → unflatten (flatten p) ≡ record { ok = true; party = p }
-round-trip p h s = loads-back p (h .size) (sizes p h) s
+pub round-trip : (p : Party) (rest : List ℕ) → IsParty p → Small p → unflatten (flatten p ++ rest) ≡ p
+round-trip p rest h s = loads-back p rest (h .size) (sizes p h) s

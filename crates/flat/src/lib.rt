@@ -1,24 +1,24 @@
-// A party record as 237 bytes, for programs in other languages. The place of the option in the table, the presence and the count are
-// a byte each; then come six texts of 39 bytes, a length and 38 bytes: the account at 3, the BIC at 42, the names from 81 on.
+// A party record as bytes, for programs in other languages. The place of the option in the table, the presence and the count are
+// a byte each; then come six texts, a length and 38 bytes each: the account, the BIC and the names.
 use party::Party;
-use party::PartyOption;
+use party::TEXT_MOST;
 use party::Text;
 use party::blank;
 use party::index_of;
+use party::option_at;
 use party::text_of;
 ghost use mathlib.Core.Path.{_≡_};
 ghost use mathlib.Core.List.{[]};
-ghost use Prim.Native.Nat.{_+_, _≤_, _<_};
+ghost use Prim.Native.Nat.{_+_, _*_, _≤_, _<_};
 ghost use lib.Dec.{leb};
 ghost use lib.ListN.{length, getD};
 ghost use lib.Seq.{paste};
-ghost use Rattle.flat.specs.Flat.{byteOf, bit as bitOf, flatText, flatTexts, textsOf, stored, optionAt, textAt, isFlat, unflatten};
+ghost use Rattle.flat.specs.Flat.{textSize, recordSize, byteOf, bit as bitOf, flatText, flatTexts, textsOf, stored, textAt, isFlat, unflatten};
 
-// What loading gives: whether the bytes are a record, and the record, which is blank where they are not.
-pub struct Loaded {
-    pub ok: bool,
-    pub party: Party,
-}
+// The bytes of a text, and of a record.
+const TEXT_SIZE: usize = 1 + TEXT_MOST;
+
+pub const RECORD_SIZE: usize = 3 + 6 * TEXT_SIZE;
 
 // A length or count as a byte.
 fn byte_of(n: usize) -> u8
@@ -36,14 +36,14 @@ fn bit(b: bool) -> u8
 
 // A text at a place: its length, then its bytes.
 fn put_text(t: Text, out: &mut [u8], at: usize)
-    requires { ⌜ at + 39 ≤ length (now out) ⌝ }
-    ensures { λ _. ⌜ now (out .exit) ≡ paste (now (out .entry)) at (flatText t) 39 ⌝ }
+    requires { ⌜ at + textSize ≤ length (now out) ⌝ }
+    ensures { λ _. ⌜ now (out .exit) ≡ paste (now (out .entry)) at (flatText t) textSize ⌝ }
 {
     let len = t.len;
     out[at] = byte_of(len);
     let from = at + 1;
     let mut i = 0;
-    while i < 38 {
+    while i < TEXT_MOST {
         out[from + i] = t.bytes[i];
         i += 1;
     }
@@ -65,24 +65,24 @@ fn nth_text(p: Party, n: usize) -> Text
 
 // The six texts from 3 on.
 fn put_texts(p: Party, out: &mut [u8])
-    requires { ⌜ 237 ≤ length (now out) ⌝ }
-    ensures { λ _. ⌜ now (out .exit) ≡ paste (now (out .entry)) 3 (flatTexts (textsOf p)) 234 ⌝ }
+    requires { ⌜ recordSize ≤ length (now out) ⌝ }
+    ensures { λ _. ⌜ now (out .exit) ≡ paste (now (out .entry)) 3 (flatTexts (textsOf p)) (6 * textSize) ⌝ }
 {
     let mut n = 0;
     let mut at = 3;
     while n < 6 {
         put_text(nth_text(p, n), out, at);
-        at += 39;
+        at += TEXT_SIZE;
         n += 1;
     }
 }
 
-// Stores a record in the first 237 bytes, and says whether there are as many; where there are not, no byte changes.
+// Stores a record at the start of the bytes, and says whether there are as many; where there are not, no byte changes.
 pub fn store(p: Party, out: &mut [u8]) -> bool
-    ensures { λ r. ⌜ r ≡ leb 237 (length (now (out .entry))) ⌝ }
+    ensures { λ r. ⌜ r ≡ leb recordSize (length (now (out .entry))) ⌝ }
     ensures { λ _. ⌜ now (out .exit) ≡ stored p (now (out .entry)) ⌝ }
 {
-    if out.len() < 237 {
+    if out.len() < RECORD_SIZE {
         return false;
     }
     let option = p.option;
@@ -95,33 +95,14 @@ pub fn store(p: Party, out: &mut [u8]) -> bool
     true
 }
 
-// The option at a place in the table, the first where there is none.
-pub fn option_at(place: u8) -> PartyOption
-    ensures { λ r. ⌜ r ≡ optionAt place ⌝ }
+// The text with a number among the six.
+fn text_at(s: &[u8], n: usize) -> Text
+    requires { ⌜ (recordSize ≤ length (now s)) × (n < 6) ⌝ }
+    ensures { λ r. ⌜ r ≡ textAt n (now (s .entry)) ⌝ }
 {
-    match place {
-        0 => PartyOption::Field50NoOption,
-        1 => PartyOption::Field50A,
-        2 => PartyOption::Field50F,
-        3 => PartyOption::Field50K,
-        4 => PartyOption::Field50C,
-        5 => PartyOption::Field50L,
-        6 => PartyOption::Field50G,
-        7 => PartyOption::Field50H,
-        8 => PartyOption::Field59NoOption,
-        9 => PartyOption::Field59A,
-        10 => PartyOption::Field59F,
-        _ => PartyOption::Field50NoOption,
-    }
-}
-
-// The text whose 39 bytes start at a place.
-fn text_at(s: &[u8], at: usize) -> Text
-    requires { ⌜ at + 39 ≤ length (now s) ⌝ }
-    ensures { λ r. ⌜ r ≡ textAt at (now (s .entry)) ⌝ }
-{
+    let at = 3 + TEXT_SIZE * n;
     let from = at + 1;
-    let end = at + 39;
+    let end = at + TEXT_SIZE;
     let text = text_of(&s[from..end]);
     let bytes = text.bytes;
     Text {
@@ -130,11 +111,11 @@ fn text_at(s: &[u8], at: usize) -> Text
     }
 }
 
-// Whether bytes are a record.
+// Whether bytes start with a record.
 fn is_flat(s: &[u8]) -> bool
     ensures { λ r. ⌜ r ≡ isFlat (now (s .entry)) ⌝ }
 {
-    if s.len() != 237 {
+    if s.len() < RECORD_SIZE {
         return false;
     }
     if 10 < s[0] {
@@ -143,31 +124,21 @@ fn is_flat(s: &[u8]) -> bool
     s[1] <= 1
 }
 
-// Loads the record whose bytes these are: what store stored, where its lengths and its count are at most 255.
-pub fn load(s: &[u8]) -> Loaded
+// Loads the record at the start of the bytes: what store stored, where its lengths and its count are at most 255. Where there is none, the
+// blank one, which no reader gives.
+pub fn load(s: &[u8]) -> Party
     ensures { λ r. ⌜ r ≡ unflatten (now (s .entry)) ⌝ }
 {
     if !is_flat(s) {
-        return Loaded {
-            ok: false,
-            party: blank(),
-        };
+        return blank();
     }
-    let names = [
-        text_at(s, 81),
-        text_at(s, 120),
-        text_at(s, 159),
-        text_at(s, 198),
-    ];
-    Loaded {
-        ok: true,
-        party: Party {
-            option: option_at(s[0]),
-            present: s[1] == 1,
-            account: text_at(s, 3),
-            bic: text_at(s, 42),
-            count: s[2] as usize,
-            name_and_address: names,
-        },
+    let names = [text_at(s, 2), text_at(s, 3), text_at(s, 4), text_at(s, 5)];
+    Party {
+        option: option_at(s[0] as usize),
+        present: s[1] == 1,
+        account: text_at(s, 0),
+        bic: text_at(s, 1),
+        count: s[2] as usize,
+        name_and_address: names,
     }
 }

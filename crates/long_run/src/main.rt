@@ -12,6 +12,8 @@ use overwrite::is_overwritten;
 use overwrite::overwrite;
 use overwrite::part;
 use overwrite::wanted;
+use pages::Filed;
+use pages::ReadOutcome;
 use pages::add;
 use pages::close;
 use pages::read_at;
@@ -29,19 +31,23 @@ struct Filled {
     position: usize,
 }
 
-// The number and line of a refusal; both are 0 where it is none.
-fn refusal_of(outcome: Outcome) -> Refusal {
-    match outcome {
-        Outcome::Accepted => Refusal { number: 0, line: 0 },
-        Outcome::Refused(e) => e.refusal(),
+// The number of an add's refusal, 0 where it is accepted.
+fn number_of(filed: Filed) -> u8 {
+    match filed {
+        Filed::Position(_) => 0,
+        Filed::Refused(e) => {
+            let refusal = e.refusal();
+            refusal.number
+        }
     }
 }
 
-// Whether two answers are both accepted, or refused with the same number and line.
-fn is_same(outcome: Outcome, other: Outcome) -> bool {
-    let a = refusal_of(outcome);
-    let b = refusal_of(other);
-    a.number == b.number && a.line == b.line
+// The last position that an add gave.
+fn last_given(filed: Filed, position: usize) -> usize {
+    match filed {
+        Filed::Position(n) => n,
+        Filed::Refused(_) => position,
+    }
 }
 
 // Files records until space runs out, which is 24.
@@ -51,11 +57,10 @@ fn fill(buf: &mut [u8]) -> Filled {
     let mut k = 0;
     loop {
         let filed = add(record(k), buf, position);
-        let outcome = filed.outcome;
-        let refusal = refusal_of(outcome);
-        adds = adds.note(refusal.number, answer_at(k, position));
-        position = filed.position;
-        if refusal.number == 24 || MOST <= k {
+        let number = number_of(filed);
+        adds = adds.note(number, answer_at(k, position));
+        position = last_given(filed, position);
+        if number == 24 || MOST <= k {
             break;
         }
         k += 1;
@@ -64,6 +69,27 @@ fn fill(buf: &mut [u8]) -> Filled {
     Filled {
         records: k,
         position,
+    }
+}
+
+// The number and line of a refusal; both are 0 where it is none.
+fn refusal_of(outcome: Outcome) -> Refusal {
+    match outcome {
+        Outcome::Accepted => Refusal { number: 0, line: 0 },
+        Outcome::Refused(e) => e.refusal(),
+    }
+}
+
+// Whether a read and a reader both give a record, or the refusal with the same number and line.
+fn is_same(outcome: ReadOutcome, other: Outcome) -> bool {
+    let b = refusal_of(other);
+    match outcome {
+        ReadOutcome::Record => b.number == 0,
+        ReadOutcome::End => false,
+        ReadOutcome::Refused(e) => {
+            let a = e.refusal();
+            a.number == b.number && a.line == b.line
+        }
     }
 }
 
@@ -82,14 +108,19 @@ fn check(page: &[u8], at: usize, k: usize, is_new: bool) -> Checked {
     let other = answer.outcome;
     let other_party = answer.party;
     Checked {
-        agrees: !got.ended & is_same(outcome, other) & same(party, other_party),
+        agrees: is_same(outcome, other) & same(party, other_party),
         next: got.next,
     }
 }
 
 fn is_end(page: &[u8], at: usize) -> bool {
     let got = read_at(page, at);
-    got.ended && got.next == page.len()
+    let outcome = got.outcome;
+    match outcome {
+        ReadOutcome::Record => false,
+        ReadOutcome::End => got.next == page.len(),
+        ReadOutcome::Refused(_) => false,
+    }
 }
 
 // Reads the fields of the first so many records and the end, and compares each answer.
@@ -111,8 +142,10 @@ fn read_all(page: &[u8], records: usize, overwritten: bool) {
 
 fn run(buf: &mut [u8], out: &mut [u8]) {
     let filled = fill(buf);
-    let closed = close(buf, filled.position);
-    let page = part(buf, 0, closed.position);
+    let Filed::Position(end) = close(buf, filled.position) else {
+        return;
+    };
+    let page = part(buf, 0, end);
     read_all(page, filled.records, false);
     let len = overwrite(page, filled.records, out);
     read_all(part(out, 0, len), filled.records, true);

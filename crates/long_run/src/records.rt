@@ -1,6 +1,7 @@
 // The records that are filed, each by its number.
 use party::Party;
 use party::PartyOption;
+use party::TEXT_MOST;
 use party::Text;
 use party::limits_of;
 use party::text_of;
@@ -28,7 +29,7 @@ fn digit(n: usize) -> u8 {
 
 // The account at turn 0, and the names from 1 on: 5 to 33 bytes, numbered as 59F has them.
 fn text(k: usize, turn: usize) -> Text {
-    let mut bytes = [b'X'; 38];
+    let mut bytes = [b'X'; TEXT_MOST];
     bytes[0] = digit(turn);
     bytes[1] = b'/';
     bytes[2] = digit(k / 100);

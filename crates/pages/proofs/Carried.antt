@@ -10,73 +10,56 @@ use lib.Seq.{drop-drop}
 use borrow.Author.Tests.{le-ltb, lt-ltb, leb-true, leb-false, le-leb, lt-leb}
 use Rattle.party.specs.Party.{Said}
 use Rattle.swift_utils.proofs.Parts.{part, part-none, part-at, part-length}
-use Rattle.field_utils.specs.Lines.{upto, onto}
+use Rattle.field_utils.specs.Lines.{upto}
 use Rattle.writer.specs.Writing.{pieces, writtenBody}
-use Rattle.writer.specs.ReadBack.{isEmpty, endsCr, lastEmpty, earlierCr, identified59F}
-use Rattle.pages.specs.Pages.{pageMost, lineAt, marks}
-use Rattle.pages.specs.Filing.{anyMark, laterMark, isCarried, writable, hasSpace}
-use Rattle.pages.specs.Code.{areCarried}
+use Rattle.writer.specs.ReadBack.{isEmpty, endsCr, lastEmpty, earlierCr, identified59F, isReadBack}
+use Rattle.pages.specs.Pages.{pageMost, lineAt, isBoundary}
+use Rattle.pages.specs.Adding.{anyBoundary, laterBoundary, isCarried, writable, hasSpace}
+use Rattle.pages.specs.Code.{linesCarried}
+use Rattle.pages.proofs.Lines.{pieces-last, pieces-lf, first}
 
--- ---- the pieces of a text, by its next LF
-pieces-lf : (s : List ℕ) → upto 10 s < length s → pieces s ≡ take (upto 10 s) s ∷ pieces (drop (suc (upto 10 s)) s)
-unfolding pieces upto onto
-pieces-lf [] h = absurd (omega arith)
-pieces-lf (b ∷ s) h = go (eqb b 10) refl (pieces-lf s)
+-- ---- 23's clauses on lines, one after the other
+lines-one : (l : List ℕ) → linesCarried (l ∷ []) ≡ not (isEmpty l)
+unfolding lastEmpty earlierCr laterBoundary anyBoundary
+lines-one [] = refl
+lines-one (b ∷ l) = refl
+
+lines-more : (l m : List ℕ) (ls : List (List ℕ)) → linesCarried (l ∷ m ∷ ls) ≡ (not (endsCr l) && not (isBoundary m) && linesCarried (m ∷ ls))
+unfolding lastEmpty earlierCr laterBoundary anyBoundary
+lines-more l m ls = go (lastEmpty (m ∷ ls)) (endsCr l) (earlierCr (m ∷ ls)) (isBoundary m) (anyBoundary ls)
   where
-    go : (t : Bool) → eqb b 10 ≡ t → (upto 10 s < length s → pieces s ≡ take (upto 10 s) s ∷ pieces (drop (suc (upto 10 s)) s))
-        → pieces (b ∷ s) ≡ take (upto 10 (b ∷ s)) (b ∷ s) ∷ pieces (drop (suc (upto 10 (b ∷ s))) (b ∷ s))
-    go true e ih = rw (e, pieces, upto)
-    go false e ih =
-        let u : upto 10 (b ∷ s) ≡ suc (upto 10 s) = rw (e, upto) in
-        rw (e, pieces, upto) (ap (onto b) (ih (omega (arith, h, u))))
+    go : (a c d m' n : Bool) → (not a && not (c || d) && not (m' || n)) ≡ (not c && not m' && (not a && not d && not n))
+    go true true d m' n = refl
+    go true false d true n = refl
+    go true false d false n = refl
+    go false true d m' n = refl
+    go false false true true n = refl
+    go false false true false n = refl
+    go false false false true n = refl
+    go false false false false n = refl
 
-pieces-last : (s : List ℕ) → length s ≤ upto 10 s → pieces s ≡ s ∷ []
-unfolding pieces upto onto
-pieces-last [] h = refl
-pieces-last (b ∷ s) h = go (eqb b 10) refl (pieces-last s)
-  where
-    go : (t : Bool) → eqb b 10 ≡ t → (length s ≤ upto 10 s → pieces s ≡ s ∷ []) → pieces (b ∷ s) ≡ (b ∷ s) ∷ []
-    go true e ih = let u : upto 10 (b ∷ s) ≡ 0 = rw (e, upto) in absurd (omega (arith, h, u))
-    go false e ih =
-        let u : upto 10 (b ∷ s) ≡ suc (upto 10 s) = rw (e, upto) in
-        rw (e, pieces) (ap (onto b) (ih (omega (arith, h, u))))
-
--- the first is the line there
-record First (s : List ℕ) : Type 0 where
-  later : List (List ℕ)
-  are : pieces s ≡ lineAt s ∷ later
-
-first : (s : List ℕ) → First s
-unfolding lineAt pieces upto onto
-first [] = record { later = []; are = refl }
-first (b ∷ s) = go (eqb b 10) refl (first s)
-  where
-    go : (t : Bool) → eqb b 10 ≡ t → First s → First (b ∷ s)
-    go true e f = record { later = pieces s; are = rw (e, pieces, upto) }
-    go false e f = record { later = f .later; are = rw (e, pieces, upto) (ap (onto b) (f .are)) }
-
--- one piece more
-carried-more : (l s : List ℕ) → areCarried (l ∷ pieces s) ≡ (not (endsCr l) && not (marks (lineAt s)) && areCarried (pieces s))
-unfolding areCarried
-carried-more l s =
+-- the pieces after an LF begin with the line there
+pieces-more : (l s : List ℕ) → linesCarried (l ∷ pieces s) ≡ (not (endsCr l) && not (isBoundary (lineAt s)) && linesCarried (pieces s))
+pieces-more l s =
     let f = first s in
-    ap (λ (ps : List (List ℕ)). areCarried (l ∷ ps)) (f .are) ∙ sym (ap (λ (ps : List (List ℕ)). not (endsCr l) && not (marks (lineAt s)) && areCarried ps) (f .are))
+    ap (λ (ps : List (List ℕ)). linesCarried (l ∷ ps)) (f .are) ∙ lines-more l (lineAt s) (f .later)
+    ∙ sym (ap (λ (ps : List (List ℕ)). not (endsCr l) && not (isBoundary (lineAt s)) && linesCarried ps) (f .are))
 
--- from a place on, where the next LF stands at lf
+-- from a position on, where the next LF stands at lf
 module _ (body : List ℕ) (i lf : ℕ) (e : lf ≡ i + upto 10 (drop i body)) where
-  pub carried-last : length body ≤ lf → i ≤ length body → areCarried (pieces (drop i body)) ≡ not (isEmpty (drop i body))
-  unfolding areCarried
-  carried-last h k = ap areCarried (pieces-last (drop i body) (omega (arith, e, h, length-drop i body)))
+  pub carried-last : length body ≤ lf → i ≤ length body → linesCarried (pieces (drop i body)) ≡ not (isEmpty (drop i body))
+  carried-last h k = ap linesCarried (pieces-last (drop i body) (omega (arith, e, h, length-drop i body))) ∙ lines-one (drop i body)
 
   pub carried-lf : lf < length body → i ≤ length body
-      → areCarried (pieces (drop i body)) ≡ (not (endsCr (part i lf body)) && not (marks (lineAt (drop (lf + 1) body))) && areCarried (pieces (drop (lf + 1) body)))
+      → linesCarried (pieces (drop i body)) ≡ (not (endsCr (part i lf body)) && not (isBoundary (lineAt (drop (lf + 1) body))) && linesCarried (pieces (drop (lf + 1) body)))
+  unfolding lineAt
   carried-lf h k =
       let n : upto 10 (drop i body) ≡ lf - i = omega (arith, e) in
       let m : i + suc (upto 10 (drop i body)) ≡ lf + 1 = omega (arith, e) in
-      ap areCarried (pieces-lf (drop i body) (omega (arith, e, h, length-drop i body)))
-      ∙ ap (λ (s : List ℕ). areCarried (take (upto 10 (drop i body)) (drop i body) ∷ pieces s)) (drop-drop (suc (upto 10 (drop i body))) i body ∙ ap (λ (k : ℕ). drop k body) m)
-      ∙ ap (λ (k : ℕ). areCarried (take k (drop i body) ∷ pieces (drop (lf + 1) body))) n
-      ∙ carried-more (part i lf body) (drop (lf + 1) body)
+      ap linesCarried (pieces-lf (drop i body) (omega (arith, e, h, length-drop i body)))
+      ∙ ap (λ (s : List ℕ). linesCarried (lineAt (drop i body) ∷ pieces s)) (drop-drop (suc (upto 10 (drop i body))) i body ∙ ap (λ (k : ℕ). drop k body) m)
+      ∙ ap (λ (k : ℕ). linesCarried (take k (drop i body) ∷ pieces (drop (lf + 1) body))) n
+      ∙ pieces-more (part i lf body) (drop (lf + 1) body)
 
 pub empty-is : (body : List ℕ) (i : ℕ) → not (isEmpty (drop i body)) ≡ ltb i (length body)
 empty-is body i = go (drop i body) (length-drop i body)
@@ -95,47 +78,23 @@ ends-byte (b ∷ a ∷ l) zero h = absurd (omega arith)
 ends-byte (b ∷ a ∷ l) (suc n) h = ends-byte (a ∷ l) n (omega arith)
 
 module _ (body : List ℕ) (start end : ℕ) where
-  pub ends-none : end ≤ start → endsCr (part start end body) ≡ false
+  pub cr-none : end ≤ start → endsCr (part start end body) ≡ false
   unfolding endsCr
-  ends-none h = rw (part-none start end body h)
+  cr-none h = rw (part-none start end body h)
 
-  pub ends-last : start < end → end ≤ length body → endsCr (part start end body) ≡ eqb (getD body (end - 1) 0) 13
-  ends-last h k =
+  pub cr-last : start < end → end ≤ length body → endsCr (part start end body) ≡ eqb (getD body (end - 1) 0) 13
+  cr-last h k =
       let q : start + (end - start - 1) ≡ end - 1 = omega arith in
       ends-byte (part start end body) (end - start - 1) (omega (arith, part-length start end body k))
       ∙ ap (λ (b : ℕ). eqb b 13) (part-at start end body (end - start - 1) (omega arith) ∙ ap (λ (n : ℕ). getD body n 0) q)
 
--- ---- the clauses of 23 on pieces are these
-clauses : (ls : List (List ℕ)) → 0 < length ls → (not (lastEmpty ls) && not (earlierCr ls) && not (laterMark ls)) ≡ areCarried ls
-unfolding lastEmpty earlierCr laterMark anyMark areCarried
-clauses [] h = absurd (omega arith)
-clauses (l ∷ []) h = go (not (isEmpty l))
-  where
-    go : (t : Bool) → (t && true && true) ≡ t
-    go true = refl
-    go false = refl
-clauses (l ∷ m ∷ ls) h = go (lastEmpty (m ∷ ls)) (endsCr l) (earlierCr (m ∷ ls)) (marks m) (anyMark ls) (clauses (m ∷ ls) (omega arith))
-  where
-    go : (a c d m' n : Bool) {r : Bool} → (not a && not d && not n) ≡ r → (not a && not (c || d) && not (m' || n)) ≡ (not c && not m' && r)
-    go true true d m' n e = refl
-    go true false d true n e = refl
-    go true false d false n e = e
-    go false true d m' n e = refl
-    go false false true true n e = refl
-    go false false true false n e = e
-    go false false false true n e = refl
-    go false false false false n e = e
-
-pieces-length : (s : List ℕ) → 0 < length (pieces s)
-pieces-length s = omega (arith, ap length (first s .are))
-
-pub carried-is : (s : Said) → isCarried s ≡ (areCarried (pieces (writtenBody s)) && not (identified59F s))
-unfolding isCarried
+-- ---- 23, by its clauses on lines and 59F's
+pub carried-is : (s : Said) → isCarried s ≡ (linesCarried (pieces (writtenBody s)) && not (identified59F s))
+unfolding isCarried isReadBack
 carried-is s =
-    go (not (lastEmpty (pieces (writtenBody s)))) (not (earlierCr (pieces (writtenBody s)))) (not (identified59F s)) (not (laterMark (pieces (writtenBody s))))
-    ∙ ap (λ (t : Bool). t && not (identified59F s)) (clauses (pieces (writtenBody s)) (pieces-length (writtenBody s)))
+    go (not (lastEmpty (pieces (writtenBody s)))) (not (earlierCr (pieces (writtenBody s)))) (not (identified59F s)) (not (laterBoundary (pieces (writtenBody s))))
   where
-    go : (a b c d : Bool) → (a && b && c && d) ≡ ((a && b && d) && c)
+    go : (a b c d : Bool) → ((a && b && c) && d) ≡ ((a && b && d) && c)
     go true true true true = refl
     go true true true false = refl
     go true true false true = refl

@@ -1,5 +1,7 @@
+pub mod Lines
 pub mod Runs
-pub mod Places
+pub mod Cases
+pub mod Bodies
 pub mod Tags
 pub mod Carried
 pub mod Structure
@@ -7,5 +9,5 @@ pub mod Moves
 pub mod Records
 pub mod Alone
 pub mod Fold
-pub mod Filings
+pub mod Addings
 pub mod Theorems

@@ -5,20 +5,23 @@ use mathlib.Core.List.{List, [], _∷_, _++_, append-assoc}
 use Prim.Native.Nat.{ℕ, suc, _+_, _≤_}
 use native.Mathlib.Omega.{arith}
 use lib.Dec.{leb, eqb}
-use lib.ListN.{length, length-append, List·getD-append}
+use lib.ListN.{length, drop, length-append, List·getD-append}
 use lib.Seq.{drop-append-seam, getD-append-seam}
 use borrow.Author.Tests.{le-leb}
 use Rattle.field_utils.specs.Lines.{upto, starts}
 use Rattle.writer.specs.Writing.{joined}
 use Rattle.writer.specs.ReadBack.{isEmpty}
 use Rattle.writer.proofs.Relined.{All, Line}
-use Rattle.pages.specs.Pages.{pageMost, lineAt, opens, endsPage, Tagged, untagged, tagged, tagIn, PageRead, ending, readTagged, readField, readLine, readPlace, startsLine, readable, readAt}
+use Rattle.pages.specs.Pages.{pageMost, lineAt, opens, endsPage, Tagged, untagged, tagged, tagIn, theEnd, PageRead, bodiless, readTagged, readField, startsLine, readable, lineCase, restCase, readCase, readBy, readAt}
 use Rattle.party.specs.Limits.{options}
-use Rattle.pages.specs.Filing.{anyMark, withLf, endLine}
+use Rattle.pages.specs.declared.ReadCase.{ReadCase}
+use Rattle.pages.specs.declared.ReadCase.the-variants.{Opening}
+use Rattle.pages.specs.Adding.{anyBoundary, withLf, endLine}
 use Rattle.pages.specs.WholePage.{Field, textOf, pageOf, Gives, ReadsAs}
-use Rattle.pages.proofs.Runs.{followed, upToMark, unmarked, text-cut, onward-cut, first-cut}
+use Rattle.pages.proofs.Cases.{rest-some}
+use Rattle.pages.proofs.Runs.{followed, upToBoundary, none-cut, text-cut, onward-cut, first-cut}
 
--- ---- a read at a place that a line starts at
+-- ---- a read at the start of a line
 starts-prefix : (pre s : List ℕ) → startsLine (pre ++ s) (length pre) ≡ startsLine pre (length pre)
 starts-prefix [] s = refl
 starts-prefix (b ∷ q) s = ap (λ (c : ℕ). eqb c 10) (List·getD-append (b ∷ q) s 0 (length q) (omega arith))
@@ -28,18 +31,15 @@ starts-after q =
     let n : length (q ++ 10 ∷ []) ≡ suc (length q) = let k = length-append q (10 ∷ []) in omega arith in
     ap (startsLine (q ++ 10 ∷ [])) n ∙ ap (λ (c : ℕ). eqb c 10) (getD-append-seam q 10 [] 0)
 
-pub read-at : (pre s : List ℕ) → startsLine pre (length pre) ≡ true → length (pre ++ s) ≤ pageMost → readAt (pre ++ s) (length pre) ≡ readPlace s (length pre)
-unfolding readAt
+pub read-at : (pre s : List ℕ) → startsLine pre (length pre) ≡ true → length (pre ++ s) ≤ pageMost → readAt (pre ++ s) (length pre) ≡ readBy (restCase s) s (length pre)
+unfolding readAt readCase
 read-at pre s h m =
     let a : leb (length (pre ++ s)) pageMost ≡ true = le-leb _ _ m in
     let b : leb (length pre) (length (pre ++ s)) ≡ true = le-leb (length pre) (length (pre ++ s)) (omega (arith, length-append pre s)) in
     let c : (eqb (length pre) (length (pre ++ s)) || startsLine (pre ++ s) (length pre)) ≡ true = rw (starts-prefix pre s, h) (or-true (eqb (length pre) (length (pre ++ s)))) in
     let d : readable (pre ++ s) (length pre) ≡ true = rw (b, c) in
-    rw (a, readAt) (rw d (ap (λ (x : List ℕ). readPlace x (length pre)) (drop-append-seam pre s)))
-
-place-some : (s : List ℕ) (at : ℕ) → isEmpty s ≡ false → readPlace s at ≡ readLine s at
-place-some [] at e = absurd (true≢false e)
-place-some (b ∷ s) at e = refl
+    let k : readCase (pre ++ s) (length pre) ≡ restCase (drop (length pre) (pre ++ s)) = rw (a, readCase) (rw d) in
+    ap (λ (x : ReadCase). readBy x (drop (length pre) (pre ++ s)) (length pre)) k ∙ ap (λ (x : List ℕ). readBy (restCase x) x (length pre)) (drop-append-seam pre s)
 
 opens-some : (l : List ℕ) → opens l ≡ true → isEmpty l ≡ false
 unfolding starts
@@ -57,27 +57,27 @@ joined-some l (m ∷ ms) e = append-some l _ e
 
 -- a field of lines is read up to the first later line that is an opening or end line
 pub read-cut : (l : List ℕ) (ls : List (List ℕ)) (rest : List ℕ) (at : ℕ) → All Line (l ∷ ls) → opens l ≡ true → followed rest ≡ true
-    → readPlace (joined (l ∷ ls) ++ 10 ∷ rest) at ≡ readField (joined (l ∷ upToMark ls)) (at + suc (length (joined (l ∷ upToMark ls))))
-unfolding readLine
-read-cut l ls rest at h o e =
-    let s = joined (l ∷ ls) ++ 10 ∷ rest in
-    let q : opens (lineAt s) ≡ true = ap opens (first-cut l ls rest h e) ∙ o in
-    place-some s at (append-some (joined (l ∷ ls)) (10 ∷ rest) (joined-some l ls (opens-some l o)))
-    ∙ rw (q, readLine) (rw (text-cut l ls rest h e, onward-cut l ls rest h e))
+    → (s : List ℕ) → s ≡ joined (l ∷ ls) ++ 10 ∷ rest → readBy (restCase s) s at ≡ readField (joined (l ∷ upToBoundary ls)) (at + suc (length (joined (l ∷ upToBoundary ls))))
+read-cut l ls rest at h o e s q =
+    let t = joined (l ∷ ls) ++ 10 ∷ rest in
+    let f : opens (lineAt t) ≡ true = ap opens (first-cut l ls rest h e) ∙ o in
+    let c : restCase t ≡ Opening = rest-some t (append-some (joined (l ∷ ls)) (10 ∷ rest) (joined-some l ls (opens-some l o))) ∙ rw (f, lineCase) in
+    ap (λ (x : List ℕ). readBy (restCase x) x at) q ∙ ap (λ (x : ReadCase). readBy x t at) c
+    ∙ rw (text-cut l ls rest h e, onward-cut l ls rest h e)
 
 -- ---- fields
 -- a text of lines that opens a field
 pub record Lined (text : List ℕ) : Type 0 where
   pub first : List ℕ
   pub later : List (List ℕ)
-  pub is : text ≡ joined (first ∷ later)
+  pub joins : text ≡ joined (first ∷ later)
   pub lines : All Line (first ∷ later)
   pub opening : opens first ≡ true
 
 -- a field that keeps its neighbours: no later line is an opening or end line, and its text is read as the field says
 pub record Sound (f : Field) : Type 0 where
   pub lined : Lined (textOf f)
-  pub unmarked : anyMark (lined .later) ≡ false
+  pub bounded : anyBoundary (lined .later) ≡ false
   pub gives : (next : ℕ) → Gives (readField (textOf f) next) f
 
 tagged-next : (t : Tagged) (next : ℕ) → readTagged t next .next ≡ next
@@ -98,7 +98,7 @@ page-followed [] h = refl
 page-followed (f ∷ fs) h =
     let d = h .0 .lined in
     let s = joined (d .first ∷ d .later) ++ 10 ∷ pageOf fs in
-    let q : pageOf (f ∷ fs) ≡ s = lf-in (textOf f) (pageOf fs) ∙ ap (λ (x : List ℕ). x ++ 10 ∷ pageOf fs) (d .is) in
+    let q : pageOf (f ∷ fs) ≡ s = lf-in (textOf f) (pageOf fs) ∙ ap (λ (x : List ℕ). x ++ 10 ∷ pageOf fs) (d .joins) in
     let m : lineAt s ≡ d .first = first-cut (d .first) (d .later) (pageOf fs) (d .lines) (page-followed fs (h .1)) in
     ap followed q ∙ rw m (rw (d .opening) (or-true (isEmpty s)))
 
@@ -112,21 +112,20 @@ module _ (f : Field) (s : Sound f) (fs : List Field) (h : All Sound fs) (pre : L
   read-first m =
       let d = s .lined in
       let t = joined (d .first ∷ d .later) in
-      let q : pageOf (f ∷ fs) ≡ t ++ 10 ∷ pageOf fs = lf-in (textOf f) (pageOf fs) ∙ ap (λ (x : List ℕ). x ++ 10 ∷ pageOf fs) (d .is) in
-      let r = read-cut (d .first) (d .later) (pageOf fs) (length pre) (d .lines) (d .opening) (page-followed fs h) in
+      let q : pageOf (f ∷ fs) ≡ t ++ 10 ∷ pageOf fs = lf-in (textOf f) (pageOf fs) ∙ ap (λ (x : List ℕ). x ++ 10 ∷ pageOf fs) (d .joins) in
+      let r = read-cut (d .first) (d .later) (pageOf fs) (length pre) (d .lines) (d .opening) (page-followed fs h) (pageOf (f ∷ fs)) q in
       let n : length pre + suc (length t) ≡ length (pre ++ withLf (textOf f)) =
-      let x = length-append pre (withLf (textOf f)) in let y = length-append (textOf f) (10 ∷ []) in let z = ap length (d .is) in omega (arith, x, y, z) in
-      read-at pre (pageOf (f ∷ fs)) a m
-      ∙ ap (λ (x : List ℕ). readPlace x (length pre)) q ∙ r
-      ∙ ap (λ (x : List (List ℕ)). readField (joined (d .first ∷ x)) (length pre + suc (length (joined (d .first ∷ x))))) (unmarked (d .later) (s .unmarked))
+      let x = length-append pre (withLf (textOf f)) in let y = length-append (textOf f) (10 ∷ []) in let z = ap length (d .joins) in omega (arith, x, y, z) in
+      read-at pre (pageOf (f ∷ fs)) a m ∙ r
+      ∙ ap (λ (x : List (List ℕ)). readField (joined (d .first ∷ x)) (length pre + suc (length (joined (d .first ∷ x))))) (none-cut (d .later) (s .bounded))
       ∙ ap (readField t) n
-      ∙ ap (λ (x : List ℕ). readField x (length (pre ++ withLf (textOf f)))) (sym (d .is))
+      ∙ ap (λ (x : List ℕ). readField x (length (pre ++ withLf (textOf f)))) (sym (d .joins))
 
-read-end : (pre : List ℕ) → startsLine pre (length pre) ≡ true → length (pre ++ endLine) ≤ pageMost → readAt (pre ++ endLine) (length pre) ≡ ending (length (pre ++ endLine))
-unfolding readLine lineAt upto starts endsPage
-read-end pre a m = read-at pre endLine a m ∙ ap ending (sym (length-append pre endLine))
+read-end : (pre : List ℕ) → startsLine pre (length pre) ≡ true → length (pre ++ endLine) ≤ pageMost → readAt (pre ++ endLine) (length pre) ≡ bodiless theEnd (length (pre ++ endLine))
+unfolding lineAt upto starts endsPage
+read-end pre a m = read-at pre endLine a m ∙ ap (bodiless theEnd) (sym (length-append pre endLine))
 
--- the reads of a page from any place at which fields and the end follow
+-- the reads of a page from any position at which fields and the end follow
 pub structure : (fs : List Field) → All Sound fs → (pre : List ℕ) → startsLine pre (length pre) ≡ true → length (pre ++ pageOf fs) ≤ pageMost → ReadsAs (pre ++ pageOf fs) (length pre) fs
 unfolding ReadsAs pageOf
 structure [] h pre a m = read-end pre a m

@@ -2,25 +2,28 @@
 use mathlib.Core.Path.{_≡_, refl, sym, _∙_, ap, subst}
 use mathlib.Core.Bool.{Bool, true, false, _&&_, and-false, and-true}
 use mathlib.Core.List.{List, [], _∷_}
-use Prim.Native.Nat.{ℕ, _+_, _≤_, _<_}
+use Prim.Native.Nat.{ℕ, suc, _+_, _%_, _≤_, _<_}
+use native.Mathlib.Numerals.{add-one}
 use native.Mathlib.Omega.{arith}
 use lib.Dec.{eqb}
 use lib.ListN.{length, drop, getD, drop-of-length-le}
 use lib.Seq.{drop-cons}
 use borrow.Author.Tests.{eqb-true, ne-eqb}
 use Rattle.party.specs.declared.PartyOption.{PartyOption}
-use Rattle.party.specs.declared.PartyOption.the-variants.{Field50NoOption, Field50A, Field50F, Field50K, Field50C, Field50L, Field50G, Field50H, Field59NoOption, Field59A, Field59F}
-use Rattle.party.specs.Limits.{limitsOf}
+use Rattle.party.specs.declared.PartyOption.the-variants.{Field50NoOption}
+use Rattle.party.specs.Limits.{limitsOf, optionAt}
 use Rattle.writer.specs.Writing.{tagOf}
 use Rattle.writer.proofs.Tests.{both-right}
-use Rattle.pages.specs.declared.Tag.the-variants.{Unknown}
+use Rattle.pages.specs.declared.Tag.the-variants.{Unknown, Known}
+use Rattle.pages.specs.declared.Tag.{Tag}
 use Rattle.pages.specs.Pages.{begins, untagged, tagged, tagIn}
 use Rattle.party.specs.Limits.{options}
-use Rattle.pages.specs.Code.{toldTag, knownIn}
+use Rattle.pages.specs.Code.{toldTag, hasTag, knownIn}
+use Rattle.party.proofs.Options.{by-option}
 
 -- ---- the form of a tag: `:5`, a digit, a letter or none, `:`
 abbrev digitOf : PartyOption → ℕ
-digitOf o = getD (tagOf o) 2 0
+digitOf o = 48 + limitsOf o .field % 10
 
 abbrev letterOf : PartyOption → ℕ
 letterOf o = limitsOf o .letter
@@ -29,30 +32,11 @@ abbrev tailOf : ℕ → List ℕ
 tailOf letter = elim (eqb letter 0) [ true ↦ 58 ∷ [] | false ↦ letter ∷ 58 ∷ [] ]
 
 tag-form : (o : PartyOption) → tagOf o ≡ 58 ∷ 53 ∷ digitOf o ∷ tailOf (letterOf o)
-tag-form Field50NoOption = refl
-tag-form Field50A = refl
-tag-form Field50F = refl
-tag-form Field50K = refl
-tag-form Field50C = refl
-tag-form Field50L = refl
-tag-form Field50G = refl
-tag-form Field50H = refl
-tag-form Field59NoOption = refl
-tag-form Field59A = refl
-tag-form Field59F = refl
+unfolding tagOf
+tag-form = by-option (λ (o : PartyOption). tagOf o ≡ 58 ∷ 53 ∷ digitOf o ∷ tailOf (letterOf o)) refl refl refl refl refl refl refl refl refl refl refl
 
 no-colon : (o : PartyOption) → eqb (letterOf o) 58 ≡ false
-no-colon Field50NoOption = refl
-no-colon Field50A = refl
-no-colon Field50F = refl
-no-colon Field50K = refl
-no-colon Field50C = refl
-no-colon Field50L = refl
-no-colon Field50G = refl
-no-colon Field50H = refl
-no-colon Field59NoOption = refl
-no-colon Field59A = refl
-no-colon Field59F = refl
+no-colon = by-option (λ (o : PartyOption). eqb (letterOf o) 58 ≡ false) refl refl refl refl refl refl refl refl refl refl refl
 
 -- ---- a text that begins with no tag
 none-in : (os : List PartyOption) (text : List ℕ) → ((o : PartyOption) → begins (tagOf o) text ≡ false) → tagIn os text ≡ untagged
@@ -191,37 +175,26 @@ module _ (d c : ℕ) (n : c ≡ 58 → ⊥) where
             let q : letterOf o ≡ c = eqb-true (letterOf o) c e in
             tag-length d (c ∷ 58 ∷ s) o ∙ rw (ne-eqb (letterOf o) 0 (λ p. z (sym q ∙ p)), tailOf)
 
--- ---- digits and letters of no tag
-unknown-in : (d letter skip : ℕ) (os : List PartyOption) → ((o : PartyOption) → eqb (digitOf o) d ≡ false) → knownIn os d letter skip ≡ Unknown
-unfolding knownIn
-unknown-in d letter skip [] h = refl
-unknown-in d letter skip (o ∷ os) h = rw (h o, knownIn) (unknown-in d letter skip os h)
+-- ---- the options from a place of the table on
+module _ (d letter skip place : ℕ) where
+  abbrev known-from : ℕ → Tag
+  known-from k = knownIn (drop k options) d letter skip
 
-digit-is : (o : PartyOption) (d : ℕ) → eqb 48 d ≡ false → eqb 57 d ≡ false → eqb (digitOf o) d ≡ false
-digit-is Field50NoOption d a b = a
-digit-is Field50A d a b = a
-digit-is Field50F d a b = a
-digit-is Field50K d a b = a
-digit-is Field50C d a b = a
-digit-is Field50L d a b = a
-digit-is Field50G d a b = a
-digit-is Field50H d a b = a
-digit-is Field59NoOption d a b = b
-digit-is Field59A d a b = b
-digit-is Field59F d a b = b
+  one-more : {t : Bool} → place < length options → hasTag (optionAt place) d letter ≡ t → known-from place ≡ (elim t [ true ↦ Known (optionAt place) skip | false ↦ known-from (suc place) ])
+  unfolding optionAt knownIn
+  one-more h e =
+      ap (λ (os : List PartyOption). knownIn os d letter skip) (drop-cons options place Field50NoOption h)
+      ∙ ap (λ (b : Bool). elim b as (λ x. Tag) [ true ↦ Known (optionAt place) skip | false ↦ known-from (suc place) ]) e
 
-pub unknown-digit : (d letter skip : ℕ) → (d ≡ 48 → ⊥) → (d ≡ 57 → ⊥) → knownIn options d letter skip ≡ Unknown
-unknown-digit d letter skip a b = unknown-in d letter skip options (λ o. digit-is o d (ne-eqb 48 d (λ e. a (sym e))) (ne-eqb 57 d (λ e. b (sym e))))
+  pub known-here : place < length options → hasTag (optionAt place) d letter ≡ true → known-from place ≡ Known (optionAt place) skip
+  known-here h e = one-more h e
 
-pub unknown-59 : (letter skip : ℕ) → (letter ≡ 0 → ⊥) → (letter ≡ 65 → ⊥) → (letter ≡ 70 → ⊥) → knownIn options 57 letter skip ≡ Unknown
-unfolding knownIn
-unknown-59 letter skip a b c = rw (ne-eqb 0 letter (λ e. a (sym e)), ne-eqb 65 letter (λ e. b (sym e)), ne-eqb 70 letter (λ e. c (sym e)), knownIn)
+  pub known-next : place < length options → hasTag (optionAt place) d letter ≡ false → known-from place ≡ known-from (place + 1)
+  known-next h e = one-more h e ∙ ap known-from (sym (add-one place))
 
-pub unknown-50 : (letter skip : ℕ) → (letter ≡ 0 → ⊥) → (letter ≡ 65 → ⊥) → (letter ≡ 70 → ⊥) → (letter ≡ 75 → ⊥) → (letter ≡ 67 → ⊥) → (letter ≡ 76 → ⊥)
-    → (letter ≡ 71 → ⊥) → (letter ≡ 72 → ⊥) → knownIn options 48 letter skip ≡ Unknown
-unfolding knownIn
-unknown-50 letter skip n a f k c l g h =
-    rw (ne-eqb 0 letter (λ e. n (sym e)), ne-eqb 65 letter (λ e. a (sym e)), ne-eqb 70 letter (λ e. f (sym e)), ne-eqb 75 letter (λ e. k (sym e)), ne-eqb 67 letter (λ e. c (sym e)), ne-eqb 76 letter (λ e. l (sym e)), ne-eqb 71 letter (λ e. g (sym e)), ne-eqb 72 letter (λ e. h (sym e)), knownIn)
+  pub known-none : length options ≤ place → known-from place ≡ Unknown
+  unfolding knownIn
+  known-none h = ap (λ (os : List PartyOption). knownIn os d letter skip) (drop-of-length-le options {i = place} h)
 
 -- ---- by the bytes of a text
 pub at-first : (text : List ℕ) → 4 ≤ length text → (getD text 0 0 ≡ 58 → ⊥) → tagIn options text ≡ untagged

@@ -1,5 +1,5 @@
 pub mod Pages
-pub mod Filing
+pub mod Adding
 pub mod WholePage
 pub mod Demand3
 pub mod Code

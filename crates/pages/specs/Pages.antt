@@ -1,25 +1,30 @@
--- Pages: lines, fields, and a read at a position (document 01, 'Pages (added)').
-use Prim.Native.Nat.{ℕ, zero, suc, _+_, min}
+-- Pages: lines, fields, and a read at a position (document 01, 'Pages (added)'). What follows a position is the rest of the page from there.
+use Prim.Native.Nat.{ℕ, zero, suc, _+_, _-_, min}
 use mathlib.Core.Bool.{Bool, true, false, _&&_, _||_}
 use mathlib.Core.List.{List, [], _∷_}
 use lib.Dec.{leb, eqb}
 use lib.ListN.{length, take, drop, getD}
-use Rattle.errors.specs.Refusals.{accepted, refused, told}
+use Rattle.errors.specs.Refusals.{Reply, accepted, refused, refusalOf}
 use Rattle.party.specs.declared.PartyOption.{PartyOption}
+use Rattle.party.specs.declared.Party.{Party}
 use Rattle.party.specs.Limits.{options}
 use Rattle.party.specs.Party.{blank}
 use Rattle.field_utils.specs.Lines.{upto, starts}
-use Rattle.reader.specs.Reading.{Reading}
 use Rattle.reader.specs.Options.{read}
 use Rattle.writer.specs.Writing.{tagOf}
 use Rattle.writer.specs.ReadBack.{isEmpty}
-use Rattle.pages.specs.declared.PageRead.{PageRead as Read}
+use Rattle.pages.specs.declared.PageRead.{PageRead as ReadAt}
+use Rattle.pages.specs.declared.BodyPlace.{BodyPlace}
+use Rattle.pages.specs.declared.ReadOutcome.{ReadOutcome as OutcomeAt}
+use Rattle.pages.specs.declared.ReadOutcome.the-variants.{Record, End, Refused}
+use Rattle.pages.specs.declared.ReadCase.{ReadCase}
+use Rattle.pages.specs.declared.ReadCase.the-variants.{TooLong, NoStart, AtLength, Opening, Ending, Stray}
 
 -- at most 32,768 bytes
 abbrev pub pageMost : ℕ
 pageMost = 32768
 
--- the line at a place, which is the rest of the page from there: a page line ends at LF only
+-- the first line of a rest: a page line ends at LF only
 unfoldable pub lineAt : List ℕ → List ℕ
 lineAt s = take (upto 10 s) s
 
@@ -33,20 +38,20 @@ endsPage [] = false
 endsPage (b ∷ l) = eqb b 45 && isEmpty l
 
 -- an opening or end line
-abbrev pub marks : List ℕ → Bool
-marks l = opens l || endsPage l
+abbrev pub isBoundary : List ℕ → Bool
+isBoundary l = opens l || endsPage l
 
--- how far a field runs from a place: to before the LF that precedes the next opening or end line; where none follows, to the page's
--- length, less a last LF
+-- how far a field runs: to before the LF that precedes the next opening or end line; where none follows, to the page's length, less a
+-- last LF
 unfoldable pub runs : List ℕ → ℕ
 runs [] = 0
-runs (b ∷ s) = elim (eqb b 10 && (isEmpty s || marks (lineAt s))) [ true ↦ 0 | false ↦ suc (runs s) ]
+runs (b ∷ s) = elim (eqb b 10 && (isEmpty s || isBoundary (lineAt s))) [ true ↦ 0 | false ↦ suc (runs s) ]
 
 -- how far the next opening or end line, or the page's length, is
 abbrev pub onward : List ℕ → ℕ
 onward s = min (length s) (suc (runs s))
 
--- how far it is past the line at a place
+-- how far it is past the first line
 abbrev pub pastLine : List ℕ → ℕ
 pastLine s = min (length s) (suc (upto 10 s))
 
@@ -66,42 +71,35 @@ unfoldable pub tagIn : List PartyOption → List ℕ → Tagged
 tagIn [] text = untagged
 tagIn (o ∷ os) text = elim (begins (tagOf o) text) [ true ↦ tagged o (drop (length (tagOf o)) text) | false ↦ tagIn os text ]
 
--- what a read gives: a record or a refusal, as a reader gives it, or the end; the part of the page that is the body; the next position
+-- a read gives a record, the end, or a refusal with its number and body line
+pub data ReadOutcome : Type 0 where
+  aRecord : Party → ReadOutcome
+  theEnd : ReadOutcome
+  aRefusal : ℕ → ℕ → ReadOutcome
+
+-- with the part of the page that is the body, and the next position
 pub record PageRead : Type 0 where
-  pub ended : Bool
-  pub reading : Reading
+  pub outcome : ReadOutcome
   pub body : List ℕ
   pub next : ℕ
 
--- 15 to 18 and 21: a refusal with the blank record and an empty part
-abbrev pub refusing : ℕ → ℕ → PageRead
-refusing k next = record { ended = false; reading = record { reply = refused k 0; party = blank }; body = []; next = next }
+-- an empty part at 15 to 18, 21 and the end
+abbrev pub bodiless : ReadOutcome → ℕ → PageRead
+bodiless outcome next = record { outcome = outcome; body = []; next = next }
 
--- the end, with the blank record and an empty part
-abbrev pub ending : ℕ → PageRead
-ending next = record { ended = true; reading = record { reply = accepted; party = blank }; body = []; next = next }
+-- what an option's reader gives: its record, or its refusal
+abbrev pub outcomeOf : Reply → Party → ReadOutcome
+outcomeOf accepted p = aRecord p
+outcomeOf (refused k n) p = aRefusal k n
 
 -- a field: 15 where its tag is none of the eleven, else what the tag's option reads of the body
 abbrev pub readTagged : Tagged → ℕ → PageRead
-readTagged untagged next = refusing 15 next
-readTagged (tagged o body) next = record { ended = false; reading = read o body; body = body; next = next }
+readTagged untagged next = bodiless (aRefusal 15 0) next
+readTagged (tagged o body) next = record { outcome = outcomeOf (read o body .reply) (read o body .party); body = body; next = next }
 
 -- by the tags of the eleven
 unfoldable pub readField : List ℕ → ℕ → PageRead
 readField text next = readTagged (tagIn options text) next
-
--- by the line at a place: a field, the end, or 16
-unfoldable pub readLine : List ℕ → ℕ → PageRead
-readLine s at =
-    elim (opens (lineAt s)) [
-      | true ↦ readField (take (runs s) s) (at + onward s)
-      | false ↦ elim (endsPage (lineAt s)) [ true ↦ ending (at + pastLine s) | false ↦ refusing 16 (at + onward s) ]
-    ]
-
--- 17: a read at the page's length
-abbrev pub readPlace : List ℕ → ℕ → PageRead
-readPlace [] at = refusing 17 at
-readPlace (b ∷ s) at = readLine (b ∷ s) at
 
 -- a position that is 0, or after an LF
 abbrev pub startsLine : List ℕ → ℕ → Bool
@@ -112,14 +110,72 @@ startsLine page (suc at) = eqb (getD page at 0) 10
 abbrev pub readable : List ℕ → ℕ → Bool
 readable page at = leb at (length page) && (eqb at (length page) || startsLine page at)
 
--- a read at a position: 18, 21, 17 or 16, 15, then the body's
-unfoldable pub readAt : List ℕ → ℕ → PageRead
-readAt page at =
+-- the first line of a rest opens a field, ends the page, or does neither
+abbrev pub lineCase : List ℕ → ReadCase
+lineCase s = elim (opens (lineAt s)) [ true ↦ Opening | false ↦ elim (endsPage (lineAt s)) [ true ↦ Ending | false ↦ Stray ] ]
+
+-- there is none at the page's length
+abbrev pub restCase : List ℕ → ReadCase
+restCase [] = AtLength
+restCase (b ∷ s) = lineCase (b ∷ s)
+
+-- which case a read is: a page over 32,768, no position to read at, the page's length, or a line
+unfoldable pub readCase : List ℕ → ℕ → ReadCase
+readCase page at =
     elim (leb (length page) pageMost) [
-      | true ↦ elim (readable page at) [ true ↦ readPlace (drop at page) at | false ↦ refusing 21 at ]
-      | false ↦ refusing 18 at
+      | true ↦ elim (readable page at) [ true ↦ restCase (drop at page) | false ↦ NoStart ]
+      | false ↦ TooLong
     ]
 
+-- what each case reads of the rest from a position on: 18, 21, 17; a field, the end, or 16
+abbrev pub readBy : ReadCase → List ℕ → ℕ → PageRead
+readBy TooLong s at = bodiless (aRefusal 18 0) at
+readBy NoStart s at = bodiless (aRefusal 21 0) at
+readBy AtLength s at = bodiless (aRefusal 17 0) at
+readBy Opening s at = readField (take (runs s) s) (at + onward s)
+readBy Ending s at = bodiless theEnd (at + pastLine s)
+readBy Stray s at = bodiless (aRefusal 16 0) (at + onward s)
+
+-- a read at a position: 18, 21, 17 or 16, 15, then the body's
+unfoldable pub readAt : List ℕ → ℕ → PageRead
+readAt page at = readBy (readCase page at) (drop at page) at
+
+-- a field opens there
+abbrev pub isOpening : ReadCase → Bool
+isOpening TooLong = false
+isOpening NoStart = false
+isOpening AtLength = false
+isOpening Opening = true
+isOpening Ending = false
+isOpening Stray = false
+
+-- no body: no field, or a tag that is none of the eleven
+abbrev pub noBody : BodyPlace
+noBody = record { start = 0; len = 0 }
+
+-- where a body stands in the page, by its field's tag and the position to which the field runs: the rest after the tag
+abbrev pub bodyIn : Tagged → ℕ → BodyPlace
+bodyIn untagged to = noBody
+bodyIn (tagged o body) to = record { start = to - length body; len = length body }
+
+-- that of the field at a position; proofs/Bodies.antt has `body-there`: the bytes there are the read's body
+unfoldable pub bodyPlace : List ℕ → ℕ → BodyPlace
+bodyPlace page at =
+    let s = drop at page in
+    elim (isOpening (readCase page at)) [ true ↦ bodyIn (tagIn options (take (runs s) s)) (at + runs s) | false ↦ noBody ]
+
+-- what an outcome of the code says, with the record beside it
+abbrev pub toldOutcome : OutcomeAt → Party → ReadOutcome
+toldOutcome Record p = aRecord p
+toldOutcome End p = theEnd
+toldOutcome (Refused e) p = aRefusal (refusalOf e .number) (refusalOf e .line)
+
 -- what the code's answer says, with the part of the page that is the body
-abbrev pub toldRead : Read → List ℕ → PageRead
-toldRead r body = record { ended = r .ended; reading = record { reply = told (r .outcome); party = r .party }; body = body; next = r .next }
+abbrev pub toldRead : ReadAt → List ℕ → PageRead
+toldRead r body = record { outcome = toldOutcome (r .outcome) (r .party); body = body; next = r .next }
+
+-- the record beside an outcome: blank but for a record
+abbrev pub partyBeside : ReadOutcome → Party
+partyBeside (aRecord p) = p
+partyBeside theEnd = blank
+partyBeside (aRefusal k n) = blank

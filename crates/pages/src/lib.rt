@@ -3,45 +3,66 @@
 use errors::Outcome;
 use errors::ParseError;
 use field_utils::lines::find_lf;
+use party::OPTION_COUNT;
 use party::Party;
 use party::PartyOption;
 use party::blank;
+use party::index_of;
+use party::limits_of;
+use party::option_at;
 use reader::behind;
 use reader::read;
+use writer::FIELD_MOST;
 use writer::is_given;
 use writer::put_field;
+use writer::put_text;
 use writer::tag_length;
 use writer::written_length;
 ghost use mathlib.Core.Path.{_≡_};
 ghost use mathlib.Core.Bool.{false, true};
 ghost use Prim.Native.Nat.{suc, _+_, _-_, _≤_, _<_, min};
 ghost use lib.ListN.{length, take, drop};
-ghost use Rattle.errors.specs.declared.Outcome.the-variants.{Accepted, Refused};
 ghost use Rattle.party.specs.Party.{blank as blankParty, said};
 ghost use Rattle.pages.specs.declared.Tag.the-variants.{Known};
-ghost use Rattle.pages.specs.Pages.{pageMost, lineAt, opens, endsPage, runs, tagIn, readField, readable, readAt, toldRead};
+ghost use Rattle.pages.specs.declared.ReadOutcome.the-variants.{End, Refused};
+ghost use Rattle.pages.specs.Pages.{pageMost, lineAt, opens, endsPage, runs, tagIn, readField, readable, readCase, readAt, toldRead, partyBeside, isOpening, noBody, bodyIn, bodyPlace};
 ghost use Rattle.party.specs.Limits.{options};
 ghost use Rattle.writer.specs.Writing.{pieces, writtenField};
 ghost use Rattle.writer.specs.Code.{Puts};
 ghost use Rattle.writer.specs.ReadBack.{endsCr, identified59F};
-ghost use Rattle.pages.specs.Filing.{isCarried, writable, hasSpace, withLf, add as addTo, close as closeAt, toldFiled};
-ghost use Rattle.pages.specs.Code.{areCarried, is59F, toldTag, knownIn, isOpening, placeAt};
+ghost use Rattle.pages.specs.Adding.{isCarried, writable, hasSpace, withLf, add as addTo, close as closeAt, toldCall};
+ghost use Rattle.pages.specs.Code.{linesCarried, toldTag, hasTag, knownIn};
 
-// What a read gives: the end, or accepted with the record, or refused with the blank record; and the next position.
+// A read gives a record, the end, or a refusal.
+pub enum ReadOutcome {
+    Record,
+    End,
+    Refused(ParseError),
+}
+
+// The most bytes of a page.
+pub const PAGE_MOST: usize = 32768;
+
+// What a read gives, with the record, which is blank but where it gives one, and the next position.
 pub struct PageRead {
-    pub ended: bool,
-    pub outcome: Outcome,
+    pub outcome: ReadOutcome,
     pub party: Party,
     pub next: usize,
 }
 
-// What stands at a position.
-enum Place {
+// Where a body stands in the page, and its length; 0 and 0 where there is none.
+pub struct BodyPlace {
+    pub start: usize,
+    pub len: usize,
+}
+
+// Which case a read is: a page that is too long, no position to read at, the page's length, or by the line there.
+enum ReadCase {
     TooLong,
-    NoPlace,
+    NoStart,
     AtLength,
     Opening,
-    End,
+    Ending,
     Stray,
 }
 
@@ -51,7 +72,7 @@ enum Tag {
     Known { option: PartyOption, skip: usize },
 }
 
-// Whether the line at a place starts with a colon.
+// Whether the line at a position starts with a colon.
 fn opens_at(page: &[u8], at: usize) -> bool
     ensures { λ r. ⌜ r ≡ opens (lineAt (drop at (now (page .entry)))) ⌝ }
 {
@@ -61,7 +82,7 @@ fn opens_at(page: &[u8], at: usize) -> bool
     page[at] == b':'
 }
 
-// Whether the line at a place is a lone hyphen.
+// Whether the line at a position is a lone hyphen.
 fn ends_at(page: &[u8], at: usize) -> bool
     ensures { λ r. ⌜ r ≡ endsPage (lineAt (drop at (now (page .entry)))) ⌝ }
 {
@@ -78,7 +99,7 @@ fn ends_at(page: &[u8], at: usize) -> bool
     page[next] == b'\n'
 }
 
-// Where the field at a place runs to.
+// Where the field at a position runs to.
 fn runs_to(page: &[u8], at: usize) -> usize
     requires { ⌜ at ≤ length (now page) ⌝ }
     ensures { λ r. ⌜ r ≡ at + runs (drop at (now (page .entry))) ⌝ }
@@ -103,7 +124,7 @@ fn runs_to(page: &[u8], at: usize) -> usize
     }
 }
 
-// The place after a place, at most the length.
+// The position after an LF, at most the length.
 fn past(page: &[u8], lf: usize) -> usize
     ensures { λ r. ⌜ r ≡ min (length (now (page .entry))) (suc lf) ⌝ }
 {
@@ -133,62 +154,28 @@ fn tagged(option: PartyOption, skip: usize) -> Tag
     Tag::Known { option, skip }
 }
 
-// The option of field 50 with a letter, 0 for none.
-fn known_50(letter: u8, skip: usize) -> Tag
-    ensures { λ r. ⌜ r ≡ knownIn options 48 letter skip ⌝ }
+// Whether an option has a tag with this last digit of its field and this letter, 0 for none.
+fn has_tag(option: PartyOption, digit: u8, letter: u8) -> bool
+    ensures { λ r. ⌜ r ≡ hasTag option digit letter ⌝ }
 {
-    if letter == 0 {
-        return tagged(PartyOption::Field50NoOption, skip);
+    let limits = limits_of(option);
+    if b'0' + limits.field % 10 != digit {
+        return false;
     }
-    if letter == b'A' {
-        return tagged(PartyOption::Field50A, skip);
-    }
-    if letter == b'F' {
-        return tagged(PartyOption::Field50F, skip);
-    }
-    if letter == b'K' {
-        return tagged(PartyOption::Field50K, skip);
-    }
-    if letter == b'C' {
-        return tagged(PartyOption::Field50C, skip);
-    }
-    if letter == b'L' {
-        return tagged(PartyOption::Field50L, skip);
-    }
-    if letter == b'G' {
-        return tagged(PartyOption::Field50G, skip);
-    }
-    if letter == b'H' {
-        return tagged(PartyOption::Field50H, skip);
-    }
-    Tag::Unknown
+    limits.letter == letter
 }
 
-// The option of field 59 with a letter, 0 for none.
-fn known_59(letter: u8, skip: usize) -> Tag
-    ensures { λ r. ⌜ r ≡ knownIn options 57 letter skip ⌝ }
-{
-    if letter == 0 {
-        return tagged(PartyOption::Field59NoOption, skip);
-    }
-    if letter == b'A' {
-        return tagged(PartyOption::Field59A, skip);
-    }
-    if letter == b'F' {
-        return tagged(PartyOption::Field59F, skip);
-    }
-    Tag::Unknown
-}
-
-// The option of a tag by the last digit of its field and its letter.
+// The option of such a tag.
 fn known(digit: u8, letter: u8, skip: usize) -> Tag
     ensures { λ r. ⌜ r ≡ knownIn options digit letter skip ⌝ }
 {
-    if digit == b'0' {
-        return known_50(letter, skip);
-    }
-    if digit == b'9' {
-        return known_59(letter, skip);
+    let mut place = 0;
+    while place < OPTION_COUNT {
+        let option = option_at(place);
+        if has_tag(option, digit, letter) {
+            return tagged(option, skip);
+        }
+        place += 1;
     }
     Tag::Unknown
 }
@@ -221,35 +208,34 @@ fn parse_tag(text: &[u8]) -> Tag
     known(text[2], text[3], 5)
 }
 
-// What stands at a position, in the order 18, 21, 17, then by the line.
-fn place_at(page: &[u8], at: usize) -> Place
-    ensures { λ r. ⌜ r ≡ placeAt (now (page .entry)) at ⌝ }
+// Which case a read is, in the order 18, 21, 17, then by the line.
+fn read_case(page: &[u8], at: usize) -> ReadCase
+    ensures { λ r. ⌜ r ≡ readCase (now (page .entry)) at ⌝ }
 {
-    if 32768 < page.len() {
-        return Place::TooLong;
+    if PAGE_MOST < page.len() {
+        return ReadCase::TooLong;
     }
     if !is_readable(page, at) {
-        return Place::NoPlace;
+        return ReadCase::NoStart;
     }
     if page.len() <= at {
-        return Place::AtLength;
+        return ReadCase::AtLength;
     }
     if opens_at(page, at) {
-        return Place::Opening;
+        return ReadCase::Opening;
     }
     if ends_at(page, at) {
-        return Place::End;
+        return ReadCase::Ending;
     }
-    Place::Stray
+    ReadCase::Stray
 }
 
 // A refusal, with the blank record beside it.
 fn refuse(e: ParseError, next: usize) -> PageRead
-    ensures { λ r. ⌜ r ≡ record { ended = false; outcome = Refused e; party = blankParty; next = next } ⌝ }
+    ensures { λ r. ⌜ r ≡ record { outcome = Refused e; party = blankParty; next = next } ⌝ }
 {
     PageRead {
-        ended: false,
-        outcome: Outcome::Refused(e),
+        outcome: ReadOutcome::Refused(e),
         party: blank(),
         next,
     }
@@ -257,11 +243,10 @@ fn refuse(e: ParseError, next: usize) -> PageRead
 
 // The end, with the blank record beside it.
 fn end(next: usize) -> PageRead
-    ensures { λ r. ⌜ r ≡ record { ended = true; outcome = Accepted; party = blankParty; next = next } ⌝ }
+    ensures { λ r. ⌜ r ≡ record { outcome = End; party = blankParty; next = next } ⌝ }
 {
     PageRead {
-        ended: true,
-        outcome: Outcome::Accepted,
+        outcome: ReadOutcome::End,
         party: blank(),
         next,
     }
@@ -270,6 +255,7 @@ fn end(next: usize) -> PageRead
 // A field's text by its tag: 15, or what the option's reader says of the body.
 fn read_field(text: &[u8], next: usize) -> PageRead
     ensures { λ r. ⌜ toldRead r (readField (now (text .entry)) next .body) ≡ readField (now (text .entry)) next ⌝ }
+    ensures beside { λ r. ⌜ r .party ≡ partyBeside (readField (now (text .entry)) next .outcome) ⌝ }
 {
     let tag = parse_tag(text);
     let Tag::Known { option, skip } = tag else {
@@ -278,71 +264,100 @@ fn read_field(text: &[u8], next: usize) -> PageRead
     let answer = read(option, behind(text, skip));
     let outcome = answer.outcome;
     let party = answer.party;
-    PageRead {
-        ended: false,
-        outcome,
-        party,
-        next,
+    match outcome {
+        Outcome::Accepted => PageRead {
+            outcome: ReadOutcome::Record,
+            party,
+            next,
+        },
+        Outcome::Refused(e) => PageRead {
+            outcome: ReadOutcome::Refused(e),
+            party,
+            next,
+        },
     }
-}
-
-// The body of a field's text, empty where the tag is none of the eleven.
-fn field_body(text: &[u8]) -> &[u8]
-    ensures { λ r. ⌜ now r ≡ readField (now (text .entry)) 0 .body ⌝ }
-{
-    let tag = parse_tag(text);
-    let Tag::Known { option: _, skip } = tag else {
-        return &text[..0];
-    };
-    behind(text, skip)
 }
 
 // Reads the page at a position: the record, the refusal or the end, with the next position.
 pub fn read_at(page: &[u8], at: usize) -> PageRead
     ensures { λ r. ⌜ toldRead r (readAt (now (page .entry)) at .body) ≡ readAt (now (page .entry)) at ⌝ }
+    ensures beside { λ r. ⌜ r .party ≡ partyBeside (readAt (now (page .entry)) at .outcome) ⌝ }
 {
-    match place_at(page, at) {
-        Place::TooLong => refuse(ParseError::PageTooLong, at),
-        Place::NoPlace => refuse(ParseError::Position, at),
-        Place::AtLength => refuse(ParseError::PageLength, at),
-        Place::Opening => {
+    match read_case(page, at) {
+        ReadCase::TooLong => refuse(ParseError::PageTooLong, at),
+        ReadCase::NoStart => refuse(ParseError::Position, at),
+        ReadCase::AtLength => refuse(ParseError::PageLength, at),
+        ReadCase::Opening => {
             let to = runs_to(page, at);
             read_field(&page[at..to], past(page, to))
         }
-        Place::End => end(past(page, find_lf(page, at))),
-        Place::Stray => refuse(ParseError::StrayLine, past(page, runs_to(page, at))),
+        ReadCase::Ending => end(past(page, find_lf(page, at))),
+        ReadCase::Stray => refuse(ParseError::StrayLine, past(page, runs_to(page, at))),
     }
 }
 
 // Whether a field opens there.
-fn is_opening(place: Place) -> bool
-    ensures { λ r. ⌜ r ≡ isOpening place ⌝ }
+fn is_opening(case: ReadCase) -> bool
+    ensures { λ r. ⌜ r ≡ isOpening case ⌝ }
 {
-    match place {
-        Place::TooLong => false,
-        Place::NoPlace => false,
-        Place::AtLength => false,
-        Place::Opening => true,
-        Place::End => false,
-        Place::Stray => false,
+    match case {
+        ReadCase::TooLong => false,
+        ReadCase::NoStart => false,
+        ReadCase::AtLength => false,
+        ReadCase::Opening => true,
+        ReadCase::Ending => false,
+        ReadCase::Stray => false,
     }
+}
+
+// No body: there is no field, or its tag is none of the eleven.
+fn nowhere() -> BodyPlace
+    ensures { λ r. ⌜ r ≡ noBody ⌝ }
+{
+    BodyPlace { start: 0, len: 0 }
+}
+
+// Where the body of a field stands, by the field's text and the position to which it runs.
+fn body_in(text: &[u8], to: usize) -> BodyPlace
+    requires { ⌜ length (now text) ≤ to ⌝ }
+    ensures { λ r. ⌜ r ≡ bodyIn (tagIn options (now (text .entry))) to ⌝ }
+{
+    let tag = parse_tag(text);
+    let Tag::Known { option: _, skip } = tag else {
+        return nowhere();
+    };
+    let len = behind(text, skip).len();
+    BodyPlace {
+        start: to - len,
+        len,
+    }
+}
+
+// Where the body of the field at a position stands in the page.
+pub fn body_place(page: &[u8], at: usize) -> BodyPlace
+    ensures { λ r. ⌜ r ≡ bodyPlace (now (page .entry)) at ⌝ }
+{
+    if !is_opening(read_case(page, at)) {
+        return nowhere();
+    }
+    let to = runs_to(page, at);
+    body_in(&page[at..to], to)
 }
 
 // The body of the field at a position, as a part of the page: empty at 15 to 18, 21 and the end.
 pub fn body_at(page: &[u8], at: usize) -> &[u8]
     ensures { λ r. ⌜ now r ≡ readAt (now (page .entry)) at .body ⌝ }
 {
-    if !is_opening(place_at(page, at)) {
-        return &page[..0];
-    }
-    let to = runs_to(page, at);
-    field_body(&page[at..to])
+    let place = body_place(page, at);
+    let start = place.start;
+    let end = start + place.len;
+    &page[start..end]
 }
 
-// What adding and closing give: accepted with the position after, or refused with the position that was handed in.
-pub struct Filed {
-    pub outcome: Outcome,
-    pub position: usize,
+// Adding and closing answer the position after, or a refusal.
+pub enum Filed {
+    Position(usize),
+    Refused(ParseError),
 }
 
 // Whether a position is one to write at: 0, or after an LF.
@@ -362,7 +377,7 @@ fn is_writable(buf: &[u8], at: usize) -> bool
 fn page_space(len: usize) -> usize
     ensures { λ r. ⌜ r ≡ min len pageMost ⌝ }
 {
-    if len < 32768 { len } else { 32768 }
+    if len < PAGE_MOST { len } else { PAGE_MOST }
 }
 
 // Whether so many bytes from a position on pass neither the buffer nor a page.
@@ -376,7 +391,7 @@ fn has_space(len: usize, at: usize, more: usize) -> bool
     more <= most - at
 }
 
-// Whether the part of a body from one place to another ends in CR.
+// Whether the part of a body from one position to another ends in CR.
 fn ends_cr(body: &[u8], start: usize, end: usize) -> bool
     requires { ⌜ end ≤ length (now body) ⌝ }
     ensures { λ r. ⌜ r ≡ endsCr (take (end - start) (drop start (now (body .entry)))) ⌝ }
@@ -390,7 +405,7 @@ fn ends_cr(body: &[u8], start: usize, end: usize) -> bool
 // Whether the pieces of a body are lines that a page carries: an earlier one does not end in CR, a later one neither opens a field nor
 // ends the page, and the last is not empty.
 fn are_carried(body: &[u8]) -> bool
-    ensures { λ r. ⌜ r ≡ areCarried (pieces (now (body .entry))) ⌝ }
+    ensures { λ r. ⌜ r ≡ linesCarried (pieces (now (body .entry))) ⌝ }
 {
     let mut i = 0;
     loop {
@@ -412,25 +427,6 @@ fn are_carried(body: &[u8]) -> bool
     }
 }
 
-// Whether an option is 59F.
-fn is_59f(option: PartyOption) -> bool
-    ensures { λ r. ⌜ r ≡ is59F option ⌝ }
-{
-    match option {
-        PartyOption::Field50NoOption => false,
-        PartyOption::Field50A => false,
-        PartyOption::Field50F => false,
-        PartyOption::Field50K => false,
-        PartyOption::Field50C => false,
-        PartyOption::Field50L => false,
-        PartyOption::Field50G => false,
-        PartyOption::Field50H => false,
-        PartyOption::Field59NoOption => false,
-        PartyOption::Field59A => false,
-        PartyOption::Field59F => true,
-    }
-}
-
 // Whether a record is a 59F with an identifier.
 fn is_identified_59f(p: Party) -> bool
     ensures { λ r. ⌜ r ≡ identified59F (said p) ⌝ }
@@ -439,7 +435,7 @@ fn is_identified_59f(p: Party) -> bool
         return false;
     }
     let option = p.option;
-    is_59f(option)
+    index_of(option) == index_of(PartyOption::Field59F)
 }
 
 // Whether a page carries a record, by its written field.
@@ -455,77 +451,51 @@ fn is_carried(p: Party, field: &[u8]) -> bool
     are_carried(&field[start..])
 }
 
-// Puts a text and an LF into the buffer at a place, and gives the place after it.
+// Puts a text and an LF into the buffer at a position, and gives the position after them.
 fn put_line(buf: &mut [u8], at: usize, text: &[u8]) -> usize
     requires { ⌜ at + length (now text) < length (now buf) ⌝ }
     ensures { λ r. ⌜ Puts (now (buf .entry)) at (withLf (now (text .entry))) (now (buf .exit)) r ⌝ }
 {
-    let mut i = 0;
-    while i < text.len() {
-        buf[at + i] = text[i];
-        i += 1;
-    }
-    let end = at + i;
+    put_text(text, buf, at);
+    let end = at + text.len();
     buf[end] = b'\n';
     end + 1
-}
-
-// A refusal, with the position that was handed in.
-fn refuse_at(e: ParseError, position: usize) -> Filed
-    ensures { λ r. ⌜ r ≡ record { outcome = Refused e; position = position } ⌝ }
-{
-    Filed {
-        outcome: Outcome::Refused(e),
-        position,
-    }
-}
-
-// Accepted, with the position after.
-fn accept_at(position: usize) -> Filed
-    ensures { λ r. ⌜ r ≡ record { outcome = Accepted; position = position } ⌝ }
-{
-    Filed {
-        outcome: Outcome::Accepted,
-        position,
-    }
 }
 
 // Adds a record to the page at a position: 21, 22, 23, 24. Its field is written out once, to see the lines as they would stand, and then
 // copied.
 pub fn add(p: Party, buf: &mut [u8], at: usize) -> Filed
-    ensures { λ r. ⌜ toldFiled r (now (buf .exit)) ≡ addTo (now (buf .entry)) at (said p) ⌝ }
+    ensures { λ r. ⌜ toldCall r (now (buf .exit)) ≡ addTo (now (buf .entry)) at (said p) ⌝ }
 {
     if !is_writable(buf, at) {
-        return refuse_at(ParseError::Position, at);
+        return Filed::Refused(ParseError::Position);
     }
     if !is_given(p) {
-        return refuse_at(ParseError::NoSuchRecord, at);
+        return Filed::Refused(ParseError::NoSuchRecord);
     }
     let n = written_length(p);
-    let mut room = [0u8; 188];
+    let mut room = [0u8; FIELD_MOST];
     put_field(p, &mut room, 0);
     if !is_carried(p, &room[..n]) {
-        return refuse_at(ParseError::NotCarried, at);
+        return Filed::Refused(ParseError::NotCarried);
     }
     if !has_space(buf.len(), at, n + 3) {
-        return refuse_at(ParseError::NoSpace, at);
+        return Filed::Refused(ParseError::NoSpace);
     }
     let end = put_line(buf, at, &room[..n]);
-    accept_at(end)
+    Filed::Position(end)
 }
 
 // Closes the page at a position: 21, 24.
 pub fn close(buf: &mut [u8], at: usize) -> Filed
-    ensures { λ r. ⌜ toldFiled r (now (buf .exit)) ≡ closeAt (now (buf .entry)) at ⌝ }
+    ensures { λ r. ⌜ toldCall r (now (buf .exit)) ≡ closeAt (now (buf .entry)) at ⌝ }
 {
     if !is_writable(buf, at) {
-        return refuse_at(ParseError::Position, at);
+        return Filed::Refused(ParseError::Position);
     }
     if !has_space(buf.len(), at, 2) {
-        return refuse_at(ParseError::NoSpace, at);
+        return Filed::Refused(ParseError::NoSpace);
     }
-    let next = at + 1;
-    buf[at] = b'-';
-    buf[next] = b'\n';
-    accept_at(next + 1)
+    let end = put_line(buf, at, b"-");
+    Filed::Position(end)
 }

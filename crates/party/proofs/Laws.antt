@@ -11,7 +11,7 @@ use lib.ListN.{length, getD, take, set, replicate, length-append, length-take}
 use lib.Seq.{take-suc, take-all, take-take, getD-take, set-at, append-snoc, length-take-le}
 use Rattle.party.specs.declared.Text.{Text}
 use Rattle.party.specs.Decides.{Decides}
-use Rattle.party.specs.Text.{padded, textOf, Used, used}
+use Rattle.party.specs.Text.{padded, textOf, Used, used, textMost}
 use Rattle.party.specs.Party.{where-limit}
 
 -- ---- tests
@@ -79,17 +79,17 @@ module _ {A : Type 0} where
 
 -- ---- padded texts
 -- one more byte of s
-pub padded-more : (s : List ℕ) (i : ℕ) → i < 38 → i < length s → set (padded (take i s)) i (getD s i 0) ≡ padded (take (i + 1) s)
+pub padded-more : (s : List ℕ) (i : ℕ) → i < textMost → i < length s → set (padded (take i s)) i (getD s i 0) ≡ padded (take (i + 1) s)
 unfolding padded
 padded-more s i h k =
     let one : take (i + 1) s ≡ take i s ++ (getD s i 0 ∷ []) = rw add-one (take-suc s i 0 k) in
     let at : length (take i s) ≡ i = length-take-le i s (omega arith) in
-    let room : 38 - length (take i s) ≡ suc (38 - (i + 1)) = omega arith in
-    let left : 38 - length (take i s ++ (getD s i 0 ∷ [])) ≡ 38 - (i + 1) = rw length-append (omega arith) in
-    rw (one, left, append-snoc, room) (set-at (take i s) 0 (replicate (38 - (i + 1)) 0) (getD s i 0) i at)
+    let room : textMost - length (take i s) ≡ suc (textMost - (i + 1)) = omega arith in
+    let left : textMost - length (take i s ++ (getD s i 0 ∷ [])) ≡ textMost - (i + 1) = rw length-append (omega arith) in
+    rw (one, left, append-snoc, room) (set-at (take i s) 0 (replicate (textMost - (i + 1)) 0) (getD s i 0) i at)
 
 -- where all of s, or 38 bytes of it, are in, it is the text of s
-pub padded-all : (s : List ℕ) (i : ℕ) → i ≡ min 38 (length s) → (record { bytes = padded (take i s); len = i }) ≡ textOf s
+pub padded-all : (s : List ℕ) (i : ℕ) → i ≡ min textMost (length s) → (record { bytes = padded (take i s); len = i }) ≡ textOf s
 unfolding textOf
 padded-all s i h =
-    rw (take-min 38 s i h, length-take-le i s (omega arith))
+    rw (take-min textMost s i h, length-take-le i s (omega arith))

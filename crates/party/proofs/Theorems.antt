@@ -1,6 +1,6 @@
 -- What the definitions of texts and of sameness come to.
 -- Assumes nothing.
-use Prim.Native.Nat.{ℕ, _≤_}
+use Prim.Native.Nat.{ℕ, _-_, _≤_}
 use mathlib.Core.Path.{_≡_, refl, ap}
 use mathlib.Core.Bool.{Bool, true, false, true≢false}
 use mathlib.Core.List.{List, [], _∷_, head-eq-of-cons-eq}
@@ -9,13 +9,13 @@ use lib.Seq.{take-all, take-append-seam}
 use Rattle.party.specs.declared.PartyOption.the-variants.{Field50K}
 use Rattle.party.specs.declared.Text.{Text}
 use Rattle.party.specs.declared.Party.{Party}
-use Rattle.party.specs.Text.{padded, textOf, used}
+use Rattle.party.specs.Text.{padded, textOf, used, textMost}
 use Rattle.party.specs.Party.{Said, said, Same}
 
 -- the text of at most 38 bytes holds those, with their length
-pub used-text : (l : List ℕ) → length l ≤ 38 → used (textOf l) ≡ record { len = length l; bytes = l }
+pub used-text : (l : List ℕ) → length l ≤ textMost → used (textOf l) ≡ record { len = length l; bytes = l }
 unfolding textOf padded
-used-text l h = rw (take-all 38 l h, take-append-seam)
+used-text l h = rw (take-all textMost l h, take-append-seam l (replicate (textMost - length l) 0))
 
 -- a 50K record of one name whose fourth text has length 99 is the same as the one with that text blank
 abbrev oneName : Text → Party
@@ -28,7 +28,7 @@ oneName fourth = record {
   «name_and_address» = textOf (65 ∷ []) ∷ textOf [] ∷ textOf [] ∷ fourth ∷ [];
 }
 
-pub unused-name : Same (oneName (record { bytes = replicate 38 255; len = 99 })) (oneName (textOf []))
+pub unused-name : Same (oneName (record { bytes = replicate textMost 255; len = 99 })) (oneName (textOf []))
 unfolding said textOf padded
 unused-name = refl
 

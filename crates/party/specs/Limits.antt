@@ -1,40 +1,31 @@
 -- The limits of the eleven options (document 01, field50.rs and field59.rs), in the order of document 01.
 use Prim.Native.Nat.{ℕ}
+use mathlib.Core.Bool.{true, false}
 use mathlib.Core.List.{List, [], _∷_}
+use lib.ListN.{getD}
 use Rattle.party.specs.declared.PartyOption.{PartyOption}
 use Rattle.party.specs.declared.PartyOption.the-variants.{Field50NoOption, Field50A, Field50F, Field50K, Field50C, Field50L, Field50G, Field50H, Field59NoOption, Field59A, Field59F}
 use Rattle.party.specs.declared.Limits.{Limits}
+use Rattle.party.specs.declared.Layout.the-variants.{BicOnly, TextOnly, ByLines}
+use Rattle.party.specs.declared.First.the-variants.{NoAccount, Identified, Account, ShortAccount, SlashAccount, AnyAccount, WholeLine}
+use Rattle.party.specs.declared.Numbering.the-variants.{Unnumbered, Numbered, InTurn}
 
--- a row of the table ('The limits of the eleven options stand in one constant table')
-abbrev pub row : ℕ → ℕ → ℕ → ℕ → ℕ → ℕ → ℕ → ℕ → ℕ → Limits
-row field letter least most shortest longest bic names name =
-    record {
-      field = field;
-      letter = letter;
-      least = least;
-      most = most;
-      shortest = shortest;
-      longest = longest;
-      bic = bic;
-      names = names;
-      name = name;
-    }
-
--- An option's limits (field50.rs and field59.rs): the field of its tag, the letter (0 for none); the lines counted first (0 and
--- 2,048 where they are not, which no body of at most 2,048 bytes exceeds); the account, or the identifier after its slashes (50F and 50L:
--- the whole line); the BIC, of which only 0 for none is used; the names, and the text of a name.
+-- The table ('The limits of the eleven options stand in one constant table'; field50.rs and field59.rs): the field of the tag, its letter
+-- (0 for none); the lines counted first, at least and at most (0 where any more will do); what the body is, and its first line; the account's length,
+-- or the identifier's after its slashes (50F and 50L: all of it), whether a slash is written before it and an empty line after it; how many
+-- BICs and names there are; the length of a name's text, and how the lines of names are numbered.
 abbrev pub limitsOf : PartyOption → Limits
-limitsOf Field50NoOption = row 50 0 1 4 0 0 0 4 35
-limitsOf Field50A = row 50 65 1 2048 0 34 11 0 0
-limitsOf Field50F = row 50 70 2 2048 1 35 0 4 33
-limitsOf Field50K = row 50 75 1 2048 0 34 0 4 35
-limitsOf Field50C = row 50 67 0 2048 0 0 11 0 0
-limitsOf Field50L = row 50 76 0 2048 1 35 0 0 0
-limitsOf Field50G = row 50 71 2 2 1 34 11 0 0
-limitsOf Field50H = row 50 72 2 2048 1 34 0 4 35
-limitsOf Field59NoOption = row 59 0 1 2048 0 34 0 4 35
-limitsOf Field59A = row 59 65 1 2048 0 34 11 0 0
-limitsOf Field59F = row 59 70 1 2048 0 34 0 4 33
+limitsOf Field50NoOption = record { field = 50; letter = 0; least = 1; most = 4; layout = ByLines; first = NoAccount; shortest = 0; longest = 0; slash = false; gap = false; bic = 0; names = 4; name = 35; numbering = Unnumbered }
+limitsOf Field50A = record { field = 50; letter = 65; least = 1; most = 0; layout = ByLines; first = Identified; shortest = 0; longest = 34; slash = true; gap = false; bic = 1; names = 0; name = 0; numbering = Unnumbered }
+limitsOf Field50F = record { field = 50; letter = 70; least = 2; most = 0; layout = ByLines; first = WholeLine; shortest = 1; longest = 35; slash = false; gap = false; bic = 0; names = 4; name = 33; numbering = Numbered }
+limitsOf Field50K = record { field = 50; letter = 75; least = 1; most = 0; layout = ByLines; first = Account; shortest = 0; longest = 34; slash = true; gap = false; bic = 0; names = 4; name = 35; numbering = Unnumbered }
+limitsOf Field50C = record { field = 50; letter = 67; least = 0; most = 0; layout = BicOnly; first = NoAccount; shortest = 0; longest = 0; slash = false; gap = false; bic = 1; names = 0; name = 0; numbering = Unnumbered }
+limitsOf Field50L = record { field = 50; letter = 76; least = 0; most = 0; layout = TextOnly; first = WholeLine; shortest = 1; longest = 35; slash = false; gap = false; bic = 0; names = 0; name = 0; numbering = Unnumbered }
+limitsOf Field50G = record { field = 50; letter = 71; least = 2; most = 2; layout = ByLines; first = SlashAccount; shortest = 1; longest = 34; slash = true; gap = false; bic = 1; names = 0; name = 0; numbering = Unnumbered }
+limitsOf Field50H = record { field = 50; letter = 72; least = 2; most = 0; layout = ByLines; first = AnyAccount; shortest = 1; longest = 34; slash = true; gap = false; bic = 0; names = 4; name = 35; numbering = Unnumbered }
+limitsOf Field59NoOption = record { field = 59; letter = 0; least = 1; most = 0; layout = ByLines; first = ShortAccount; shortest = 0; longest = 34; slash = true; gap = false; bic = 0; names = 4; name = 35; numbering = Unnumbered }
+limitsOf Field59A = record { field = 59; letter = 65; least = 1; most = 0; layout = ByLines; first = ShortAccount; shortest = 0; longest = 34; slash = true; gap = false; bic = 1; names = 0; name = 0; numbering = Unnumbered }
+limitsOf Field59F = record { field = 59; letter = 70; least = 1; most = 0; layout = ByLines; first = Identified; shortest = 0; longest = 34; slash = true; gap = true; bic = 0; names = 4; name = 33; numbering = InTurn }
 
 -- the eleven options, in the order of the table and of document 01
 abbrev pub options : List PartyOption
@@ -55,3 +46,7 @@ placeOf Field50H = 7
 placeOf Field59NoOption = 8
 placeOf Field59A = 9
 placeOf Field59F = 10
+
+-- the option at a place in the table, the first where there is none
+unfoldable pub optionAt : ℕ → PartyOption
+optionAt place = getD options place Field50NoOption

@@ -5,13 +5,17 @@ use mathlib.Core.List.{List, [], _∷_, _++_, map}
 use lib.ListN.{length, getD, take, replicate}
 use Rattle.party.specs.declared.Text.{Text}
 
--- 38 bytes: those of a list of at most as many, and zeros ('Readers zero unused bytes')
-unfoldable pub padded : List ℕ → List ℕ
-padded l = l ++ replicate (38 - length l) 0
+-- at most 38 bytes ('each with its length, at most 38 bytes')
+abbrev pub textMost : ℕ
+textMost = 38
 
--- the text of a list's first 38 bytes ('each with its length, at most 38 bytes')
+-- as many bytes: those of a list of at most as many, and zeros ('Readers zero unused bytes')
+unfoldable pub padded : List ℕ → List ℕ
+padded l = l ++ replicate (textMost - length l) 0
+
+-- the text of a list's first bytes, as many as it holds
 unfoldable pub textOf : List ℕ → Text
-textOf l = record { bytes = padded (take 38 l); len = length (take 38 l) }
+textOf l = record { bytes = padded (take textMost l); len = length (take textMost l) }
 
 -- four texts by value: those of a list, then empty ones
 unfoldable pub fourTexts : List (List ℕ) → List Text
@@ -28,6 +32,6 @@ used t = record { len = t .len; bytes = take (t .len) (t .bytes) }
 
 -- a text as Rattle has it: 38 bytes, and a length that is a usize ('a fixed byte array and a length per text')
 pub record IsText (t : Text) : Type 0 where
-  pub size : length (t .bytes) ≡ 38
+  pub size : length (t .bytes) ≡ textMost
   pub byte : (i : ℕ) → getD (t .bytes) i 0 < 256
   pub fits : t .len < 2 ^ 64

@@ -2,7 +2,7 @@
 // the option beside one record. The limits of the eleven options stand here in one table.
 ghost use mathlib.Core.Path.{_≡_};
 ghost use mathlib.Core.List.{[], _∷_};
-ghost use Rattle.party.specs.Limits.{limitsOf, placeOf};
+ghost use Rattle.party.specs.Limits.{limitsOf, placeOf, optionAt};
 ghost use Rattle.party.specs.Text.{textOf, used};
 ghost use Rattle.party.specs.Party.{IsParty, blank as blankParty, where-limit, namesOf, Same};
 ghost use Rattle.party.specs.Decides.{Decides};
@@ -22,9 +22,12 @@ pub enum PartyOption {
     Field59F,
 }
 
+// The most bytes that a text holds.
+pub const TEXT_MOST: usize = 38;
+
 // A text by value: the first len bytes.
 pub struct Text {
-    pub bytes: [u8; 38],
+    pub bytes: [u8; TEXT_MOST],
     pub len: usize,
 }
 
@@ -38,22 +41,54 @@ pub struct Party {
     pub name_and_address: [Text; 4],
 }
 
-// The limits of an option.
+// What a body is to an option: a BIC, a text, or lines.
+pub enum Layout {
+    BicOnly,
+    TextOnly,
+    ByLines,
+}
+
+// What the first line is to an option: no account or identifier, an identifier, or an account, whose forms differ.
+pub enum First {
+    NoAccount,
+    Identified,
+    Account,
+    ShortAccount,
+    SlashAccount,
+    AnyAccount,
+    WholeLine,
+}
+
+// How the lines of names are numbered: not at all, with any digits, or in turn.
+pub enum Numbering {
+    Unnumbered,
+    Numbered,
+    InTurn,
+}
+
+// All that is said of an option: a row of the table.
 pub struct Limits {
     // the tag: its field, 50 or 59, and its letter, 0 for none
     pub field: u8,
     pub letter: u8,
-    // how many lines the body has, where they are counted first
+    // how many lines the body has, where they are counted first; most is 0 where any more will do
     pub least: usize,
     pub most: usize,
+    // what the body is, and what its first line is
+    pub layout: Layout,
+    pub first: First,
     // the length of the account, or of the identifier after its slashes; longest is 0 where the option has none
     pub shortest: usize,
     pub longest: usize,
-    // the longest BIC, 0 where the option has none
+    // whether a slash is written before it, and an empty line after it
+    pub slash: bool,
+    pub gap: bool,
+    // how many BICs there are, and how many names there may be
     pub bic: usize,
-    // how many names there may be, 0 where the option has none, and how long the text of each may be
     pub names: usize,
+    // how long the text of a name may be, and how the lines of names are numbered
     pub name: usize,
+    pub numbering: Numbering,
 }
 
 const LIMITS: [Limits; 11] = [
@@ -63,71 +98,101 @@ const LIMITS: [Limits; 11] = [
         letter: 0,
         least: 1,
         most: 4,
+        layout: Layout::ByLines,
+        first: First::NoAccount,
         shortest: 0,
         longest: 0,
+        slash: false,
+        gap: false,
         bic: 0,
         names: 4,
         name: 35,
+        numbering: Numbering::Unnumbered,
     },
     // Field50A
     Limits {
         field: 50,
         letter: b'A',
         least: 1,
-        most: 2048,
+        most: 0,
+        layout: Layout::ByLines,
+        first: First::Identified,
         shortest: 0,
         longest: 34,
-        bic: 11,
+        slash: true,
+        gap: false,
+        bic: 1,
         names: 0,
         name: 0,
+        numbering: Numbering::Unnumbered,
     },
     // Field50F
     Limits {
         field: 50,
         letter: b'F',
         least: 2,
-        most: 2048,
+        most: 0,
+        layout: Layout::ByLines,
+        first: First::WholeLine,
         shortest: 1,
         longest: 35,
+        slash: false,
+        gap: false,
         bic: 0,
         names: 4,
         name: 33,
+        numbering: Numbering::Numbered,
     },
     // Field50K
     Limits {
         field: 50,
         letter: b'K',
         least: 1,
-        most: 2048,
+        most: 0,
+        layout: Layout::ByLines,
+        first: First::Account,
         shortest: 0,
         longest: 34,
+        slash: true,
+        gap: false,
         bic: 0,
         names: 4,
         name: 35,
+        numbering: Numbering::Unnumbered,
     },
     // Field50C
     Limits {
         field: 50,
         letter: b'C',
         least: 0,
-        most: 2048,
+        most: 0,
+        layout: Layout::BicOnly,
+        first: First::NoAccount,
         shortest: 0,
         longest: 0,
-        bic: 11,
+        slash: false,
+        gap: false,
+        bic: 1,
         names: 0,
         name: 0,
+        numbering: Numbering::Unnumbered,
     },
     // Field50L
     Limits {
         field: 50,
         letter: b'L',
         least: 0,
-        most: 2048,
+        most: 0,
+        layout: Layout::TextOnly,
+        first: First::WholeLine,
         shortest: 1,
         longest: 35,
+        slash: false,
+        gap: false,
         bic: 0,
         names: 0,
         name: 0,
+        numbering: Numbering::Unnumbered,
     },
     // Field50G
     Limits {
@@ -135,65 +200,90 @@ const LIMITS: [Limits; 11] = [
         letter: b'G',
         least: 2,
         most: 2,
+        layout: Layout::ByLines,
+        first: First::SlashAccount,
         shortest: 1,
         longest: 34,
-        bic: 11,
+        slash: true,
+        gap: false,
+        bic: 1,
         names: 0,
         name: 0,
+        numbering: Numbering::Unnumbered,
     },
     // Field50H
     Limits {
         field: 50,
         letter: b'H',
         least: 2,
-        most: 2048,
+        most: 0,
+        layout: Layout::ByLines,
+        first: First::AnyAccount,
         shortest: 1,
         longest: 34,
+        slash: true,
+        gap: false,
         bic: 0,
         names: 4,
         name: 35,
+        numbering: Numbering::Unnumbered,
     },
     // Field59NoOption
     Limits {
         field: 59,
         letter: 0,
         least: 1,
-        most: 2048,
+        most: 0,
+        layout: Layout::ByLines,
+        first: First::ShortAccount,
         shortest: 0,
         longest: 34,
+        slash: true,
+        gap: false,
         bic: 0,
         names: 4,
         name: 35,
+        numbering: Numbering::Unnumbered,
     },
     // Field59A
     Limits {
         field: 59,
         letter: b'A',
         least: 1,
-        most: 2048,
+        most: 0,
+        layout: Layout::ByLines,
+        first: First::ShortAccount,
         shortest: 0,
         longest: 34,
-        bic: 11,
+        slash: true,
+        gap: false,
+        bic: 1,
         names: 0,
         name: 0,
+        numbering: Numbering::Unnumbered,
     },
     // Field59F
     Limits {
         field: 59,
         letter: b'F',
         least: 1,
-        most: 2048,
+        most: 0,
+        layout: Layout::ByLines,
+        first: First::Identified,
         shortest: 0,
         longest: 34,
+        slash: true,
+        gap: true,
         bic: 0,
         names: 4,
         name: 33,
+        numbering: Numbering::InTurn,
     },
 ];
 
 // The text that holds nothing.
 pub const NOTHING: Text = Text {
-    bytes: [0u8; 38],
+    bytes: [0u8; TEXT_MOST],
     len: 0,
 };
 
@@ -213,6 +303,36 @@ pub fn index_of(option: PartyOption) -> usize
         PartyOption::Field59NoOption => 8,
         PartyOption::Field59A => 9,
         PartyOption::Field59F => 10,
+    }
+}
+
+// How many options there are.
+pub const OPTION_COUNT: usize = 11;
+
+// The options in the order of the table.
+const OPTIONS: [PartyOption; OPTION_COUNT] = [
+    PartyOption::Field50NoOption,
+    PartyOption::Field50A,
+    PartyOption::Field50F,
+    PartyOption::Field50K,
+    PartyOption::Field50C,
+    PartyOption::Field50L,
+    PartyOption::Field50G,
+    PartyOption::Field50H,
+    PartyOption::Field59NoOption,
+    PartyOption::Field59A,
+    PartyOption::Field59F,
+];
+
+// The option at a place in the table, the first where there is none.
+pub fn option_at(place: usize) -> PartyOption
+    ensures { λ r. ⌜ r ≡ optionAt place ⌝ }
+{
+    let options = OPTIONS;
+    if place < 11 {
+        options[place]
+    } else {
+        options[0]
     }
 }
 
@@ -245,9 +365,9 @@ pub fn sized(p: Party)
 pub fn text_of(s: &[u8]) -> Text
     ensures { λ r. ⌜ r ≡ textOf (now (s .entry)) ⌝ }
 {
-    let mut bytes = [0u8; 38];
+    let mut bytes = [0u8; TEXT_MOST];
     let mut i = 0;
-    while i < 38 && i < s.len() {
+    while i < TEXT_MOST && i < s.len() {
         bytes[i] = s[i];
         i += 1;
     }
@@ -277,7 +397,7 @@ fn same_text(t: Text, u: Text) -> bool
     }
     let len = t.len;
     let mut i = 0;
-    while i < 38 && i < len {
+    while i < TEXT_MOST && i < len {
         if t.bytes[i] != u.bytes[i] {
             return false;
         }

@@ -14,11 +14,11 @@ use Rattle.swift_utils.specs.Checks.{parseSwiftChars, parseAccount}
 use Rattle.field_utils.specs.Lines.{upto, onto, starts}
 use Rattle.field_utils.specs.Names.{parseLine, parseLines, parseNameAndAddress}
 use Rattle.reader.specs.Reading.{partyOf}
-use Rattle.writer.specs.Writing.{nameLines, writtenLines, joined, writtenBody, writtenField, pieces}
+use Rattle.writer.specs.Writing.{nameLines, writtenLines, joined, writtenBody, writtenField, pieces, tagOf}
 use Rattle.writer.specs.Given.{isLine, areNames, isGiven}
-use Rattle.writer.specs.ReadBack.{endsCr, lastEmpty, earlierCr, identified59F}
+use Rattle.writer.specs.ReadBack.{endsCr, lastEmpty, earlierCr, identified59F, isReadBack}
 use Rattle.pages.specs.Pages.{endsPage}
-use Rattle.pages.specs.Filing.{anyMark, laterMark, isCarried, writable, recordReply, add, close}
+use Rattle.pages.specs.Adding.{anyBoundary, laterBoundary, isCarried, writable, positionAfter, refusal, recordReply, add, close}
 use Rattle.pages.specs.WholePage.{run}
 use Rattle.promises.specs.Starred.{gives}
 
@@ -43,12 +43,12 @@ pub record FilingRuledOut : Type 0 where
   pub cr-earlier : recordReply 40 0 (said (of (bytes "A\r" ∷ bytes "B" ∷ []))) ≡ refused 23 0
   pub empty-last : recordReply 40 0 (said (of (bytes "A" ∷ [] ∷ []))) ≡ refused 23 0
   -- closing that changes a byte after its LF
-  pub closed : close (bytes "abc") 0 ≡ record { reply = accepted; position = 2; buffer = bytes "-\nc" }
+  pub closed : close (bytes "abc") 0 ≡ record { answer = positionAfter 2; buffer = bytes "-\nc" }
   -- 21 before all else: a position within a line
-  pub position : add (bytes "abcdefghijkl") 1 (said (of [])) .reply ≡ refused 21 0
+  pub position : add (bytes "abcdefghijkl") 1 (said (of [])) .answer ≡ refusal 21 0
 
 pub filing-ruled-out : FilingRuledOut
-unfolding padded textOf said letter digit alphanumeric signs legal parseSwiftChars parseAccount upto onto starts parseLine parseLines parseNameAndAddress fourTexts partyOf nameLines writtenLines joined writtenBody writtenField pieces isLine areNames isGiven endsCr lastEmpty earlierCr identified59F endsPage anyMark laterMark isCarried writable recordReply add close run
+unfolding padded textOf said letter digit alphanumeric signs legal parseSwiftChars parseAccount upto onto starts parseLine parseLines parseNameAndAddress fourTexts partyOf nameLines writtenLines joined writtenBody writtenField pieces isLine areNames isGiven endsCr lastEmpty earlierCr identified59F endsPage isReadBack anyBoundary laterBoundary isCarried writable recordReply add close run tagOf
 filing-ruled-out = record {
   both-filed = refl;
   enough = refl;

@@ -1,13 +1,12 @@
--- Wrong programs that the contracts of `writer`, `pages`, `filing`, `flat` and `exports` rule out (document 01, 'For the auditor's form'),
+-- Wrong programs that the contracts of `writer`, `pages`, `filing`, `flat` and `yewdome` rule out (document 01, 'For the auditor's form'),
 -- each by computation. A field is named after its operation and the mistake, and its comment says what the wrong program does.
 use mathlib.Core.Path.{_≡_, refl}
 use mathlib.Core.Bool.{true, false}
 use mathlib.Core.List.{List, [], _∷_, _++_}
 use Prim.Native.Nat.{ℕ, _+_, _*_}
-use lib.ListN.{length, getD, replicate}
-use Rattle.errors.specs.Refusals.{refused}
+use lib.ListN.{length, getD, drop, replicate}
 use Rattle.party.specs.declared.PartyOption.the-variants.{Field50NoOption, Field50A, Field50F, Field50C, Field59NoOption, Field59A, Field59F}
-use Rattle.party.specs.Limits.{placeOf}
+use Rattle.party.specs.Limits.{placeOf, optionAt}
 use Rattle.party.specs.Text.{padded, textOf, fourTexts}
 use Rattle.party.specs.Party.{blank, said}
 use Rattle.swift_utils.specs.Bytes.{bytes, letter, digit, alphanumeric, signs, legal}
@@ -18,17 +17,16 @@ use Rattle.field_utils.specs.Identifier.{isNumbered, secondSlash, identifierRep
 use Rattle.field_utils.specs.Names.{parseLine, parseLines, parseNameAndAddress}
 use Rattle.reader.specs.Reading.{partyOf}
 use Rattle.reader.specs.Options.{accountHead, shortAccountHead, afterHead, read}
-use Rattle.choices.specs.Detection.{anyNumbered, firstLine, lastLine, bicLike, firstThat, pickOf, variantOf}
-use Rattle.field50.specs.Choices.{orderingCustomerAFK, orderingCustomerAFKBy}
-use Rattle.field59.specs.Choices.{testLine, field59, field59By}
+use Rattle.choices.specs.Detection.{anyNumbered, firstLine, lastLine, bicLike, testLine}
+use Rattle.choices.specs.Choices.{firstThat, parse, pickOf, parseWithVariant}
 use Rattle.writer.specs.Writing.{tagOf, nameLines, writtenLines, joined, writtenBody, writtenField, fits, placed, pieces}
 use Rattle.writer.specs.Given.{isLine, areNames, isGiven, written}
-use Rattle.writer.specs.ReadBack.{endsCr, lastEmpty, earlierCr, identified59F}
-use Rattle.pages.specs.Pages.{lineAt, endsPage, runs, begins, tagIn, readField, readLine, readAt}
-use Rattle.pages.specs.Filing.{anyMark, laterMark, isCarried, writable, recordReply, add, close}
-use Rattle.filing.specs.Filing.{fileRead, fileNext}
-use Rattle.flat.specs.Flat.{flatTexts, flatten, stored, optionAt, textAt, isFlat, partyFrom, unflatten}
-use Rattle.exports.specs.Exports.{choiceAt, partyRead, partyParse, partyParseWithVariant, partyWrite, pageRead, pageAdd, pageClose}
+use Rattle.writer.specs.ReadBack.{endsCr, lastEmpty, earlierCr, identified59F, isReadBack}
+use Rattle.pages.specs.Pages.{lineAt, endsPage, runs, begins, tagIn, readField, readCase, readAt, bodyPlace}
+use Rattle.pages.specs.Adding.{anyBoundary, laterBoundary, isCarried, writable, refusal, recordReply, add, close}
+use Rattle.filing.specs.Filing.{notAdded, fileNext}
+use Rattle.flat.specs.Flat.{recordSize, flatTexts, flatten, stored, textAt, isFlat, partyFrom, unflatten}
+use Rattle.yewdome.specs.Interface.{partyRead, partyParse, partyParseWithVariant, partyWrite, pageRead, pageBody, pageAdd, pageClose}
 use Rattle.promises.specs.Starred.{gives, fieldOf}
 use Rattle.promises.specs.Filing.{of}
 
@@ -45,9 +43,13 @@ pub record WriterOperations : Type 0 where
   pub put-field-asks-for-more : fits (bytes "abcdef") 0 (writtenField (said (of (bytes "A" ∷ [])))) ≡ true
   -- writes at the start, whatever the place
   pub put-field-starts-anew : placed (bytes "abcdefgh") 1 (writtenField (said (of (bytes "A" ∷ [])))) ≡ bytes "a:50K:Ah"
+  -- has no space for a text that fills the buffer to its end
+  pub put-text-asks-for-more : fits (bytes "abc") 1 (bytes "AB") ≡ true
+  -- changes the byte after the text
+  pub put-text-writes-on : placed (bytes "abcd") 1 (bytes "AB") ≡ bytes "aABd"
 
 pub writer-operations : WriterOperations
-unfolding padded textOf said fourTexts partyOf nameLines writtenLines joined writtenBody writtenField
+unfolding padded textOf said fourTexts partyOf nameLines writtenLines joined writtenBody writtenField tagOf
 writer-operations = record {
   tag-length-counts-a-letter = refl;
   tag-length-leaves-the-colon = refl;
@@ -55,58 +57,62 @@ writer-operations = record {
   written-length-leaves-numbers = refl;
   put-field-asks-for-more = refl;
   put-field-starts-anew = refl;
+  put-text-asks-for-more = refl;
+  put-text-writes-on = refl;
 }
 
 pub record PagesOperations : Type 0 where
+  -- gives the place in the field, and not in the page
+  pub body-place-counts-from-the-field : bodyPlace (bytes ":50K:A\n:50:BC\n-\n") 7 ≡ record { start = 11; len = 2 }
+  -- counts the LF that closes the field
+  pub body-place-counts-the-lf : bodyPlace (bytes ":50K:A\n-\n") 0 ≡ record { start = 5; len = 1 }
   -- tests 24 before 21
-  pub close-tests-space-first : close (bytes "ab") 1 .reply ≡ refused 21 0
+  pub close-tests-space-first : close (bytes "ab") 1 .answer ≡ refusal 21 0
 
 pub pages-operations : PagesOperations
-unfolding writable close
-pages-operations = record { close-tests-space-first = refl }
+unfolding upto starts lineAt endsPage runs begins tagIn readCase bodyPlace writable close tagOf
+pages-operations = record {
+  body-place-counts-from-the-field = refl;
+  body-place-counts-the-lf = refl;
+  close-tests-space-first = refl;
+}
 
 pub record FilingOperations : Type 0 where
   -- tells what the read says where the add refuses
-  pub file-next-tells-the-read : fileNext (bytes ":50K:A\n-\n") 0 (replicate 8 0) 0 .reply ≡ refused 24 0
+  pub file-next-tells-the-read : fileNext (bytes ":50K:A\n-\n") 0 (replicate 8 0) 0 .outcome ≡ notAdded 24 0
 
 pub filing-operations : FilingOperations
-unfolding padded textOf said letter digit alphanumeric signs legal parseSwiftChars parseAccount upto onto starts lines parseLine parseLines parseNameAndAddress fourTexts partyOf accountHead afterHead read nameLines writtenLines joined writtenBody writtenField pieces isLine areNames isGiven endsCr lastEmpty earlierCr identified59F lineAt endsPage runs begins tagIn readField readLine readAt anyMark laterMark isCarried writable recordReply add fileRead fileNext
+unfolding padded textOf said letter digit alphanumeric signs legal parseSwiftChars parseAccount upto onto starts lines parseLine parseLines parseNameAndAddress fourTexts partyOf accountHead afterHead read nameLines writtenLines joined writtenBody writtenField pieces isLine areNames isGiven endsCr lastEmpty earlierCr identified59F lineAt endsPage runs begins tagIn readField readCase readAt isReadBack anyBoundary laterBoundary isCarried writable recordReply add fileNext tagOf
 filing-operations = record { file-next-tells-the-read = refl }
-
-pub record FlatOperations : Type 0 where
-  -- starts the BIC at 41 for 42, where its length stands
-  pub store-shifts-the-bic : getD (stored (gives Field50C false [] (bytes "ABCDEFGH") [] .party) (replicate 237 0)) 42 0 ≡ 8
-  -- stores as much of a record as there is space for
-  pub store-gives-a-part : stored blank (bytes "abc") ≡ bytes "abc"
-  -- counts from 1
-  pub option-at-counts-from-1 : optionAt 1 ≡ Field50A
-  -- gives the last option where there is none
-  pub option-at-gives-the-last : optionAt 11 ≡ Field50NoOption
-  -- takes 237 bytes or more
-  pub load-takes-238 : unflatten (replicate 238 0) .ok ≡ false
-  -- takes a place that no option has
-  pub load-takes-place-11 : unflatten (11 ∷ replicate 236 0) .ok ≡ false
-
-pub flat-operations : FlatOperations
-unfolding padded textOf fourTexts partyOf flatTexts flatten stored optionAt isFlat unflatten
-flat-operations = record {
-  store-shifts-the-bic = refl;
-  store-gives-a-part = refl;
-  option-at-counts-from-1 = refl;
-  option-at-gives-the-last = refl;
-  load-takes-238 = refl;
-  load-takes-place-11 = refl;
-}
-
--- a lent record
-abbrev lent : List ℕ
-lent = replicate 237 7
 
 -- the 50K of one name, A, as bytes
 abbrev flatA : List ℕ
 flatA = flatten (of (bytes "A" ∷ []))
 
-pub record ExportsOperations : Type 0 where
+pub record FlatOperations : Type 0 where
+  -- starts the BIC at 41 for 42, where its length stands
+  pub store-shifts-the-bic : getD (stored (gives Field50C false [] (bytes "ABCDEFGH") [] .party) (replicate recordSize 0)) 42 0 ≡ 8
+  -- stores as much of a record as there is space for
+  pub store-gives-a-part : stored blank (bytes "abc") ≡ bytes "abc"
+  -- takes 237 bytes and no more
+  pub load-refuses-238 : unflatten (flatA ++ 7 ∷ []) ≡ of (bytes "A" ∷ [])
+  -- takes a place that no option has
+  pub load-takes-place-11 : unflatten (11 ∷ replicate recordSize 0) ≡ blank
+
+pub flat-operations : FlatOperations
+unfolding padded textOf fourTexts partyOf flatTexts flatten stored optionAt textAt isFlat partyFrom unflatten
+flat-operations = record {
+  store-shifts-the-bic = refl;
+  store-gives-a-part = refl;
+  load-refuses-238 = refl;
+  load-takes-place-11 = refl;
+}
+
+-- a lent record
+abbrev lent : List ℕ
+lent = replicate recordSize 7
+
+pub record YewdomeOperations : Type 0 where
   -- gives the number alone, without the line: an empty 50C is 9, line 1
   pub party-read-drops-the-line : partyRead (placeOf Field50C) [] lent .code ≡ 9 * 65536 + 1
   -- reads by the first option where there is none
@@ -120,15 +126,29 @@ pub record ExportsOperations : Type 0 where
   -- detects without a letter, and stores a 59A
   pub party-parse-with-variant-detects : getD (partyParseWithVariant 5 (bytes "ABCDEFGH") 0 lent .bytes) 0 0 ≡ placeOf Field59NoOption
   -- tests 24 before 22
-  pub party-write-tests-space-first : partyWrite [] [] .code ≡ 22 * 65536
+  pub party-write-tests-space-first : partyWrite (replicate recordSize 0) [] .code ≡ 22 * 65536
+  -- refuses a lent record of over 237 bytes
+  pub party-write-refuses-238 : partyWrite (flatA ++ 7 ∷ []) (replicate 6 0) .code ≡ 6
+  -- tests 41 before 42
+  pub party-write-tests-the-option-first : partyWrite (11 ∷ []) [] .code ≡ 42 * 65536
+  -- writes by the first option where there is none
+  pub party-write-takes-11 : partyWrite (11 ∷ replicate recordSize 0) [] .code ≡ 41 * 65536
   -- gives 0 where it accepts
   pub party-write-gives-0 : partyWrite flatA (replicate 6 0) ≡ record { code = 6; bytes = bytes ":50K:A" }
   -- does not tell the end from a record
   pub page-read-hides-the-end : pageRead (bytes "-\n") 0 lent .code ≡ 65536 + 2
   -- gives the next position, and not how far it is
   pub page-read-gives-the-position : pageRead (bytes ":50K:A\n-\n") 7 lent .code ≡ 65536 + 2
+  -- gives no place for an empty body of a known tag
+  pub page-body-leaves-the-empty : pageBody (bytes ":50K:\n-\n") 0 ≡ 5 * 4294967296
+  -- gives the place in the field, and not in the page
+  pub page-body-counts-from-the-field : pageBody (bytes ":50K:A\n:50:BC\n-\n") 7 ≡ 11 * 4294967296 + 2
+  -- gives the text after a tag that is none of the eleven
+  pub page-body-takes-any-tag : pageBody (bytes ":51A:A\n-\n") 0 ≡ 0
   -- files a record for bytes that are none
-  pub page-add-takes-none : pageAdd [] (replicate 9 0) 0 .code ≡ 22 * 65536
+  pub page-add-takes-none : pageAdd [] (replicate 9 0) 0 .code ≡ 42 * 65536
+  -- takes a presence of 2 for a yes
+  pub page-add-takes-presence-2 : pageAdd (3 ∷ 2 ∷ drop 2 flatA) (replicate 9 0) 0 .code ≡ 22 * 65536
   -- gives the length written, and not the position after
   pub page-add-gives-the-length : pageAdd flatA (bytes "X\n" ++ replicate 9 0) 2 .code ≡ 9
   -- gives 2, which it wrote, and not the page's length
@@ -136,9 +156,9 @@ pub record ExportsOperations : Type 0 where
   -- writes the hyphen before it tests the space
   pub page-close-writes-first : pageClose (bytes "X\na") 2 .bytes ≡ bytes "X\na"
 
-pub exports-operations : ExportsOperations
-unfolding padded textOf said letter digit alphanumeric signs legal parseSwiftChars parseAccount bicLength parseBic upto onto starts lines white trimmedStart keep trimmedEnd trimmed isNumbered secondSlash identifierReply parsePartyIdentifier parseLine parseLines parseNameAndAddress fourTexts partyOf accountHead shortAccountHead afterHead read anyNumbered firstLine lastLine bicLike firstThat pickOf variantOf orderingCustomerAFK orderingCustomerAFKBy testLine field59 field59By nameLines writtenLines joined writtenBody writtenField pieces isLine areNames isGiven written endsCr lastEmpty earlierCr identified59F lineAt endsPage runs begins tagIn readField readLine readAt anyMark laterMark isCarried writable recordReply add close flatTexts flatten stored optionAt textAt isFlat partyFrom unflatten choiceAt
-exports-operations = record {
+pub yewdome-operations : YewdomeOperations
+unfolding padded textOf said letter digit alphanumeric signs legal parseSwiftChars parseAccount bicLength parseBic upto onto starts lines white trimmedStart keep trimmedEnd trimmed isNumbered secondSlash identifierReply parsePartyIdentifier parseLine parseLines parseNameAndAddress fourTexts partyOf accountHead shortAccountHead afterHead read anyNumbered firstLine lastLine bicLike firstThat pickOf testLine nameLines writtenLines joined writtenBody writtenField pieces isLine areNames isGiven written endsCr lastEmpty earlierCr identified59F lineAt endsPage runs begins tagIn readField readAt isCarried writable recordReply add close flatTexts flatten stored optionAt textAt isFlat partyFrom unflatten parse parseWithVariant readCase isReadBack anyBoundary laterBoundary bodyPlace tagOf
+yewdome-operations = record {
   party-read-drops-the-line = refl;
   party-read-takes-11 = refl;
   party-parse-counts-from-1 = refl;
@@ -146,10 +166,17 @@ exports-operations = record {
   party-parse-with-variant-stores = refl;
   party-parse-with-variant-detects = refl;
   party-write-tests-space-first = refl;
+  party-write-refuses-238 = refl;
+  party-write-tests-the-option-first = refl;
+  party-write-takes-11 = refl;
   party-write-gives-0 = refl;
   page-read-hides-the-end = refl;
   page-read-gives-the-position = refl;
+  page-body-leaves-the-empty = refl;
+  page-body-counts-from-the-field = refl;
+  page-body-takes-any-tag = refl;
   page-add-takes-none = refl;
+  page-add-takes-presence-2 = refl;
   page-add-gives-the-length = refl;
   page-close-gives-2 = refl;
   page-close-writes-first = refl;

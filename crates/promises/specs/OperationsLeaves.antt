@@ -8,20 +8,21 @@ use native.Mathlib.Omega.{arith}
 use lib.ListN.{length, drop, getD, replicate}
 use Rattle.errors.specs.declared.ParseError.the-variants.{Position}
 use Rattle.errors.specs.Refusals.{accepted, refused, refusalAt, refusalOf}
-use Rattle.party.specs.declared.PartyOption.the-variants.{Field50A, Field50F, Field50K, Field59NoOption, Field59F}
+use Rattle.party.specs.declared.PartyOption.the-variants.{Field50NoOption, Field50A, Field50F, Field50K, Field59NoOption, Field59F}
 use Rattle.party.specs.declared.Party.{Party}
-use Rattle.party.specs.Limits.{limitsOf, placeOf}
+use Rattle.party.specs.Limits.{limitsOf, placeOf, optionAt}
 use Rattle.party.specs.Text.{padded, textOf}
 use Rattle.party.specs.Party.{IsParty, blank, said, Same}
 use Rattle.swift_utils.specs.Bytes.{bytes, all, letter, digit, alphanumeric, signs, legal}
 use Rattle.swift_utils.specs.Classes.{classOf, classTable, entryAtLeast}
-use Rattle.swift_utils.specs.Checks.{parseSwiftChars, parseAccount, bicLength}
+use Rattle.swift_utils.specs.Checks.{parseSwiftChars, parseLength, parseAccount, bicLength}
 use Rattle.field_utils.specs.declared.lines.Line.the-variants.{Next, Done}
-use Rattle.field_utils.specs.declared.Numbering.the-variants.{Numbered, InTurn}
-use Rattle.field_utils.specs.Lines.{upto, starts, withoutCr, lineOf, nextLine}
+use Rattle.party.specs.declared.Numbering.the-variants.{Unnumbered, Numbered, InTurn}
+use Rattle.field_utils.specs.Lines.{upto, starts}
+use Rattle.field_utils.specs.Cursor.{withoutCr, lineOf, nextLine}
 use Rattle.field_utils.specs.Trim.{white, trimmedStart, keep, trimmedEnd, trimmed}
 use Rattle.field_utils.specs.Identifier.{isNumbered, secondSlash, identifierReply}
-use Rattle.field_utils.specs.Names.{numberingOf, parseCount}
+use Rattle.field_utils.specs.Names.{skipOf, keptFrom, parseCount}
 
 pub record ErrorsOperations : Type 0 where
   -- numbers the cases one after the other, so that a position is 19
@@ -50,6 +51,12 @@ pub record PartyOperations : Type 0 where
   pub limits-of-takes-35-in-50A : limitsOf Field50A .longest ≡ 34
   -- lets a text of 50F have 35 bytes, as a name of 50K has
   pub limits-of-takes-35 : limitsOf Field50F .name ≡ 33
+  -- counts from 1
+  pub option-at-counts-from-1 : optionAt 1 ≡ Field50A
+  -- gives the last option where there is none
+  pub option-at-gives-the-last : optionAt 11 ≡ Field50NoOption
+  -- takes any digits in 59F
+  pub limits-of-leaves-59F : limitsOf Field59F .numbering ≡ InTurn
   -- promises nothing: but a record of three names, or with a text of 37 bytes, does not have what it promises
   pub sized-takes-three : (p : Party) → length (p .«name_and_address») ≡ 3 → IsParty p → ⊥
   pub sized-takes-37 : (p : Party) → length (p .account .bytes) ≡ 37 → IsParty p → ⊥
@@ -65,12 +72,15 @@ pub record PartyOperations : Type 0 where
   pub same-compares-unused : Same (withBic (bytes "A")) (withBic (bytes "B"))
 
 pub party-operations : PartyOperations
-unfolding padded textOf said
+unfolding optionAt padded textOf said
 party-operations = record {
   index-of-sorts = refl;
   index-of-starts-anew = refl;
   limits-of-takes-35-in-50A = refl;
   limits-of-takes-35 = refl;
+  option-at-counts-from-1 = refl;
+  option-at-gives-the-last = refl;
+  limits-of-leaves-59F = refl;
   sized-takes-three = λ p e h. let z : _≡_ {A = ℕ} 3 4 = sym e ∙ h .size in omega arith;
   sized-takes-37 = λ p e h. let z : _≡_ {A = ℕ} 37 38 = sym e ∙ h .account .size in omega arith;
   text-of-counts-all = refl;
@@ -99,6 +109,10 @@ pub record SwiftUtilsOperations : Type 0 where
   pub all-alphanumeric-takes-some : all alphanumeric (bytes "A-") ≡ false
   -- leaves the last byte out
   pub parse-swift-chars-stops-short : parseSwiftChars 1 (bytes "A~") ≡ refused 3 1
+  -- refuses the shortest length
+  pub parse-length-refuses-the-shortest : parseLength 1 2 1 (bytes "A") ≡ accepted
+  -- names no line
+  pub parse-length-drops-the-line : parseLength 1 2 7 [] ≡ refused 2 7
   -- refuses the longest length
   pub parse-account-refuses-the-longest : parseAccount 0 2 1 (bytes "AB") ≡ accepted
   -- tests the bytes before the length
@@ -120,6 +134,8 @@ swift-utils-operations = record {
   all-alphanumeric-refuses-digits = refl;
   all-alphanumeric-takes-some = refl;
   parse-swift-chars-stops-short = refl;
+  parse-length-refuses-the-shortest = refl;
+  parse-length-drops-the-line = refl;
   parse-account-refuses-the-longest = refl;
   parse-account-tests-bytes-first = refl;
   is-bic-length-takes-9 = refl;
@@ -159,10 +175,14 @@ pub record FieldUtilsOperations : Type 0 where
   pub parse-remaining-takes-nothing : identifierReply 34 1 (bytes "/") ≡ refused 2 1
   -- takes any byte in a code
   pub parse-remaining-takes-a-sign : identifierReply 34 1 (bytes "A-/1") ≡ refused 2 1
-  -- asks 50F's digits to be in turn
-  pub numbering-of-counts-50F : numberingOf Field50F ≡ Numbered
-  -- takes any digits in 59F
-  pub numbering-of-leaves-59F : numberingOf Field59F ≡ InTurn
+  -- counts the digit alone
+  pub skip-of-leaves-the-slash : skipOf Numbered ≡ 2
+  -- counts a number where there is none
+  pub skip-of-counts-none : skipOf Unnumbered ≡ 0
+  -- keeps 50F's digits
+  pub kept-from-keeps-50F : keptFrom Numbered ≡ 2
+  -- leaves 59F's digits out
+  pub kept-from-leaves-59F : keptFrom InTurn ≡ 0
   -- takes no name at all
   pub parse-count-takes-none : parseCount 4 0 ≡ refused 7 0
   -- refuses as many as there may be
@@ -185,8 +205,10 @@ field-utils-operations = record {
   is-numbered-line-asks-for-text = refl;
   parse-remaining-takes-nothing = refl;
   parse-remaining-takes-a-sign = refl;
-  numbering-of-counts-50F = refl;
-  numbering-of-leaves-59F = refl;
+  skip-of-leaves-the-slash = refl;
+  skip-of-counts-none = refl;
+  kept-from-keeps-50F = refl;
+  kept-from-leaves-59F = refl;
   parse-count-takes-none = refl;
   parse-count-refuses-four = refl;
 }

@@ -20,14 +20,15 @@ use Rattle.field_utils.specs.Trim.{white, trimmedStart, keep, trimmedEnd, trimm
 use Rattle.field_utils.specs.Identifier.{isNumbered, secondSlash, identifierReply, parsePartyIdentifier}
 use Rattle.field_utils.specs.Names.{parseLine, parseLines, parseNameAndAddress}
 use Rattle.reader.specs.declared.Answer.{Answer}
-use Rattle.reader.specs.declared.First.the-variants.{ShortAccount, AnyAccount}
+use Rattle.party.specs.declared.First.the-variants.{ShortAccount, AnyAccount}
 use Rattle.reader.specs.Reading.{partyOf, toldAnswer}
-use Rattle.reader.specs.Options.{firstOf, lengthReply, accountHead, shortAccountHead, afterHead, ascii, bodyReply, read}
-use Rattle.choices.specs.declared.Pick.the-variants.{NotALetter, Detect}
-use Rattle.choices.specs.Detection.{anyNumbered, firstLine, lastLine, bicLike, lastIsBic, refusing, when, firstThat, detected, pickOf, variantOf}
-use Rattle.field50.specs.Choices.{instructingParty, orderingCustomerFGH, orderingCustomerAFK, orderingCustomerNCF, creditor, instructingPartyBy, orderingCustomerFGHBy, orderingCustomerAFKBy, orderingCustomerNCFBy, creditorBy}
-use Rattle.field59.specs.Choices.{testLine, field59, debtor, field59By, debtorBy}
+use Rattle.reader.specs.Options.{lengthReply, accountHead, shortAccountHead, afterHead, ascii, bodyReply, read}
+use Rattle.choices.specs.declared.Choice.the-variants.{Field50InstructingParty, Field50OrderingCustomerFGH, Field50OrderingCustomerAFK, Field50OrderingCustomerNCF, Field50Creditor, Field59, Field59Debtor}
+use Rattle.choices.specs.declared.Test.the-variants.{LaterNumbered, AnyNumbered, LastIsBic, BicSized, FirstNumbered}
+use Rattle.choices.specs.Detection.{anyNumbered, firstLine, lastLine, bicLike, testLine, holds}
+use Rattle.choices.specs.Choices.{refusing, firstThat, parse, pickOf, parseWithVariant}
 use Rattle.promises.specs.RuledOut.{bodyOf, As}
+use Rattle.party.specs.Limits.{limitsOf}
 
 -- what `refuse` gives, as its contract has it
 abbrev refusedWith : ParseError → Answer
@@ -35,9 +36,9 @@ refusedWith e = record { outcome = Refused e; party = blank }
 
 pub record ReaderOperations : Type 0 where
   -- tests 50H's account as 50G's
-  pub first-of-tests-50H : firstOf Field50H ≡ AnyAccount
+  pub parse-head-tests-50H : limitsOf Field50H .first ≡ AnyAccount
   -- reads 59 as 50K: `/` with over 34 bytes is an account
-  pub first-of-takes-59-for-50K : firstOf Field59NoOption ≡ ShortAccount
+  pub parse-head-takes-59-for-50K : limitsOf Field59NoOption .first ≡ ShortAccount
   -- loses the line
   pub refuse-drops-the-line : toldAnswer (refusedWith (TooLong 2)) .reply ≡ refused 4 2
   -- leaves the names met so far beside the refusal
@@ -62,8 +63,8 @@ pub record ReaderOperations : Type 0 where
 pub reader-operations : ReaderOperations
 unfolding letter digit alphanumeric signs legal parseSwiftChars parseAccount
 reader-operations = record {
-  first-of-tests-50H = refl;
-  first-of-takes-59-for-50K = refl;
+  parse-head-tests-50H = refl;
+  parse-head-takes-59-for-50K = refl;
   refuse-drops-the-line = refl;
   refuse-keeps-names = refl;
   behind-gives-all = refl;
@@ -143,97 +144,88 @@ parses Field59F = record { another = (refl, refl); short = refl; over = refl }
 
 -- ---- the choices
 pub record ChoicesOperations : Type 0 where
-  -- gives the body's first line, whatever the place
-  pub first-line-starts-anew : firstLine (lines (drop 2 (bytes "A\nB"))) ≡ bytes "B"
-  -- keeps the CR before the LF
-  pub first-line-keeps-cr : firstLine (lines (drop 0 (bytes "A\r\nB"))) ≡ bytes "A"
-  -- tests the first line alone
-  pub any-numbered-stops-short : anyNumbered (lines (drop 0 (bytes "A\n1/B"))) ≡ true
-  -- tests the lines before the place too
-  pub any-numbered-starts-anew : anyNumbered (lines (drop 4 (bytes "1/A\nB"))) ≡ false
-  -- gives the first line where there is no second
-  pub second-line-gives-the-first : firstLine (drop 1 (lines (bytes "A"))) ≡ []
-  -- gives the last line
-  pub second-line-gives-the-last : firstLine (drop 1 (lines (bytes "A\nB\nC"))) ≡ bytes "B"
-  -- tests the first line too
-  pub later-numbered-takes-the-first : anyNumbered (drop 1 (lines (bytes "1/A\nB"))) ≡ false
-  -- tests the second line alone
-  pub later-numbered-stops-short : anyNumbered (drop 1 (lines (bytes "A\nB\n1/C"))) ≡ true
-  -- tests the line with its spaces
-  pub last-is-bic-leaves-spaces : lastIsBic (lines (bytes "A\n ABCDEFGH ")) ≡ true
-  -- asks for six letters first, as of a BIC
-  pub last-is-bic-asks-for-letters : lastIsBic (lines (bytes "12345678")) ≡ true
-  -- takes a small letter for its capital
-  pub pick-variant-takes-small : variantOf 97 (Field50A ∷ Field50F ∷ Field50K ∷ []) ≡ NotALetter
-  -- refuses a letter that no option of the choice has
-  pub pick-variant-refuses-z : variantOf 90 (Field50A ∷ Field50F ∷ Field50K ∷ []) ≡ Detect
   -- tries the third option before the second
-  pub detect-tries-the-third-first :
-      As (detected (bytes "ABCDEFGH") (firstThat (when false Field50F ++ (when true Field50A ++ when true Field50K)) (bytes "ABCDEFGH"))) Field50A
-  -- tests for 13 what is tried, and not the body as it came
-  pub detect-tests-the-tried : detected (128 ∷ []) (firstThat (when true Field50K ++ (when false Field50K ++ when false Field50K)) (bytes "A"))
-      ≡ refusing 13 0
+  pub parse-tries-the-third-first : As (parse Field50OrderingCustomerAFK (bytes "ABCDEFGH")) Field50A
+  -- tests for 12 what is tried, and not the body as it came
+  pub parse-tests-the-tried : parse Field50InstructingParty (replicate 2049 32) ≡ refusing 12 0
+  -- takes a small letter for its capital
+  pub parse-with-variant-takes-small : parseWithVariant Field50OrderingCustomerAFK (bytes "ABCDEFGH") 97 ≡ refusing 14 0
+  -- refuses a letter that no option of the choice has
+  pub parse-with-variant-refuses-z : As (parseWithVariant Field50OrderingCustomerAFK (bytes "ABCDEFGH") 90) Field50A
+  -- the tests: whether a line after the first is numbered tests the first too, or the second alone
+  pub later-numbered-takes-the-first : holds LaterNumbered (lines (bytes "1/A\nB")) ≡ false
+  pub later-numbered-stops-short : holds LaterNumbered (lines (bytes "A\nB\n1/C")) ≡ true
+  -- whether any is tests the first alone
+  pub any-numbered-stops-short : holds AnyNumbered (lines (bytes "A\n1/B")) ≡ true
+  -- whether the last is a BIC tests it with its spaces, or asks for six letters first
+  pub last-is-bic-leaves-spaces : holds LastIsBic (lines (bytes "A\n ABCDEFGH ")) ≡ true
+  pub last-is-bic-asks-for-letters : holds LastIsBic (lines (bytes "12345678")) ≡ true
+  -- one line of 8 to 11 bytes takes two lines, or keeps the CR before the LF
+  pub bic-sized-takes-two : holds BicSized (lines (bytes "ABCDEFGH\nA")) ≡ false
+  pub bic-sized-keeps-cr : holds BicSized (lines (bytes "ABCDEFGHIJK\r\n")) ≡ true
+  -- whether the first is numbered, with `/` before it, tests the last, or the first where there is no second
+  pub first-numbered-tests-the-last : holds FirstNumbered (lines (bytes "/A\n1/B\nC")) ≡ true
+  pub first-numbered-stays : holds FirstNumbered (lines (bytes "/A")) ≡ false
 
 pub choices-operations : ChoicesOperations
-unfolding padded textOf letter digit alphanumeric signs legal parseSwiftChars parseAccount bicLength parseBic upto onto starts lines white trimmedStart keep trimmedEnd trimmed isNumbered secondSlash identifierReply parsePartyIdentifier fourTexts partyOf afterHead read anyNumbered firstLine lastLine bicLike firstThat pickOf variantOf
+unfolding padded textOf letter digit alphanumeric signs legal parseSwiftChars parseAccount bicLength parseBic upto onto starts lines white trimmedStart keep trimmedEnd trimmed isNumbered secondSlash identifierReply parsePartyIdentifier fourTexts partyOf afterHead read anyNumbered firstLine lastLine bicLike testLine firstThat pickOf parse parseWithVariant
 choices-operations = record {
-  first-line-starts-anew = refl;
-  first-line-keeps-cr = refl;
-  any-numbered-stops-short = refl;
-  any-numbered-starts-anew = refl;
-  second-line-gives-the-first = refl;
-  second-line-gives-the-last = refl;
+  parse-tries-the-third-first = (refl, refl);
+  parse-tests-the-tried = refl;
+  parse-with-variant-takes-small = refl;
+  parse-with-variant-refuses-z = (refl, refl);
   later-numbered-takes-the-first = refl;
   later-numbered-stops-short = refl;
+  any-numbered-stops-short = refl;
   last-is-bic-leaves-spaces = refl;
   last-is-bic-asks-for-letters = refl;
-  pick-variant-takes-small = refl;
-  pick-variant-refuses-z = refl;
-  detect-tries-the-third-first = (refl, refl);
-  detect-tests-the-tried = refl;
+  bic-sized-takes-two = refl;
+  bic-sized-keeps-cr = refl;
+  first-numbered-tests-the-last = refl;
+  first-numbered-stays = refl;
 }
 
 -- letters are bytes: A 65, C 67, F 70, H 72, K 75, k 107
 pub record Field50Operations : Type 0 where
   -- `Field50InstructingParty`: reads the body with its spaces
-  pub instructing-party-leaves-spaces : As (instructingParty (bytes " ABCDEFGH\n")) Field50C
+  pub instructing-party-leaves-spaces : As (parse Field50InstructingParty (bytes " ABCDEFGH\n")) Field50C
   -- by C, trims too
-  pub instructing-party-by-c-trims : instructingPartyBy (bytes " ABCDEFGH") 67 .reply ≡ refused 9 1
+  pub instructing-party-by-c-trims : parseWithVariant Field50InstructingParty (bytes " ABCDEFGH") 67 .reply ≡ refused 9 1
   -- without a letter, picks C
-  pub instructing-party-by-none-picks : As (instructingPartyBy (bytes "A") 0) Field50L
+  pub instructing-party-by-none-picks : As (parseWithVariant Field50InstructingParty (bytes "A") 0) Field50L
   -- `Field50OrderingCustomerFGH`: by H, detects all the same
-  pub fgh-by-h-detects : As (orderingCustomerFGHBy (bytes "/X\n1/A") 72) Field50H
+  pub fgh-by-h-detects : As (parseWithVariant Field50OrderingCustomerFGH (bytes "/X\n1/A") 72) Field50H
   -- by K, which no option of the choice has, refuses
-  pub fgh-by-k-refuses : As (orderingCustomerFGHBy (bytes "/X\nABCDEFGH") 75) Field50G
+  pub fgh-by-k-refuses : As (parseWithVariant Field50OrderingCustomerFGH (bytes "/X\nABCDEFGH") 75) Field50G
   -- `Field50OrderingCustomerAFK`: by K, detects all the same
-  pub afk-by-k-detects : As (orderingCustomerAFKBy (bytes "ABCDEFGH") 75) Field50K
+  pub afk-by-k-detects : As (parseWithVariant Field50OrderingCustomerAFK (bytes "ABCDEFGH") 75) Field50K
   -- by k, which is no capital, detects
-  pub afk-by-small-k-detects : orderingCustomerAFKBy (bytes "A") 107 ≡ refusing 14 0
+  pub afk-by-small-k-detects : parseWithVariant Field50OrderingCustomerAFK (bytes "A") 107 ≡ refusing 14 0
   -- `Field50OrderingCustomerNCF`: tells C's refusal where C's test holds, and tries no other
-  pub ncf-stops-at-c : As (orderingCustomerNCF (bytes "ABCDEFGHI")) Field50NoOption
+  pub ncf-stops-at-c : As (parse Field50OrderingCustomerNCF (bytes "ABCDEFGHI")) Field50NoOption
   -- without a letter, detects
-  pub ncf-by-none-detects : As (orderingCustomerNCFBy (bytes "ABCDEFGH") 0) Field50NoOption
+  pub ncf-by-none-detects : As (parseWithVariant Field50OrderingCustomerNCF (bytes "ABCDEFGH") 0) Field50NoOption
   -- by C, goes on to 50 where C refuses
-  pub ncf-by-c-goes-on : orderingCustomerNCFBy (bytes "ABCDEFGHI") 67 .reply ≡ refused 9 1
+  pub ncf-by-c-goes-on : parseWithVariant Field50OrderingCustomerNCF (bytes "ABCDEFGHI") 67 .reply ≡ refused 9 1
   -- `Field50Creditor`: tells the last option's refusal, and not 11
-  pub creditor-tells-the-last : creditor [] .reply ≡ refused 11 0
+  pub creditor-tells-the-last : parse Field50Creditor [] .reply ≡ refused 11 0
   -- by A, goes on to K where A refuses
-  pub creditor-by-a-goes-on : creditorBy (bytes "A") 65 .reply ≡ refused 9 1
+  pub creditor-by-a-goes-on : parseWithVariant Field50Creditor (bytes "A") 65 .reply ≡ refused 9 1
   -- by F, picks F, as AFK does
-  pub creditor-by-f-picks : As (creditorBy (bytes "X\n1/A") 70) Field50K
+  pub creditor-by-f-picks : As (parseWithVariant Field50Creditor (bytes "X\n1/A") 70) Field50K
 
 pub record Field59Operations : Type 0 where
   -- `Field59`: by K, which no option of the choice has, refuses
-  pub field59-by-k-refuses : As (field59By (bytes "ABCDEFGH") 75) Field59A
+  pub field59-by-k-refuses : As (parseWithVariant Field59 (bytes "ABCDEFGH") 75) Field59A
   -- `Field59Debtor`: tries F for a numbered line, as `Field59` does
-  pub debtor-takes-f : As (debtor (bytes "1/A")) Field59NoOption
+  pub debtor-takes-f : As (parse Field59Debtor (bytes "1/A")) Field59NoOption
   -- without a letter, detects
-  pub debtor-by-none-detects : As (debtorBy (bytes "ABCDEFGH") 0) Field59NoOption
+  pub debtor-by-none-detects : As (parseWithVariant Field59Debtor (bytes "ABCDEFGH") 0) Field59NoOption
   -- by F, picks F, as `Field59` does
-  pub debtor-by-f-picks : As (debtorBy (bytes "1/A") 70) Field59NoOption
+  pub debtor-by-f-picks : As (parseWithVariant Field59Debtor (bytes "1/A") 70) Field59NoOption
 
 pub field50-operations : Field50Operations
-unfolding padded textOf letter digit alphanumeric signs legal parseSwiftChars parseAccount bicLength parseBic upto onto starts lines white trimmedStart keep trimmedEnd trimmed isNumbered secondSlash identifierReply parsePartyIdentifier parseLine parseLines parseNameAndAddress fourTexts partyOf accountHead shortAccountHead afterHead read anyNumbered firstLine lastLine bicLike firstThat pickOf variantOf instructingParty orderingCustomerFGH orderingCustomerAFK orderingCustomerNCF creditor instructingPartyBy orderingCustomerFGHBy orderingCustomerAFKBy orderingCustomerNCFBy creditorBy
+unfolding padded textOf letter digit alphanumeric signs legal parseSwiftChars parseAccount bicLength parseBic upto onto starts lines white trimmedStart keep trimmedEnd trimmed isNumbered secondSlash identifierReply parsePartyIdentifier parseLine parseLines parseNameAndAddress fourTexts partyOf accountHead shortAccountHead afterHead read anyNumbered firstLine lastLine bicLike firstThat pickOf parse parseWithVariant
 field50-operations = record {
   instructing-party-leaves-spaces = (refl, refl);
   instructing-party-by-c-trims = refl;
@@ -251,7 +243,7 @@ field50-operations = record {
 }
 
 pub field59-operations : Field59Operations
-unfolding padded textOf letter digit alphanumeric signs legal parseSwiftChars parseAccount bicLength parseBic upto onto starts lines isNumbered parseLine parseLines parseNameAndAddress fourTexts partyOf accountHead shortAccountHead afterHead read firstLine firstThat pickOf variantOf testLine field59 debtor field59By debtorBy
+unfolding padded textOf letter digit alphanumeric signs legal parseSwiftChars parseAccount bicLength parseBic upto onto starts lines isNumbered parseLine parseLines parseNameAndAddress fourTexts partyOf accountHead shortAccountHead afterHead read firstLine firstThat pickOf testLine parse parseWithVariant
 field59-operations = record {
   field59-by-k-refuses = (refl, refl);
   debtor-takes-f = (refl, refl);

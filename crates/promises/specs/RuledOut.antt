@@ -18,10 +18,10 @@ use Rattle.field_utils.specs.Identifier.{isNumbered, secondSlash, identifierRep
 use Rattle.field_utils.specs.Names.{parseLine, parseLines, parseNameAndAddress}
 use Rattle.reader.specs.Reading.{Reading, partyOf}
 use Rattle.reader.specs.Options.{accountHead, shortAccountHead, afterHead, read}
-use Rattle.choices.specs.Detection.{anyNumbered, firstLine, lastLine, bicLike, firstThat, pickOf, variantOf}
+use Rattle.choices.specs.declared.Choice.the-variants.{Field50InstructingParty, Field50OrderingCustomerFGH, Field50OrderingCustomerAFK, Field50OrderingCustomerNCF, Field50Creditor, Field59, Field59Debtor}
+use Rattle.choices.specs.Detection.{anyNumbered, firstLine, lastLine, bicLike, testLine}
+use Rattle.choices.specs.Choices.{firstThat, parse, pickOf, parseWithVariant}
 use Rattle.promises.specs.Starred.{gives}
-use Rattle.field50.specs.Choices.{instructingParty, orderingCustomerFGH, orderingCustomerAFK, orderingCustomerNCF, creditor}
-use Rattle.field59.specs.Choices.{testLine, field59, debtor, field59By}
 
 -- two bodies that an option accepts, one letter apart
 abbrev pub bodyOf : PartyOption → List ℕ → List ℕ
@@ -85,21 +85,21 @@ pub record RuledOut : Type 0 where
   -- every trailing CR dropped: one CR before the LF is, the other stays
   pub one-cr : read Field50NoOption (bytes "A\r\r\n") ≡ gives Field50NoOption false [] [] (bytes "A\r" ∷ [])
   -- detection in another order: each body here is one that a later option would take too
-  pub c-before-l : As (instructingParty (bytes "ABCDEFGH")) Field50C
-  pub f-before-h : As (orderingCustomerFGH (bytes "/X\n1/A")) Field50F
-  pub g-before-h : As (orderingCustomerFGH (bytes "/X\nABCDEFGH")) Field50G
-  pub f-before-k : As (orderingCustomerAFK (bytes "X\n1/A")) Field50F
-  pub a-before-k : As (orderingCustomerAFK (bytes "ABCDEFGH")) Field50A
-  pub f-before-50 : As (orderingCustomerNCF (bytes "X\n1/A")) Field50F
-  pub creditor-a-before-k : As (creditor (bytes "ABCDEFGH")) Field50A
-  pub a-before-59 : As (field59 (bytes "ABCDEFGH")) Field59A
-  pub f-before-59 : As (field59 (bytes "1/A")) Field59F
-  pub debtor-a-before-59 : As (debtor (bytes "ABCDEFGH")) Field59A
+  pub c-before-l : As (parse Field50InstructingParty (bytes "ABCDEFGH")) Field50C
+  pub f-before-h : As (parse Field50OrderingCustomerFGH (bytes "/X\n1/A")) Field50F
+  pub g-before-h : As (parse Field50OrderingCustomerFGH (bytes "/X\nABCDEFGH")) Field50G
+  pub f-before-k : As (parse Field50OrderingCustomerAFK (bytes "X\n1/A")) Field50F
+  pub a-before-k : As (parse Field50OrderingCustomerAFK (bytes "ABCDEFGH")) Field50A
+  pub f-before-50 : As (parse Field50OrderingCustomerNCF (bytes "X\n1/A")) Field50F
+  pub creditor-a-before-k : As (parse Field50Creditor (bytes "ABCDEFGH")) Field50A
+  pub a-before-59 : As (parse Field59 (bytes "ABCDEFGH")) Field59A
+  pub f-before-59 : As (parse Field59 (bytes "1/A")) Field59F
+  pub debtor-a-before-59 : As (parse Field59Debtor (bytes "ABCDEFGH")) Field59A
   -- detecting when `Field59` gets no letter: it does not
-  pub no-letter : As (field59By (bytes "ABCDEFGH") 0) Field59NoOption
+  pub no-letter : As (parseWithVariant Field59 (bytes "ABCDEFGH") 0) Field59NoOption
 
 pub ruled-out : RuledOut
-unfolding padded textOf said letter digit alphanumeric signs legal parseSwiftChars parseAccount bicLength parseBic upto onto starts lines white trimmedStart keep trimmedEnd trimmed isNumbered secondSlash identifierReply parsePartyIdentifier parseLine parseLines parseNameAndAddress fourTexts partyOf accountHead shortAccountHead afterHead read anyNumbered firstLine lastLine bicLike firstThat pickOf variantOf instructingParty orderingCustomerFGH orderingCustomerAFK orderingCustomerNCF creditor testLine field59 debtor field59By
+unfolding padded textOf said letter digit alphanumeric signs legal parseSwiftChars parseAccount bicLength parseBic upto onto starts lines white trimmedStart keep trimmedEnd trimmed isNumbered secondSlash identifierReply parsePartyIdentifier parseLine parseLines parseNameAndAddress fourTexts partyOf accountHead shortAccountHead afterHead read anyNumbered firstLine lastLine bicLike firstThat pickOf testLine parse parseWithVariant
 ruled-out = record {
   tested-first = refl;
   one-cr = refl;

@@ -16,13 +16,14 @@ use Rattle.field_utils.specs.Identifier.{isNumbered, secondSlash, identifierRep
 use Rattle.field_utils.specs.Names.{parseLine, parseLines, parseNameAndAddress}
 use Rattle.reader.specs.Reading.{Reading, partyOf}
 use Rattle.reader.specs.Options.{accountHead, shortAccountHead, afterHead, read}
-use Rattle.writer.specs.Writing.{nameLines, writtenLines, joined, writtenBody, writtenField, pieces}
+use Rattle.writer.specs.Writing.{nameLines, writtenLines, joined, writtenBody, writtenField, pieces, tagOf}
 use Rattle.writer.specs.Given.{isLine, areNames, isGiven}
-use Rattle.writer.specs.ReadBack.{endsCr, lastEmpty, earlierCr, identified59F}
+use Rattle.writer.specs.ReadBack.{endsCr, lastEmpty, earlierCr, identified59F, isReadBack}
 use Rattle.pages.specs.Pages.{endsPage}
-use Rattle.pages.specs.Filing.{anyMark, laterMark, isCarried, recordReply}
-use Rattle.choices.specs.Detection.{anyNumbered, firstLine, lastLine, bicLike, refusing, firstThat}
-use Rattle.field50.specs.Choices.{orderingCustomerAFK, orderingCustomerNCF}
+use Rattle.pages.specs.Adding.{anyBoundary, laterBoundary, isCarried, recordReply}
+use Rattle.choices.specs.declared.Choice.the-variants.{Field50OrderingCustomerAFK, Field50OrderingCustomerNCF}
+use Rattle.choices.specs.Detection.{anyNumbered, firstLine, lastLine, bicLike}
+use Rattle.choices.specs.Choices.{refusing, firstThat, parse}
 
 -- what the definitions give, and what document 01 says of it: a reading, a written field, or the refusal of a page
 pub data Case : Type 0 where
@@ -61,7 +62,7 @@ starred =
     -- 59F `2/A`: 6, line 1
     ∷ reads (read Field59F (bytes "2/A")) (refusing 6 1)
     -- AFK detected, `JOHNDOES⏎STREETAB`: 50A, BIC JOHNDOES
-    ∷ reads (orderingCustomerAFK (bytes "JOHNDOES\nSTREETAB")) (gives Field50A false [] (bytes "JOHNDOES") [])
+    ∷ reads (parse Field50OrderingCustomerAFK (bytes "JOHNDOES\nSTREETAB")) (gives Field50A false [] (bytes "JOHNDOES") [])
     -- 50A `/⏎ABCDEFGH`: empty identifier; with `//`: 2, line 1
     ∷ reads (read Field50A (bytes "/\nABCDEFGH")) (gives Field50A true [] (bytes "ABCDEFGH") [])
     ∷ reads (read Field50A (bytes "//\nABCDEFGH")) (refusing 2 1)
@@ -69,8 +70,8 @@ starred =
     ∷ reads (read Field50H (bytes "/~\nA")) (gives Field50H true (bytes "~") [] (bytes "A" ∷ []))
     ∷ reads (read Field50G (bytes "/~\nABCDEFGH")) (refusing 3 1)
     -- NCF detected, `ABCDEFGH⏎`: 50, one line; without LF: 50C
-    ∷ reads (orderingCustomerNCF (bytes "ABCDEFGH\n")) (gives Field50NoOption false [] [] (bytes "ABCDEFGH" ∷ []))
-    ∷ reads (orderingCustomerNCF (bytes "ABCDEFGH")) (gives Field50C false [] (bytes "ABCDEFGH") [])
+    ∷ reads (parse Field50OrderingCustomerNCF (bytes "ABCDEFGH\n")) (gives Field50NoOption false [] [] (bytes "ABCDEFGH" ∷ []))
+    ∷ reads (parse Field50OrderingCustomerNCF (bytes "ABCDEFGH")) (gives Field50C false [] (bytes "ABCDEFGH") [])
     ∷ []
 
 -- a case is as document 01 says
@@ -85,5 +86,5 @@ Hold [] = Unit {0}
 Hold (c ∷ cs) = Holds c × Hold cs
 
 pub starred-hold : Hold starred
-unfolding padded textOf letter digit alphanumeric signs legal parseSwiftChars parseAccount bicLength parseBic upto onto starts lines white trimmedStart keep trimmedEnd trimmed isNumbered secondSlash identifierReply parsePartyIdentifier parseLine parseLines parseNameAndAddress fourTexts partyOf accountHead shortAccountHead afterHead read anyNumbered firstLine lastLine bicLike firstThat orderingCustomerAFK orderingCustomerNCF said nameLines writtenLines joined writtenBody writtenField isLine areNames isGiven pieces endsCr lastEmpty earlierCr identified59F endsPage anyMark laterMark isCarried recordReply
+unfolding padded textOf letter digit alphanumeric signs legal parseSwiftChars parseAccount bicLength parseBic upto onto starts lines white trimmedStart keep trimmedEnd trimmed isNumbered secondSlash identifierReply parsePartyIdentifier parseLine parseLines parseNameAndAddress fourTexts partyOf accountHead shortAccountHead afterHead read anyNumbered firstLine lastLine bicLike firstThat said nameLines writtenLines joined writtenBody writtenField isLine areNames isGiven pieces endsCr lastEmpty earlierCr identified59F endsPage isCarried recordReply parse anyBoundary laterBoundary isReadBack tagOf
 starred-hold = (refl, (refl, (refl, (refl, (refl, (refl, (refl, (refl, (refl, (refl, (refl, (refl, (refl, (refl, (refl, (refl, tt))))))))))))))))

@@ -11,10 +11,10 @@ use Rattle.errors.proofs.Replies.{must-held, then-first}
 use Rattle.party.specs.declared.PartyOption.{PartyOption}
 use Rattle.party.specs.Limits.{limitsOf}
 use Rattle.party.specs.Party.{blank}
-use Rattle.swift_utils.specs.Bytes.{all, between}
+use Rattle.swift_utils.specs.Bytes.{all}
 use Rattle.reader.specs.declared.HeadAt.{HeadAt}
 use Rattle.reader.specs.Reading.{giving, Found, partyOf}
-use Rattle.reader.specs.Options.{Head, firstOf, headBy, afterHead, after, fromHead, byLines, layoutOf, foundBy, ascii, bodyReply, read}
+use Rattle.reader.specs.Options.{Head, isCounted, bodyMost, headBy, afterHead, after, fromHead, byLines, foundBy, ascii, bodyReply, read}
 use Rattle.reader.specs.Code.{toldHead, passedHead, readingOf}
 
 refused-head : (o : PartyOption) (t : Bool) (text : List ℕ) (k n : ℕ) (all-lines later : List (List ℕ))
@@ -24,15 +24,15 @@ refused-head o false text k n all-lines later = refl
 
 module _ (o : PartyOption) (l : List ℕ) (ls : List (List ℕ)) where
   abbrev Counted : Bool → Type 0
-  Counted t = between (limitsOf o .least) (limitsOf o .most) (length (l ∷ ls)) ≡ t
+  Counted t = isCounted o (length (l ∷ ls)) ≡ t
 
   pub lines-count : Counted false → byLines o (l ∷ ls) .reply ≡ refused 1 0
-  lines-count e = ap (λ (t : Bool). must t 1 0 then fromHead o (headBy (firstOf o) o l) (l ∷ ls) ls .reply) e
+  lines-count e = ap (λ (t : Bool). must t 1 0 then fromHead o (headBy (limitsOf o .first) o l) (l ∷ ls) ls .reply) e
 
-  module _ {h : Head} (e : h ≡ headBy (firstOf o) o l) (c : Counted true) where
+  module _ {h : Head} (e : h ≡ headBy (limitsOf o .first) o l) (c : Counted true) where
     opened : byLines o (l ∷ ls) ≡ fromHead o h (l ∷ ls) ls
     opened =
-        ap (λ (t : Bool). after (must t 1 0) (fromHead o (headBy (firstOf o) o l) (l ∷ ls) ls)) c
+        ap (λ (t : Bool). after (must t 1 0) (fromHead o (headBy (limitsOf o .first) o l) (l ∷ ls) ls)) c
         ∙ ap (λ (g : Head). fromHead o g (l ∷ ls) ls) (sym e)
 
     pub head-refused : {k n : ℕ} → h .reply ≡ refused k n → byLines o (l ∷ ls) .reply ≡ refused k n
@@ -53,14 +53,14 @@ module _ (o : PartyOption) (l : List ℕ) (ls : List (List ℕ)) where
 module _ (o : PartyOption) (body : List ℕ) where
   pub body-refused : (e : ParseError) → bodyReply body ≡ toldError e → read o body ≡ (record { reply = toldError e; party = blank })
   unfolding read
-  body-refused e q = ap (λ (r : Reply). giving (r then foundBy (layoutOf o) o body .reply) (partyOf o (foundBy (layoutOf o) o body))) q
+  body-refused e q = ap (λ (r : Reply). giving (r then foundBy (limitsOf o .layout) o body .reply) (partyOf o (foundBy (limitsOf o .layout) o body))) q
 
-  pub body-passed : bodyReply body ≡ accepted → read o body ≡ readingOf o (foundBy (layoutOf o) o body)
+  pub body-passed : bodyReply body ≡ accepted → read o body ≡ readingOf o (foundBy (limitsOf o .layout) o body)
   unfolding read
-  body-passed q = ap (λ (r : Reply). giving (r then foundBy (layoutOf o) o body .reply) (partyOf o (foundBy (layoutOf o) o body))) q
+  body-passed q = ap (λ (r : Reply). giving (r then foundBy (limitsOf o .layout) o body .reply) (partyOf o (foundBy (limitsOf o .layout) o body))) q
 
-pub body-length : (body : List ℕ) → bodyReply body ≡ accepted → length body ≤ 2048
-body-length body q = leb-true (length body) 2048 (must-held _ 12 0 (then-first _ (must (all ascii body) 13 0) q))
+pub body-length : (body : List ℕ) → bodyReply body ≡ accepted → length body ≤ bodyMost
+body-length body q = leb-true (length body) bodyMost (must-held _ 12 0 (then-first _ (must (all ascii body) 13 0) q))
 
 -- the text of a head that the code found
 pub told-text : (l : List ℕ) (r : HeadAt) → r .present ≡ true → toldHead l r .text ≡ drop (r .skip) l

@@ -1,16 +1,15 @@
 -- The cases of the first line. Assumes nothing.
 use mathlib.Core.Path.{_≡_, ap}
-use mathlib.Core.Bool.{true, false, and-false}
+use mathlib.Core.Bool.{true, false}
 use mathlib.Core.List.{List}
 use Prim.Native.Nat.{ℕ, _≤_, _<_}
-use lib.Dec.{leb}
 use lib.ListN.{length, drop}
 use borrow.Author.Tests.{le-leb, lt-leb}
-use Rattle.errors.specs.Refusals.{Reply, accepted, refused}
+use Rattle.errors.specs.Refusals.{Reply, refused}
 use Rattle.party.specs.declared.PartyOption.{PartyOption}
 use Rattle.party.specs.declared.Limits.{Limits}
 use Rattle.party.specs.Limits.{limitsOf}
-use Rattle.swift_utils.specs.Checks.{parseAccount}
+use Rattle.swift_utils.specs.Checks.{parseLength, parseAccount}
 use Rattle.field_utils.specs.Lines.{starts}
 use Rattle.reader.specs.Options.{noHead, head, lengthReply, accountReply, accountHead, shortAccountHead, slashHead}
 
@@ -19,14 +18,8 @@ module _ (o : PartyOption) {m : Limits} (e : m ≡ limitsOf o) (l : List ℕ) wh
   pub account-reply : parseAccount (m .shortest) (m .longest) 1 l ≡ accountReply o l
   account-reply = ap (λ (k : Limits). parseAccount (k .shortest) (k .longest) 1 l) e
 
-  pub length-short : length l < m .shortest → lengthReply o l ≡ refused 2 1
-  length-short h = rw (← e, lt-leb _ _ h)
-
-  pub length-long : m .longest < length l → lengthReply o l ≡ refused 2 1
-  length-long h = rw (← e, lt-leb _ _ h, and-false (leb (m .shortest) (length l)))
-
-  pub length-fits : m .shortest ≤ length l → length l ≤ m .longest → lengthReply o l ≡ accepted
-  length-fits h k = rw (← e, le-leb _ _ h, le-leb _ _ k)
+  pub length-reply : parseLength (m .shortest) (m .longest) 1 l ≡ lengthReply o l
+  length-reply = ap (λ (k : Limits). parseLength (k .shortest) (k .longest) 1 l) e
 
   pub short-long : m .longest < length (drop 1 l) → shortAccountHead o l ≡ noHead
   unfolding shortAccountHead

@@ -1,17 +1,19 @@
 -- How many lines a body has, and whether it has an LF. Assumes nothing.
 use mathlib.Core.Path.{_≡_, refl, sym, _∙_}
-use mathlib.Core.Bool.{Bool, true, false, _&&_, _||_, and-false, or-true, false≢true}
+use mathlib.Core.Bool.{Bool, true, false, _&&_, and-false, or-true, false≢true}
 use mathlib.Core.List.{List, [], _∷_}
 use Prim.Native.Nat.{ℕ, suc, _≤_, _<_}
 use native.Mathlib.Omega.{arith}
 use lib.Dec.{leb, eqb}
 use lib.ListN.{length}
-use borrow.Author.Tests.{le-leb, lt-leb, eqb-true, eqb-false, eq-eqb, ne-eqb}
+use borrow.Author.Tests.{le-leb, lt-leb, eqb-false, eq-eqb, ne-eqb}
 use Rattle.party.specs.declared.PartyOption.{PartyOption}
 use Rattle.party.specs.declared.Limits.{Limits}
 use Rattle.party.specs.Limits.{limitsOf}
-use Rattle.swift_utils.specs.Bytes.{among, between}
+use Rattle.swift_utils.specs.Bytes.{among}
 use Rattle.field_utils.specs.Lines.{upto, onto, starts, lines}
+use Rattle.field_utils.proofs.Places.{Upto, none, here, past, by-upto}
+use Rattle.reader.specs.Options.{isCounted}
 
 onto-length : (b : ℕ) (ls : List (List ℕ)) → length (onto b ls) ≤ suc (length ls)
 unfolding onto
@@ -49,40 +51,30 @@ lines-some (b ∷ l) h = go (eqb b 10) (eqb b 13 && starts 10 l) refl refl (line
     go false true e f ih = rw (e, lines) (rw f (ih (started l f)))
     go false false e f ih = rw (e, lines) (rw f (onto-some b (lines l)))
 
--- the count that most options test
+-- the count of the lines, by the option's row
 module _ (o : PartyOption) {m : Limits} (e : m ≡ limitsOf o) (n : ℕ) where
-  pub counts-enough : m .least ≤ n → n ≤ m .most → between (limitsOf o .least) (limitsOf o .most) n ≡ true
-  counts-enough h k = rw (← e, le-leb _ _ h, le-leb _ _ k)
-
-  pub counts-few : n < m .least → between (limitsOf o .least) (limitsOf o .most) n ≡ false
+  pub counts-few : n < m .least → isCounted o n ≡ false
   counts-few h = rw (← e, lt-leb _ _ h)
 
-  pub counts-most : m .least ≤ n → between (limitsOf o .least) (limitsOf o .most) n ≡ leb n (m .most)
-  counts-most h = rw (← e, le-leb _ _ h)
+  pub counts-open : m .least ≤ n → m .most ≡ 0 → isCounted o n ≡ true
+  counts-open h z = rw (← e, le-leb _ _ h, eq-eqb _ _ z)
 
-here : (a : ℕ) (l : List ℕ) → eqb a 10 ≡ true → upto 10 (a ∷ l) ≡ 0
-unfolding upto
-here a l e = rw (e, upto)
-
-past : (a : ℕ) (l : List ℕ) → eqb a 10 ≡ false → upto 10 (a ∷ l) ≡ suc (upto 10 l)
-unfolding upto
-past a l e = rw (e, upto)
+  pub counts-most : m .least ≤ n → (m .most ≡ 0 → ⊥) → isCounted o n ≡ leb n (m .most)
+  counts-most h z = rw (← e, le-leb _ _ h, ne-eqb _ _ z)
 
 -- an LF is found where it stands among the bytes
+found : {l : List ℕ} {n : ℕ} → Upto 10 l n → n < length l → among l 10 ≡ true
+found none h = absurd (omega arith)
+found here h = refl
+found (past {a} e r) h = rw (found r (omega arith)) (or-true (eqb 10 a))
+
+unfound : {l : List ℕ} {n : ℕ} → Upto 10 l n → length l ≤ n → among l 10 ≡ false
+unfound none h = refl
+unfound here h = absurd (omega arith)
+unfound (past {a} e r) h = rw (ne-eqb 10 a (λ f. eqb-false a 10 e (sym f)), unfound r (omega arith))
+
 pub among-found : (l : List ℕ) → upto 10 l < length l → among l 10 ≡ true
-unfolding upto
-among-found [] h = absurd (omega arith)
-among-found (a ∷ l) h = go (eqb a 10) refl (among-found l)
-  where
-    go : (t : Bool) → eqb a 10 ≡ t → (upto 10 l < length l → among l 10 ≡ true) → (eqb 10 a || among l 10) ≡ true
-    go true e ih = rw (eq-eqb 10 a (sym (eqb-true a 10 e)))
-    go false e ih = rw (ih (omega (arith, h, past a l e))) (or-true (eqb 10 a))
+among-found l h = found (by-upto 10 l) h
 
 pub among-none : (l : List ℕ) → length l ≤ upto 10 l → among l 10 ≡ false
-unfolding upto
-among-none [] h = refl
-among-none (a ∷ l) h = go (eqb a 10) refl (among-none l)
-  where
-    go : (t : Bool) → eqb a 10 ≡ t → (length l ≤ upto 10 l → among l 10 ≡ false) → (eqb 10 a || among l 10) ≡ false
-    go true e ih = absurd (omega (arith, h, here a l e))
-    go false e ih = rw (ne-eqb 10 a (λ f. eqb-false a 10 e (sym f)), ih (omega (arith, h, past a l e)))
+among-none l h = unfound (by-upto 10 l) h

@@ -15,7 +15,7 @@ use Rattle.party.specs.Limits.{limitsOf}
 use Rattle.party.specs.Text.{textOf, fourTexts}
 use Rattle.party.specs.Party.{blank}
 use Rattle.swift_utils.specs.Bytes.{among}
-use Rattle.field_utils.specs.Names.{numberingOf, parseNameAndAddress, kept, NamesRead, namesOr, readNames}
+use Rattle.field_utils.specs.Names.{parseNameAndAddress, kept, NamesRead, namesOr, readNames}
 use Rattle.reader.specs.declared.Answer.{Answer}
 use Rattle.reader.specs.Reading.{Reading, giving, toldAnswer, Found, partyOf}
 use Rattle.reader.specs.Options.{Head, accountReply, withNames, withBic, afterHead, textOnly}
@@ -47,7 +47,7 @@ names-or (refused k n) ns = refl
 
 pub names-reply : (o : PartyOption) (n : ℕ) (ls : List (List ℕ)) → readNames o n ls .reply ≡ parseNameAndAddress o n ls
 unfolding readNames
-names-reply o n ls = names-or (parseNameAndAddress o n ls) (map (kept (numberingOf o)) ls)
+names-reply o n ls = names-or (parseNameAndAddress o n ls) (map (kept (limitsOf o .numbering)) ls)
 
 -- a record with names
 pub party-named : (o : PartyOption) (n : ℕ) (h : Head) (ls : List (List ℕ)) {t u : Text} {w : NamesRead} → parseNameAndAddress o n ls ≡ accepted
@@ -57,7 +57,7 @@ pub party-named : (o : PartyOption) (n : ℕ) (h : Head) (ls : List (List ℕ)) 
     (partyOf o (withNames o n h ls))
 unfolding partyOf readNames
 party-named o n h ls passed e f d =
-    let all = d ∙ ap (λ (r : Reply). namesOr r (map (kept (numberingOf o)) ls)) passed in
+    let all = d ∙ ap (λ (r : Reply). namesOr r (map (kept (limitsOf o .numbering)) ls)) passed in
     λ i. record { option = o; present = h .present; account = e i; bic = f i; count = all i .count; «name_and_address» = all i .texts }
 
 -- a body that is a text, with and without an LF

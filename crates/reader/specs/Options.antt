@@ -1,37 +1,22 @@
 -- The eleven options' readers (document 01, field50.rs and field59.rs): what each checks, in its order, and what it finds.
 use Prim.Native.Nat.{ℕ}
-use mathlib.Core.Bool.{Bool, true, false, not}
+use mathlib.Core.Bool.{Bool, true, false, not, _&&_, _||_}
 use mathlib.Core.List.{List, [], _∷_, map}
 use lib.Dec.{leb, eqb}
 use lib.ListN.{length, drop}
 use Rattle.errors.specs.Refusals.{Reply, accepted, refused, must, _then_}
 use Rattle.party.specs.declared.PartyOption.{PartyOption}
-use Rattle.party.specs.declared.PartyOption.the-variants.{Field50NoOption, Field50A, Field50F, Field50K, Field50C, Field50L, Field50G, Field50H, Field59NoOption, Field59A, Field59F}
 use Rattle.party.specs.Limits.{limitsOf}
-use Rattle.swift_utils.specs.Bytes.{all, among, between}
-use Rattle.swift_utils.specs.Checks.{parseAccount, parseBic}
+use Rattle.swift_utils.specs.Bytes.{all, among}
+use Rattle.swift_utils.specs.Checks.{parseLength, parseAccount, parseBic}
 use Rattle.field_utils.specs.Lines.{lines, starts}
 use Rattle.field_utils.specs.Identifier.{Identifier, absent, given, parsePartyIdentifier}
-use Rattle.field_utils.specs.Names.{numberingOf, kept, parseNameAndAddress}
-use Rattle.reader.specs.declared.First.{First}
-use Rattle.reader.specs.declared.First.the-variants.{Name, Identified, Account, ShortAccount, SlashAccount, AnyAccount, WholeLine}
-use Rattle.reader.specs.declared.Layout.{Layout}
-use Rattle.reader.specs.declared.Layout.the-variants.{BicOnly, TextOnly, ByLines}
+use Rattle.field_utils.specs.Names.{kept, parseNameAndAddress}
+use Rattle.party.specs.declared.First.{First}
+use Rattle.party.specs.declared.First.the-variants.{NoAccount, Identified, Account, ShortAccount, SlashAccount, AnyAccount, WholeLine}
+use Rattle.party.specs.declared.Layout.{Layout}
+use Rattle.party.specs.declared.Layout.the-variants.{BicOnly, TextOnly, ByLines}
 use Rattle.reader.specs.Reading.{Reading, giving, Found, partyOf}
-
--- what the first line is to an option; 50C and 50L, which are not read by lines, stand with 50
-abbrev pub firstOf : PartyOption → First
-firstOf Field50NoOption = Name
-firstOf Field50A = Identified
-firstOf Field50F = WholeLine
-firstOf Field50K = Account
-firstOf Field50C = Name
-firstOf Field50L = Name
-firstOf Field50G = SlashAccount
-firstOf Field50H = AnyAccount
-firstOf Field59NoOption = ShortAccount
-firstOf Field59A = ShortAccount
-firstOf Field59F = Identified
 
 -- what is found of an account or identifier in the first line: whether it is there, its text, and what the checks say of it
 pub record Head : Type 0 where
@@ -58,7 +43,7 @@ accountReply o text = parseAccount (limitsOf o .shortest) (limitsOf o .longest) 
 
 -- its length alone
 abbrev pub lengthReply : PartyOption → List ℕ → Reply
-lengthReply o text = must (between (limitsOf o .shortest) (limitsOf o .longest) (length text)) 2 1
+lengthReply o text = parseLength (limitsOf o .shortest) (limitsOf o .longest) 1 text
 
 -- a first line that must start with `/`, with what is said of the text after it
 abbrev pub slashHead : List ℕ → Reply → Head
@@ -75,7 +60,7 @@ shortAccountHead o l = elim (leb (length (drop 1 l)) (limitsOf o .longest)) [ tr
 -- what an option makes of the first line
 abbrev pub headBy : First → PartyOption → List ℕ → Head
 -- 50: a name
-headBy Name o l = noHead
+headBy NoAccount o l = noHead
 headBy Identified o l = identifierHead (parsePartyIdentifier o 1 l)
 headBy Account o l = accountHead o l
 headBy ShortAccount o l = shortAccountHead o l
@@ -93,7 +78,7 @@ withNames o n h ls = record {
   present = h .present;
   account = h .text;
   bic = [];
-  names = map (kept (numberingOf o)) ls;
+  names = map (kept (limitsOf o .numbering)) ls;
 }
 
 -- or a BIC; later lines are ignored, and 8 where it is missing
@@ -114,11 +99,15 @@ abbrev pub fromHead : PartyOption → Head → List (List ℕ) → List (List �
 fromHead o h all-lines later =
     elim (h .present) [ true ↦ after (h .reply) (afterHead o 2 h later) | false ↦ after (h .reply) (afterHead o 1 h all-lines) ]
 
+-- as many lines as the option counts first: at least so many, and at most so many where the table has a most
+abbrev pub isCounted : PartyOption → ℕ → Bool
+isCounted o n = leb (limitsOf o .least) n && (eqb (limitsOf o .most) 0 || leb n (limitsOf o .most))
+
 -- 1: a wrong line count at the start; then the first line and the others
 abbrev pub byLines : PartyOption → List (List ℕ) → Found
 byLines o [] = after (refused 1 0) (withBic 1 noHead [])
 byLines o (l ∷ ls) =
-    after (must (between (limitsOf o .least) (limitsOf o .most) (length (l ∷ ls))) 1 0) (fromHead o (headBy (firstOf o) o l) (l ∷ ls) ls)
+    after (must (isCounted o (length (l ∷ ls))) 1 0) (fromHead o (headBy (limitsOf o .first) o l) (l ∷ ls) ls)
 
 -- 50C: the whole body is a BIC
 abbrev pub bicOnly : List ℕ → Found
@@ -127,20 +116,6 @@ bicOnly body = record { reply = parseBic 1 body; present = false; account = []; 
 -- 50L: no LF (1), 1 to 35 bytes, legal
 abbrev pub textOnly : PartyOption → List ℕ → Found
 textOnly o body = record { reply = must (not (among body 10)) 1 0 then accountReply o body; present = true; account = body; bic = []; names = [] }
-
--- which of the two an option's body is, or lines
-abbrev pub layoutOf : PartyOption → Layout
-layoutOf Field50NoOption = ByLines
-layoutOf Field50A = ByLines
-layoutOf Field50F = ByLines
-layoutOf Field50K = ByLines
-layoutOf Field50C = BicOnly
-layoutOf Field50L = TextOnly
-layoutOf Field50G = ByLines
-layoutOf Field50H = ByLines
-layoutOf Field59NoOption = ByLines
-layoutOf Field59A = ByLines
-layoutOf Field59F = ByLines
 
 -- what an option finds in a body
 abbrev pub foundBy : Layout → PartyOption → List ℕ → Found
@@ -152,12 +127,16 @@ foundBy ByLines o body = byLines o (lines body)
 abbrev pub ascii : ℕ → Bool
 ascii b = leb b 127
 
+-- at most 2,048 bytes
+abbrev pub bodyMost : ℕ
+bodyMost = 2048
+
 -- 12 body over 2,048; 13 byte above 127
 abbrev pub bodyReply : List ℕ → Reply
-bodyReply body = must (leb (length body) 2048) 12 0 then must (all ascii body) 13 0
+bodyReply body = must (leb (length body) bodyMost) 12 0 then must (all ascii body) 13 0
 
 -- an option's reader: 12, 13, then the option's own
 unfoldable pub read : PartyOption → List ℕ → Reading
 read o body =
-    let f = foundBy (layoutOf o) o body in
+    let f = foundBy (limitsOf o .layout) o body in
     giving (bodyReply body then f .reply) (partyOf o f)

@@ -10,6 +10,8 @@ use field_utils::lines::find_lf;
 use field_utils::parse_name_and_address;
 use field_utils::parse_party_identifier;
 use field_utils::starts_with_slash;
+use party::First;
+use party::Layout;
 use party::NOTHING;
 use party::Party;
 use party::PartyOption;
@@ -18,81 +20,26 @@ use party::limits_of;
 use party::text_of;
 use swift_utils::parse_account;
 use swift_utils::parse_bic;
+use swift_utils::parse_length;
 ghost use mathlib.Core.Path.{_≡_};
 ghost use mathlib.Core.Bool.{true, false};
-ghost use Prim.Native.Nat.{suc, _≤_, _<_};
+ghost use Prim.Native.Nat.{suc, _<_};
 ghost use lib.ListN.{length, drop};
 ghost use Rattle.errors.specs.declared.Outcome.the-variants.{Accepted, Refused};
 ghost use Rattle.party.specs.Limits.{limitsOf};
 ghost use Rattle.party.specs.Party.{blank as blankParty};
-ghost use Rattle.swift_utils.specs.Bytes.{all, between};
+ghost use Rattle.swift_utils.specs.Bytes.{all};
 ghost use Rattle.field_utils.specs.Lines.{lines};
 ghost use Rattle.reader.specs.Reading.{toldAnswer, partyOf};
-ghost use Rattle.reader.specs.declared.First.the-variants.{Identified, Account, ShortAccount, SlashAccount, AnyAccount};
+ghost use Rattle.party.specs.declared.First.the-variants.{Identified, Account, ShortAccount, SlashAccount, AnyAccount};
 ghost use Rattle.errors.specs.Refusals.{told};
-ghost use Rattle.reader.specs.Options.{firstOf, layoutOf, lengthReply, accountReply, slashHead, headBy, withNames, withBic, afterHead, byLines, bicOnly, textOnly, ascii, bodyReply, read as readOf};
+ghost use Rattle.reader.specs.Options.{isCounted, lengthReply, accountReply, slashHead, headBy, withNames, withBic, afterHead, byLines, bicOnly, textOnly, ascii, bodyReply, read as readOf};
 ghost use Rattle.reader.specs.Code.{toldHead, passedHead, nameless, readingOf};
 
 // What a reader gives: accepted with the record, or refused with the blank record.
 pub struct Answer {
     pub outcome: Outcome,
     pub party: Party,
-}
-
-// What the first line is to an option: a name, an identifier, or an account, whose forms differ.
-pub enum First {
-    Name,
-    Identified,
-    Account,
-    ShortAccount,
-    SlashAccount,
-    AnyAccount,
-    WholeLine,
-}
-
-// What a body is to an option: a BIC, a text, or lines.
-pub enum Layout {
-    BicOnly,
-    TextOnly,
-    ByLines,
-}
-
-// What the first line is to an option.
-pub fn first_of(option: PartyOption) -> First
-    ensures { λ r. ⌜ r ≡ firstOf option ⌝ }
-{
-    match option {
-        PartyOption::Field50NoOption => First::Name,
-        PartyOption::Field50A => First::Identified,
-        PartyOption::Field50F => First::WholeLine,
-        PartyOption::Field50K => First::Account,
-        PartyOption::Field50C => First::Name,
-        PartyOption::Field50L => First::Name,
-        PartyOption::Field50G => First::SlashAccount,
-        PartyOption::Field50H => First::AnyAccount,
-        PartyOption::Field59NoOption => First::ShortAccount,
-        PartyOption::Field59A => First::ShortAccount,
-        PartyOption::Field59F => First::Identified,
-    }
-}
-
-// What a body is to an option.
-fn layout_of(option: PartyOption) -> Layout
-    ensures { λ r. ⌜ r ≡ layoutOf option ⌝ }
-{
-    match option {
-        PartyOption::Field50NoOption => Layout::ByLines,
-        PartyOption::Field50A => Layout::ByLines,
-        PartyOption::Field50F => Layout::ByLines,
-        PartyOption::Field50K => Layout::ByLines,
-        PartyOption::Field50C => Layout::BicOnly,
-        PartyOption::Field50L => Layout::TextOnly,
-        PartyOption::Field50G => Layout::ByLines,
-        PartyOption::Field50H => Layout::ByLines,
-        PartyOption::Field59NoOption => Layout::ByLines,
-        PartyOption::Field59A => Layout::ByLines,
-        PartyOption::Field59F => Layout::ByLines,
-    }
 }
 
 // Accepted, with the record.
@@ -176,14 +123,7 @@ pub fn account_length(text: &[u8], option: PartyOption) -> Outcome
     ensures { λ r. ⌜ told r ≡ lengthReply option (now (text .entry)) ⌝ }
 {
     let limits = limits_of(option);
-    let n = text.len();
-    if n < limits.shortest {
-        return Outcome::Refused(ParseError::PartyIdentifier(1));
-    }
-    if limits.longest < n {
-        return Outcome::Refused(ParseError::PartyIdentifier(1));
-    }
-    Outcome::Accepted
+    parse_length(text, limits.shortest, limits.longest, 1)
 }
 
 // 50K: a first line with a slash is an account.
@@ -220,11 +160,13 @@ fn slash_head(line: &[u8], outcome: Outcome) -> HeadAt
 }
 
 // What an option makes of the first line.
-fn parse_head(first: First, line: &[u8], option: PartyOption) -> HeadAt
-    ensures { λ r. ⌜ toldHead (now (line .entry)) r ≡ headBy first option (now (line .entry)) ⌝ }
+fn parse_head(line: &[u8], option: PartyOption) -> HeadAt
+    ensures { λ r. ⌜ toldHead (now (line .entry)) r ≡ headBy (limitsOf option .first) option (now (line .entry)) ⌝ }
 {
+    let limits = limits_of(option);
+    let first = limits.first;
     match first {
-        First::Name => no_head(),
+        First::NoAccount => no_head(),
         First::Identified => identifier_head(line, option),
         First::Account => account_head(line, option),
         First::ShortAccount => short_account_head(line, option),
@@ -324,12 +266,12 @@ fn read_rest(
 
 // Whether a body of at least one line has as many as the option counts first. Most options count no more than that.
 fn counts(option: PartyOption, body: &[u8]) -> bool
-    requires { ⌜ (0 < length (now body)) × (length (now body) ≤ 2048) ⌝ }
-    ensures { λ r. ⌜ r ≡ between (limitsOf option .least) (limitsOf option .most) (length (lines (now (body .entry)))) ⌝ }
+    requires { ⌜ 0 < length (now body) ⌝ }
+    ensures { λ r. ⌜ r ≡ isCounted option (length (lines (now (body .entry)))) ⌝ }
 {
     let limits = limits_of(option);
-    if limits.least <= 1 {
-        if 2048 <= limits.most {
+    if limits.most == 0 {
+        if limits.least <= 1 {
             return true;
         }
     }
@@ -337,12 +279,14 @@ fn counts(option: PartyOption, body: &[u8]) -> bool
     if n < limits.least {
         return false;
     }
+    if limits.most == 0 {
+        return true;
+    }
     n <= limits.most
 }
 
 // A body by its lines: how many there are, the first, and the others.
 fn read_lines(option: PartyOption, body: &[u8]) -> Answer
-    requires { ⌜ length (now body) ≤ 2048 ⌝ }
     ensures { λ r. ⌜ toldAnswer r ≡ readingOf option (byLines option (lines (now (body .entry)))) ⌝ }
 {
     let top = Lines { at: 0 };
@@ -354,7 +298,7 @@ fn read_lines(option: PartyOption, body: &[u8]) -> Answer
         return refuse(ParseError::LineCount);
     }
     let line = &body[start..end];
-    let head = parse_head(first_of(option), line, option);
+    let head = parse_head(line, option);
     let outcome = head.outcome;
     if let Outcome::Refused(e) = outcome {
         return refuse(e);
@@ -408,11 +352,14 @@ pub fn is_ascii(body: &[u8]) -> bool
     most <= 127
 }
 
+// The most bytes of a body.
+pub const BODY_MOST: usize = 2048;
+
 // What any body must be: at most 2,048 bytes (12), none above 127 (13).
 pub fn parse_body(body: &[u8]) -> Outcome
     ensures { λ r. ⌜ told r ≡ bodyReply (now (body .entry)) ⌝ }
 {
-    if 2048 < body.len() {
+    if BODY_MOST < body.len() {
         return Outcome::Refused(ParseError::BodyTooLong);
     }
     if is_ascii(body) {
@@ -430,7 +377,8 @@ pub fn read(option: PartyOption, body: &[u8]) -> Answer
     if let Outcome::Refused(e) = outcome {
         return refuse(e);
     }
-    let layout = layout_of(option);
+    let limits = limits_of(option);
+    let layout = limits.layout;
     match layout {
         Layout::BicOnly => read_bic_only(option, body),
         Layout::TextOnly => read_text_only(option, body),

@@ -10,13 +10,14 @@ use crate::list::text;
 use errors::Outcome;
 use errors::Refusal;
 use party::Party;
+use party::TEXT_MOST;
 use party::Text;
 use party::blank;
 use reader::Answer;
 
 // The names of a record that has none.
 pub const EMPTY: [Text; 4] = [Text {
-    bytes: [0u8; 38],
+    bytes: [0u8; TEXT_MOST],
     len: 0,
 }; 4];
 

@@ -1,6 +1,7 @@
 // What a case asks: a reader, and the way to call it.
 use crate::list::same;
 use crate::list::unescape;
+use choices::Choice;
 use field50::Field50A;
 use field50::Field50C;
 use field50::Field50Creditor;
@@ -21,17 +22,6 @@ use field59::Field59F;
 use field59::Field59NoOption;
 use party::PartyOption;
 use reader::Answer;
-
-// The seven choices, under the names of the Rust's enums.
-pub enum Choice {
-    Field50InstructingParty,
-    Field50OrderingCustomerFGH,
-    Field50OrderingCustomerAFK,
-    Field50OrderingCustomerNCF,
-    Field50Creditor,
-    Field59,
-    Field59Debtor,
-}
 
 // `parse` of an option or of a choice, or `parse_with_variant` of a choice with a letter, 0 for none.
 pub enum Question {
@@ -151,7 +141,7 @@ fn variant_named(choice: Choice, letter: &[u8]) -> NamedQuestion {
     NamedQuestion::Is(Question::Variant(choice, byte[0]))
 }
 
-// Our answer.
+// Our answer, by the functions that have the Rust's names.
 pub(crate) fn ask(question: Question, body: &[u8]) -> Answer {
     match question {
         Question::Option(option) => ask_option(option, body),

@@ -4,6 +4,7 @@ use crate::answer::Said;
 use errors::Refusal;
 use party::Party;
 use party::PartyOption;
+use party::TEXT_MOST;
 use party::Text;
 use party::limits_of;
 
@@ -91,7 +92,7 @@ fn same_text(a: Text, b: Text) -> bool {
         return false;
     }
     let mut i = 0;
-    while i < 38 {
+    while i < TEXT_MOST {
         if a.bytes[i] != b.bytes[i] {
             return false;
         }

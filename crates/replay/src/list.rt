@@ -1,4 +1,5 @@
 // The list of the Rust's answers: its lines, their fields, and the bytes that a field stands for. tests/README.md has the format.
+use party::TEXT_MOST;
 use party::Text;
 ghost use Prim.Native.Nat.{_+_, _≤_, _<_};
 ghost use mathlib.Core.Path.{_≡_};
@@ -207,7 +208,7 @@ pub struct Listed {
 }
 
 pub(crate) fn text(field: &[u8]) -> Listed {
-    let mut bytes = [0u8; 38];
+    let mut bytes = [0u8; TEXT_MOST];
     let got = unescape(field, &mut bytes);
     Listed {
         whole: got.whole,

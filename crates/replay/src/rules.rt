@@ -3,15 +3,17 @@ use crate::answer::EMPTY;
 use crate::answer::Reply;
 use crate::answer::Said;
 use crate::answer::refused;
-use crate::asked::Choice;
 use crate::asked::Question;
 use crate::list::find;
 use crate::list::past;
+use choices::Choice;
 use party::Party;
 use party::PartyOption;
 use party::blank;
 use party::text_of;
+use reader::BODY_MOST;
 use swift_utils::is_legal;
+ghost use Rattle.reader.specs.Options.{bodyMost};
 ghost use Prim.Native.Nat.{_≤_, _<_};
 ghost use lib.ListN.{length};
 
@@ -40,7 +42,7 @@ pub(crate) fn expect(question: Question, body: &[u8], rust: Reply) -> Expected {
     if !is_letter(question) {
         return by(Rule::NotALetter, refused(14, 0));
     }
-    if 2048 < body.len() {
+    if BODY_MOST < body.len() {
         return by(Rule::BodyTooLong, refused(12, 0));
     }
     if !is_ascii(body) {
@@ -76,7 +78,7 @@ pub(crate) fn is_ascii(s: &[u8]) -> bool {
 
 // Where the Rust turns 50H away for its account, ours goes on to the names. Where they are refused, detection still ends in 11.
 fn expected_50h(question: Question, body: &[u8], rust: Reply) -> Expected
-    requires { ⌜ length (now body) ≤ 2048 ⌝ }
+    requires { ⌜ length (now body) ≤ bodyMost ⌝ }
 {
     let said = rust.said;
     match way_to_50h(question) {
@@ -170,7 +172,7 @@ fn all_legal(s: &[u8]) -> bool {
 
 // 50H by document 01, of a body that has its account: the names are tested line by line, then counted.
 fn reply_50h(body: &[u8]) -> Reply
-    requires { ⌜ length (now body) ≤ 2048 ⌝ }
+    requires { ⌜ length (now body) ≤ bodyMost ⌝ }
 {
     let mut at = past(body, 0, b'\n');
     let mut number = 2;

@@ -9,25 +9,23 @@ use lib.Dec.{leb}
 use lib.ListN.{length, drop}
 use borrow.Author.Tests.{not-true}
 use Rattle.errors.specs.Refusals.{Reply, accepted, refused, must, _then_}
-use Rattle.errors.proofs.Replies.{refused≢accepted, must-held, then-first}
+use Rattle.errors.proofs.Replies.{refused≢accepted, must-held, then-first, then-second, then-assoc}
 use Rattle.party.specs.declared.PartyOption.{PartyOption}
 use Rattle.party.specs.declared.PartyOption.the-variants.{Field50F, Field50G, Field50H}
 use Rattle.party.specs.declared.Party.{Party}
 use Rattle.swift_utils.specs.Bytes.{between, all, legal}
 use Rattle.swift_utils.specs.Checks.{parseSwiftChars, parseAccount}
-use Rattle.field_utils.specs.declared.Numbering.the-variants.{Unnumbered}
+use Rattle.party.specs.declared.Numbering.the-variants.{Unnumbered}
 use Rattle.field_utils.specs.Lines.{lines, starts}
 use Rattle.field_utils.specs.Names.{parseLine, parseLines, parseCount, parseNameAndAddress}
 use Rattle.reader.specs.Reading.{Reading, giving, Found, partyOf}
-use Rattle.reader.specs.Options.{accountReply, afterHead, byLines, bodyReply, read}
+use Rattle.reader.specs.Options.{accountReply, isCounted, afterHead, byLines, bodyReply, read}
 use Rattle.reader.specs.Code.{readingOf}
-use Rattle.reader.proofs.Bodies.{body-passed, body-length}
-use Rattle.reader.proofs.LineCounts.{lines-most}
+use Rattle.reader.proofs.Bodies.{body-passed}
 use Rattle.choices.specs.Detection.{firstLine}
 use Rattle.swift_mt_message.specs.Std.{Str, slash}
 use Rattle.swift_mt_message.specs.Equal.{asParty, illegalAccount}
-use Rattle.swift_mt_message.proofs.Choices.{then-second}
-use Rattle.swift_mt_message.proofs.Bodies.{enough, kept-whole}
+use Rattle.swift_mt_message.proofs.Bodies.{kept-whole}
 
 -- what such lines are
 pub record Illegal (ls : List Str) : Type 0 where
@@ -63,7 +61,7 @@ unfolding firstLine starts
 not-F [] i e = false≢true (i .slashed)
 not-F ([] ∷ ls) i e = false≢true (i .slashed)
 not-F ((b ∷ s) ∷ ls) i e =
-    let count = must (between 2 2048 (length ((b ∷ s) ∷ ls))) 1 0 in
+    let count = must (isCounted Field50F (length ((b ∷ s) ∷ ls))) 1 0 in
     let account = accountReply Field50F (b ∷ s) in
     let whole = passes 1 35 (b ∷ s) (then-first account _ (then-second count (account then _) e)) in
     false≢true (sym (i .other) ∙ and-eq-true-iff (legal b) (all legal s) .0 whole .1)
@@ -72,7 +70,7 @@ not-G : (ls : List Str) → Illegal ls → byLines Field50G ls .reply ≡ accept
 unfolding firstLine
 not-G [] i e = refused≢accepted e
 not-G (l ∷ ls) i e =
-    let count = must (between 2 2 (length (l ∷ ls))) 1 0 in
+    let count = must (isCounted Field50G (length (l ∷ ls))) 1 0 in
     let first = must (starts slash l) 2 1 in
     let account = accountReply Field50G (drop 1 l) in
     false≢true (sym (i .other) ∙ passes 1 34 (drop 1 l) (then-second first account (then-first (first then account) _ (then-second count ((first then account) then _) e))))
@@ -85,58 +83,37 @@ module _ (body : Str) (q : bodyReply body ≡ accepted) (i : Illegal (lines body
   G-refuses e = not-G (lines body) i (sym (ap (λ (r : Reading). r .reply) (body-passed Field50G body q) ∙ replied Field50G (byLines Field50G (lines body))) ∙ e)
 
 -- 50H reads on, as document 01 has it: its names are tested next
-reads-names : (ls : List Str) → length ls ≤ 2048 → Illegal ls
+reads-names : (ls : List Str) → Illegal ls
     → readingOf Field50H (byLines Field50H ls)
     ≡ giving (parseNameAndAddress Field50H 2 (drop 1 ls)) (asParty Field50H (some (drop 1 (firstLine ls))) [] (drop 1 ls))
 unfolding firstLine starts partyOf afterHead
-reads-names [] h i = absurd (false≢true (i .slashed))
-reads-names (l ∷ ls) h i =
-    rw (enough 2 (length (l ∷ ls)) h, i .two, i .slashed, i .fits)
+reads-names [] i = absurd (false≢true (i .slashed))
+reads-names (l ∷ ls) i =
+    rw (i .two, i .slashed, i .fits)
     (ap (λ (names : List Str). giving (parseNameAndAddress Field50H 2 ls) (asParty Field50H (some (drop 1 l)) [] names)) (kept-whole ls))
 
--- a refusal of names is of their count or of a later line
-Later : ℕ → Reply → Type 0
-Later n accepted = Unit {0}
-Later n (refused k m) = n ≤ m
+-- a refusal of names is of their count, of a length or of a later line
+step : (a b : Bool) (n : ℕ) (r : Reply) → 2 ≤ n → (r ≡ refused 3 1 → ⊥) → ((must a 4 n then must b 3 n) then r) ≡ refused 3 1 → ⊥
+step true true n r h f e = f e
+step true false n r h f e = let z : n ≡ 1 = cc in omega arith
+step false b n r h f e = let z : _≡_ {A = ℕ} 4 3 = cc in omega arith
 
-later-then : (n : ℕ) (r s : Reply) → Later n r → Later n s → Later n (r then s)
-later-then n accepted s h k = k
-later-then n (refused j m) s h k = h
-
-later-must : (n : ℕ) (b : Bool) (k m : ℕ) → n ≤ m → Later n (must b k m)
-unfolding Later
-later-must n true k m h = tt
-later-must n false k m h = h
-
-later-more : (n m : ℕ) (r : Reply) → m ≤ n → Later n r → Later m r
-unfolding Later
-later-more n m accepted h k = tt
-later-more n m (refused j i) h k = omega arith
-
-later-lines : (n k : ℕ) (ls : List Str) → Later n (parseLines Unnumbered 35 n k ls)
-unfolding Later parseLines parseLine parseSwiftChars
-later-lines n k [] = tt
-later-lines n k (l ∷ ls) =
-    later-then n (must (leb (length l) 35) 4 n then must (all legal l) 3 n) (parseLines Unnumbered 35 (suc n) (suc k) ls)
-    (later-then n (must (leb (length l) 35) 4 n) (must (all legal l) 3 n) (later-must n (leb (length l) 35) 4 n (omega arith)) (later-must n (all legal l) 3 n (omega arith)))
-    (later-more (suc n) n (parseLines Unnumbered 35 (suc n) (suc k) ls) (omega arith) (later-lines (suc n) (suc k) ls))
-
-never : (ls : List Str) → parseNameAndAddress Field50H 2 ls ≡ refused 3 1 → ⊥
-unfolding parseNameAndAddress Later
-never ls e = go (parseLines Unnumbered 35 2 1 ls) (later-lines 2 1 ls) e
+never : (n k count : ℕ) (ls : List Str) → 2 ≤ n → (parseLines Unnumbered 35 n k ls then parseCount 4 count) ≡ refused 3 1 → ⊥
+unfolding parseLines parseLine parseSwiftChars
+never n k count [] h e = go (between 1 4 count) e
   where
-    counted : (b : Bool) → must b 7 0 ≡ refused 3 1 → ⊥
-    counted true f = refused≢accepted (sym f)
-    counted false f = let z : _≡_ {A = ℕ} 7 3 = cc in omega arith
-
-    go : (r : Reply) → Later 2 r → (r then parseCount 4 (length ls)) ≡ refused 3 1 → ⊥
-    go accepted h f = counted (between 1 4 (length ls)) f
-    go (refused k m) h f = let z : m ≡ 1 = cc in omega (arith, h)
+    go : (b : Bool) → must b 7 0 ≡ refused 3 1 → ⊥
+    go true f = refused≢accepted (sym f)
+    go false f = let z : _≡_ {A = ℕ} 7 3 = cc in omega arith
+never n k count (l ∷ ls) h e =
+    step (leb (length l) 35) (all legal l) n _ h (never (suc n) (suc k) count ls (omega arith))
+    (sym (then-assoc (must (leb (length l) 35) 4 n then must (all legal l) 3 n) (parseLines Unnumbered 35 (suc n) (suc k) ls) (parseCount 4 count)) ∙ e)
 
 module _ (body : Str) (q : bodyReply body ≡ accepted) (i : Illegal (lines body)) where
   pub reads-on : read Field50H body
       ≡ giving (parseNameAndAddress Field50H 2 (drop 1 (lines body))) (asParty Field50H (some (drop 1 (firstLine (lines body)))) [] (drop 1 (lines body)))
-  reads-on = body-passed Field50H body q ∙ reads-names (lines body) (omega (arith, lines-most body, body-length body q)) i
+  reads-on = body-passed Field50H body q ∙ reads-names (lines body) i
 
   pub differs : read Field50H body .reply ≡ refused 3 1 → ⊥
-  differs e = never (drop 1 (lines body)) (sym (ap (λ (r : Reading). r .reply) reads-on ∙ given (parseNameAndAddress Field50H 2 (drop 1 (lines body))) _) ∙ e)
+  unfolding parseNameAndAddress
+  differs e = never 2 1 (length (drop 1 (lines body))) (drop 1 (lines body)) (omega arith) (sym (ap (λ (r : Reading). r .reply) reads-on ∙ given (parseNameAndAddress Field50H 2 (drop 1 (lines body))) _) ∙ e)

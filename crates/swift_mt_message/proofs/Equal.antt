@@ -1,48 +1,60 @@
 -- The theorem: for every ASCII body of at most 2,048 bytes, what specs/Equal.antt claims. Assumes nothing.
-use mathlib.Core.Path.{_≡_}
+use mathlib.Core.Path.{_≡_, refl, sym, _∙_, ap}
+use mathlib.Core.Bool.{true, false, false≢true}
+use mathlib.Core.Option.{some}
+use Prim.Native.Nat.{ℕ}
+use lib.Dec.{eqb}
+use borrow.Author.Tests.{ne-eqb}
 use Rattle.errors.specs.Refusals.{accepted}
+use Rattle.party.specs.declared.PartyOption.{PartyOption}
+use Rattle.party.specs.declared.PartyOption.the-variants.{Field50H}
+use Rattle.swift_utils.specs.Bytes.{between}
 use Rattle.field_utils.specs.Lines.{lines}
-use Rattle.reader.specs.Options.{bodyReply}
+use Rattle.reader.specs.Reading.{Reading}
+use Rattle.reader.specs.Options.{bodyReply, read}
+use Rattle.choices.specs.declared.Choice.{Choice}
+use Rattle.choices.specs.Choices.{refusing, parse, letterReply, pickOf, parseWithVariant}
+use Rattle.choices.proofs.Trials.{by-choice}
 use Rattle.swift_mt_message.specs.Std.{Str}
-use Rattle.swift_mt_message.specs.Equal.{Equal}
-use Rattle.swift_mt_message.proofs.Field50 as options50
-use Rattle.swift_mt_message.proofs.Field59 as options59
-use Rattle.swift_mt_message.proofs.Choices50 as choices50
-use Rattle.swift_mt_message.proofs.Choices59 as choices59
-use Rattle.swift_mt_message.proofs.ChoiceFGH as FGH
-use Rattle.swift_mt_message.proofs.Accounts as accounts
+use Rattle.swift_mt_message.specs.Equal.{rustParseWithVariant, byAccount, FGH, Equal}
+use Rattle.swift_mt_message.proofs.Accounts.{illegal, reads-on, differs}
+use Rattle.swift_mt_message.proofs.Choices.{reading, at-option, not-H, expected, fgh-reads, detected, picks, by-variant, parsed-by}
 
-pub equal : (body : Str) → bodyReply body ≡ accepted → Equal body
-equal body q = record {
-  at-50 = options50.at-50 body q;
-  at-50A = options50.at-50A body q;
-  at-50F = options50.at-50F body q;
-  at-50K = options50.at-50K body q;
-  at-50C = options50.at-50C body q;
-  at-50L = options50.at-50L body q;
-  at-50G = options50.at-50G body q;
-  at-50H = options50.at-50H body q;
-  at-59 = options59.at-59 body q;
-  at-59A = options59.at-59A body q;
-  at-59F = options59.at-59F body q;
-  instructing = choices50.instructing body q;
-  fgh = FGH.fgh body q;
-  afk = choices50.afk body q;
-  ncf = choices50.ncf body q;
-  at-creditor = choices50.at-creditor body q;
-  at-field59 = choices59.at-field59 body q;
-  at-debtor = choices59.at-debtor body q;
-  instructing-by = choices50.instructing-by body q;
-  afk-by = choices50.afk-by body q;
-  ncf-by = choices50.ncf-by body q;
-  creditor-by = choices50.creditor-by body q;
-  field59-by = choices59.field59-by body q;
-  debtor-by = choices59.debtor-by body q;
-  fgh-by-F = FGH.by-F body q;
-  fgh-by-G = FGH.by-G body q;
-  fgh-by-H = FGH.by-H body q;
-  fgh-by-other = λ letter e h. FGH.by-other body q letter h e;
-  reads-on = λ e. accounts.reads-on body q (accounts.illegal (lines body) e);
-  differs = λ e. accounts.differs body q (accounts.illegal (lines body) e);
-  fgh-reads = FGH.FGH-reads body q;
-}
+module _ (body : Str) (q : bodyReply body ≡ accepted) where
+  -- no choice but FGH has 50H
+  abbrev Same : Choice → Type 0
+  Same c = (c ≡ FGH → ⊥)
+      → (expected body q c ≡ parse c body) × ((letter : ℕ) → picks body q letter c (reading body) (expected body q c) ≡ picks body q letter c (λ o. read o body) (parse c body))
+
+  same : (c : Choice) → Same c
+  same = by-choice Same (λ n. (refl, λ k. refl)) (λ n. absurd (n refl)) (λ n. (refl, λ k. refl)) (λ n. (refl, λ k. refl)) (λ n. (refl, λ k. refl)) (λ n. (refl, λ k. refl)) (λ n. (refl, λ k. refl))
+
+  -- FGH by a letter that none of its options has
+  module _ (letter : ℕ) (e : letterReply letter ≡ accepted) (h : between 70 72 letter ≡ false) where
+    is-not : (c : ℕ) → between 70 72 c ≡ true → eqb letter c ≡ false
+    is-not c t = ne-eqb letter c (λ e. false≢true (sym h ∙ ap (between 70 72) e ∙ t))
+
+    detects : (f : PartyOption → Reading) (s : Reading) → picks body q letter FGH f s ≡ s
+    detects f s = rw (is-not 70 refl, is-not 71 refl, is-not 72 refl)
+
+    other : rustParseWithVariant FGH body letter ≡ some (byAccount body (refusing 11 0) (parseWithVariant FGH body letter))
+    other =
+        by-variant body q letter FGH
+        ∙ ap some (detects (reading body) _ ∙ ap (byAccount body (refusing 11 0)) (sym (detects (λ o. read o body) _) ∙ parsed-by body q letter e FGH))
+
+  pub equal : Equal body
+  unfolding parseWithVariant pickOf
+  equal = record {
+    option = λ o n. at-option o body q ∙ ap some (not-H o body n);
+    at-50H = at-option Field50H body q;
+    detected = λ c n. detected body q c ∙ ap some (same c n .0);
+    by-letter = λ c n letter e. by-variant body q letter c ∙ ap some (same c n .1 letter ∙ parsed-by body q letter e c);
+    fgh = detected body q FGH;
+    fgh-by-F = by-variant body q 70 FGH;
+    fgh-by-G = by-variant body q 71 FGH;
+    fgh-by-H = by-variant body q 72 FGH;
+    fgh-by-other = other;
+    reads-on = λ e. reads-on body q (illegal (lines body) e);
+    differs = λ e. differs body q (illegal (lines body) e);
+    fgh-reads = fgh-reads body q;
+  }

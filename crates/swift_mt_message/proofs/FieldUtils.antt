@@ -15,28 +15,22 @@ use Rattle.swift_utils.specs.Bytes.{all, between, letter, alphanumeric}
 use Rattle.swift_utils.specs.Checks.{parseAccount}
 use Rattle.field_utils.specs.Lines.{upto, starts}
 use Rattle.field_utils.specs.Identifier.{identifierReply, secondSlash}
+use Rattle.field_utils.proofs.Places.{Upto, here, past, by-upto}
+use Rattle.field_utils.proofs.Places as places
 use Rattle.field_utils.proofs.Identifiers.{no-slash, two-slashes, starts-long}
 use Rattle.swift_mt_message.specs.Std.{Str, slash, Ok, err-if, is-empty, strip-prefix, within, is-alphabetic, is-digit}
 use Rattle.swift_mt_message.specs.Std as S
 use Rattle.swift_mt_message.specs.SwiftUtils.{parse-swift-chars}
-use Rattle.swift_mt_message.specs.FieldUtils.{parse-code, parse-party-identifier}
-use Rattle.swift_mt_message.proofs.Results.{Is, ok, must-is, if-is, then-is, last-is, reply-is, value-is}
-use Rattle.swift_mt_message.proofs.Std.{alphabetic, digits, all-same, started, at-most, found-at, found-none}
-use Rattle.swift_mt_message.proofs.SwiftUtils.{swift-chars}
+use Rattle.swift_mt_message.specs.FieldUtils.{parse-code, parse-remaining, parse-party-identifier}
+use Rattle.swift_mt_message.proofs.Results.{by-test, Is, ok, if-is, last-is, reply-is, value-is, then-accepted}
+use Rattle.swift_mt_message.proofs.Std.{alphabetic, digits, all-same, started, up-to, from-is, to-is, found-at, found-none}
+use Rattle.swift_mt_message.proofs.SwiftUtils.{swift-chars, account-is}
 
 -- the two parts of a text around the first slash
-around : (s : Str) → upto slash s < length s → take (upto slash s) s ++ slash ∷ drop (suc (upto slash s)) s ≡ s
-unfolding upto
-around [] h = absurd (omega arith)
-around (b ∷ s) h = go (eqb b slash) refl h (around s)
-  where
-    go : (t : Bool) → eqb b slash ≡ t → upto slash (b ∷ s) < length (b ∷ s)
-        → (upto slash s < length s → take (upto slash s) s ++ slash ∷ drop (suc (upto slash s)) s ≡ s)
-        → take (upto slash (b ∷ s)) (b ∷ s) ++ slash ∷ drop (suc (upto slash (b ∷ s))) (b ∷ s) ≡ b ∷ s
-    go true e h f = rw (e, upto) (ap (λ (c : ℕ). c ∷ s) (sym (eqb-true b slash e)))
-    go false e h f =
-        let k : suc (upto slash s) < suc (length s) = rw (e, upto) at h in
-        rw (e, upto) (ap (λ (l : Str). b ∷ l) (f (omega arith)))
+parted : {n : ℕ} {s : Str} → Upto slash s n → n < length s → take n s ++ slash ∷ drop (suc n) s ≡ s
+parted places.none h = absurd (omega arith)
+parted here h = refl
+parted (past {a = b} e r) h = ap (_∷_ b) (parted r (omega arith))
 
 -- a text that does not start with a slash has one later, if at all
 later : (s : Str) → starts slash s ≡ false → upto slash s < length s → 0 < upto slash s
@@ -56,11 +50,7 @@ no-prefix (b ∷ s) e = rw (e, strip-prefix)
 
 -- an identifier after its code
 id-is : (id : Str) {A : Type 0} (v : A) → Is (S._then_ (err-if (ltb 34 (length id)) 2 1) (S._then_ (parse-swift-chars id 1) (Ok v))) (parseAccount 0 34 1 id) v
-unfolding parseAccount
-id-is id v =
-    reply-is
-    (then-is (must-is _ (leb (length id) 34) 2 1 (at-most (length id) 34)) (λ e. last-is (swift-chars id 1) (λ f. ok)))
-    (rw (leb·zero (length id)))
+id-is id v = reply-is (account-is 0 34 _ id (up-to (length id) 34) ok) (then-accepted (parseAccount 0 34 1 id))
 
 -- the two tests of a code
 letter-or-digit : (c : ℕ) → (is-alphabetic c || is-digit c) ≡ alphanumeric c
@@ -84,12 +74,10 @@ module _ (code id : Str) (h : 1 ≤ length code) where
 
   code-is : Is (parse-code code id) (must (leb (length code) 2 && all alphanumeric code) 2 1 then parseAccount 0 34 1 id) (some (code ++ slash ∷ id))
   unfolding parse-code
-  code-is = go (eqb (length code) 1 && S.all is-alphabetic code) refl
-    where
-      go : (t : Bool) → (eqb (length code) 1 && S.all is-alphabetic code) ≡ t
-          → Is (parse-code code id) (must (leb (length code) 2 && all alphanumeric code) 2 1 then parseAccount 0 34 1 id) (some (code ++ slash ∷ id))
-      go true e = rw (e, parse-code) (rw (first e) (id-is id (some (code ++ slash ∷ id))))
-      go false e = rw (e, parse-code) (if-is _ (leb (length code) 2 && all alphanumeric code) 2 1 second (λ t. id-is id (some (code ++ slash ∷ id))))
+  code-is =
+      by-test (eqb (length code) 1 && S.all is-alphabetic code)
+      (λ e. rw (e, parse-code) (rw (first e) (id-is id (some (code ++ slash ∷ id)))))
+      (λ e. rw (e, parse-code) (if-is _ (leb (length code) 2 && all alphanumeric code) 2 1 second (λ t. id-is id (some (code ++ slash ∷ id)))))
 
 -- what follows the first slash
 module _ (s : Str) where
@@ -114,45 +102,41 @@ unfolding parse-party-identifier
 no-identifier l e = rw (started l slash ∙ e, parse-party-identifier) ok
 
 -- `//`
-after-special : (c : ℕ) (s : Str) → eqb c slash ≡ true → Is (parse-party-identifier (slash ∷ c ∷ s)) (identifierReply 34 1 (c ∷ s)) (some (c ∷ s))
-unfolding parse-party-identifier starts parseAccount
+after-special : (c : ℕ) (s : Str) → eqb c slash ≡ true → Is (parse-remaining (c ∷ s)) (identifierReply 34 1 (c ∷ s)) (some (c ∷ s))
+unfolding parse-remaining starts parseAccount
 after-special c s e =
-    rw (e, parse-party-identifier)
+    rw (e, parse-remaining)
     (value-is
     (reply-is (if-is _ (between 1 34 (length s)) 2 1 (full s) (λ t. last-is (swift-chars s 1) (λ u. ok))) (sym (special (c ∷ s) e)))
     (ap (λ (b : ℕ). some (b ∷ s)) (sym (eqb-true c slash e))))
 
 module _ (s : Str) (e : starts slash s ≡ false) where
   -- `/` code `/` id
-  after-code : upto slash s < length s → Is (parse-party-identifier (slash ∷ s)) (identifierReply 34 1 s) (some s)
-  unfolding parse-party-identifier
+  after-code : upto slash s < length s → Is (parse-remaining s) (identifierReply 34 1 s) (some s)
+  unfolding parse-remaining
   after-code h =
       let k : length (take (upto slash s) s) ≡ upto slash s = length-take-le (upto slash s) s (omega arith) in
-      rw (no-prefix s e, parse-party-identifier) (rw (found-at s slash h, parse-party-identifier) (rw add-one
+      rw (no-prefix s e, parse-remaining) (rw (found-at s slash h, parse-remaining) (rw (add-one, to-is (upto slash s) s (omega arith), from-is (suc (upto slash s)) s (omega arith))
       (value-is
       (reply-is (code-is (take (upto slash s) s) (drop (suc (upto slash s)) s) (omega (arith, later s e h))) (rw k (sym (coded s e h))))
-      (ap (λ (t : Str). some t) (around s h)))))
+      (ap (λ (t : Str). some t) (parted (by-upto slash s) h)))))
 
   -- no second slash
-  after-plain : length s ≤ upto slash s → Is (parse-party-identifier (slash ∷ s)) (identifierReply 34 1 s) (some s)
-  unfolding parse-party-identifier parseAccount
+  after-plain : length s ≤ upto slash s → Is (parse-remaining s) (identifierReply 34 1 s) (some s)
+  unfolding parse-remaining parseAccount
   after-plain h =
-      rw (no-prefix s e, parse-party-identifier) (rw (found-none s slash h, parse-party-identifier)
+      rw (no-prefix s e, parse-remaining) (rw (found-none s slash h, parse-remaining)
       (reply-is
       (if-is _ (leb (length s) 34) 2 1 refl (λ t. last-is (swift-chars s 1) (λ u. ok)))
       (sym (no-slash 34 1 s (upto slash s) refl h ∙ rw (leb·zero (length s))))))
 
 -- the identifier of a line that starts with a slash
 pub identifier : (l : Str) → starts slash l ≡ true → Is (parse-party-identifier l) (identifierReply 34 1 (drop 1 l)) (some (drop 1 l))
-unfolding starts
+unfolding starts parse-party-identifier
 identifier [] e = absurd (false≢true e)
 identifier (b ∷ s) e = rw (eqb-true b slash e) (go s (starts slash s) refl)
   where
-    go : (s : Str) (t : Bool) → starts slash s ≡ t → Is (parse-party-identifier (slash ∷ s)) (identifierReply 34 1 s) (some s)
+    go : (s : Str) (t : Bool) → starts slash s ≡ t → Is (parse-remaining s) (identifierReply 34 1 s) (some s)
     go [] true f = absurd (false≢true f)
     go (c ∷ s) true f = after-special c s f
-    go s false f = by-place (ltb (upto slash s) (length s)) refl
-      where
-        by-place : (t : Bool) → ltb (upto slash s) (length s) ≡ t → Is (parse-party-identifier (slash ∷ s)) (identifierReply 34 1 s) (some s)
-        by-place true g = after-code s f (ltb-true _ _ g)
-        by-place false g = after-plain s f (ltb-false _ _ g)
+    go s false f = by-test (ltb (upto slash s) (length s)) (λ g. after-code s f (ltb-true _ _ g)) (λ g. after-plain s f (ltb-false _ _ g))

@@ -7,11 +7,11 @@ pub mod Names
 pub mod Bodies
 pub mod Field50
 pub mod Field59
-pub mod Choices
-pub mod Choices59
-pub mod Choices50
 pub mod Accounts
-pub mod ChoiceFGH
+pub mod Detection
+pub mod Choices
 pub mod Equal
 pub mod Writing
 pub mod Values
+pub mod Panics
+pub mod Listed

@@ -1,6 +1,6 @@
 -- The Rust's lines are document 01's. Assumes nothing.
 use mathlib.Core.Path.{_≡_, refl, sym, _∙_, ap}
-use mathlib.Core.Bool.{Bool, true, false, _&&_, and-false}
+use mathlib.Core.Bool.{true, false, _&&_, and-false}
 use mathlib.Core.List.{List, [], _∷_, map}
 use mathlib.Core.Option.{Option, none, some, Option·map, Option·getD}
 use Prim.Native.Nat.{ℕ}
@@ -71,15 +71,12 @@ module _ (b : ℕ) (e : eqb b newline ≡ false) where
     before-newline : eqb c newline ≡ true → S.lines s ≡ lines s → S.lines (b ∷ c ∷ s) ≡ lines (b ∷ c ∷ s)
     unfolding in-front starts onto line-of strip-suffix
     before-newline f h =
-        ap (map line-of) (split-other b (c ∷ s) e ∙ ap (in-front b) (split-newline c s f)) ∙ go (eqb b return) refl
-      where
-        go : (t : Bool) → eqb b return ≡ t → line-of (b ∷ c ∷ []) ∷ S.lines s ≡ lines (b ∷ c ∷ s)
-        go true g =
-            rw (eqb-true b return g, eqb-true c newline f) (ap (λ (ls : List Str). [] ∷ ls) h)
-            ∙ sym (lines-dropped b (c ∷ s) e (rw (g, f)) ∙ lines-newline c s f)
-        go false g =
-            rw (eqb-true c newline f, line-ended b g) (ap (λ (ls : List Str). (b ∷ []) ∷ ls) h)
-            ∙ sym (lines-kept b (c ∷ s) e (rw g) ∙ ap (onto b) (lines-newline c s f))
+        ap (map line-of) (split-other b (c ∷ s) e ∙ ap (in-front b) (split-newline c s f))
+        ∙ by-test (eqb b return)
+        (λ g.
+        rw (eqb-true b return g, eqb-true c newline f) (ap (λ (ls : List Str). [] ∷ ls) h) ∙ sym (lines-dropped b (c ∷ s) e (rw (g, f)) ∙ lines-newline c s f))
+        (λ g.
+        rw (eqb-true c newline f, line-ended b g) (ap (λ (ls : List Str). (b ∷ []) ∷ ls) h) ∙ sym (lines-kept b (c ∷ s) e (rw g) ∙ ap (onto b) (lines-newline c s f)))
 
     before-other : eqb c newline ≡ false → S.lines (c ∷ s) ≡ lines (c ∷ s) → S.lines (b ∷ c ∷ s) ≡ lines (b ∷ c ∷ s)
     unfolding starts

@@ -12,18 +12,18 @@ use Rattle.errors.proofs.Replies.{must-held, then-assoc}
 use Rattle.swift_utils.specs.Bytes.{between, digit}
 use Rattle.party.specs.declared.PartyOption.{PartyOption}
 use Rattle.party.specs.Limits.{limitsOf}
-use Rattle.field_utils.specs.declared.Numbering.{Numbering}
-use Rattle.field_utils.specs.declared.Numbering.the-variants.{Unnumbered, Numbered, InTurn}
+use Rattle.party.specs.declared.Numbering.{Numbering}
+use Rattle.party.specs.declared.Numbering.the-variants.{Unnumbered, Numbered, InTurn}
 use Rattle.field_utils.specs.Identifier.{isNumbered}
-use Rattle.field_utils.specs.Names.{numberingOf, parseLine, parseLines, parseCount, parseNameAndAddress, kept}
-use Rattle.swift_mt_message.specs.Std.{Str, slash, Result, Ok, _and-then_, err-if, for-from, is-empty, push, nth, is-some-and, equals, unwrap, to-digit, is-digit}
+use Rattle.field_utils.specs.Names.{parseLine, parseLines, parseCount, parseNameAndAddress, kept}
+use Rattle.writer.proofs.Tests.{numbered-room}
+use Rattle.swift_mt_message.specs.Std.{Str, slash, Result, Ok, _and-then_, err-if, _or_, for-from, is-empty, push, nth, is-some-and, equals, unwrap, to-digit, is-digit}
 use Rattle.swift_mt_message.specs.Std as S
 use Rattle.swift_mt_message.specs.SwiftUtils.{parse-swift-chars}
-use Rattle.swift_mt_message.specs.FieldUtils.{name-line}
 use Rattle.swift_mt_message.specs.Field50.{Field50NoOption·line, Field50F·line, Field50K·line, Field50H·line, numbered}
 use Rattle.swift_mt_message.specs.Field59.{Field59F·line}
-use Rattle.swift_mt_message.proofs.Results.{Is, ok, err, must-is, must-at, then-is, and-is, last-is, reply-is, value-is}
-use Rattle.swift_mt_message.proofs.Std.{digits, at-most}
+use Rattle.swift_mt_message.proofs.Results.{by-test, Is, ok, err, must-is, must-at, then-is, and-is, last-is, reply-is, value-is}
+use Rattle.swift_mt_message.proofs.Std.{digits, at-most, from-is, minus-is}
 use Rattle.swift_mt_message.proofs.SwiftUtils.{swift-chars, chars-at}
 
 -- the variables of a loop after its lines
@@ -63,39 +63,31 @@ counts (l ∷ names) w e =
 
 -- names, tested in order and counted last
 module _ (o : PartyOption) (four : limitsOf o .names ≡ 4) {C : Type 0} (make : List Str → C) (start : ℕ) (body : List Str → ℕ → Str → Result (List Str))
-    (tests : Tests (numberingOf o) (limitsOf o .name) start (pushed (numberingOf o)) body) (ls : List Str) where
-  tested : Is (for-from body [] start ls) (parseLines (numberingOf o) (limitsOf o .name) (suc start) 1 ls) (map (kept (numberingOf o)) ls)
+    (tests : Tests (limitsOf o .numbering) (limitsOf o .name) start (pushed (limitsOf o .numbering)) body) (ls : List Str) where
+  tested : Is (for-from body [] start ls) (parseLines (limitsOf o .numbering) (limitsOf o .name) (suc start) 1 ls) (map (kept (limitsOf o .numbering)) ls)
   tested =
       value-is
-      (loop (numberingOf o) (limitsOf o .name) start (pushed (numberingOf o)) body tests [] start 0 ls (omega arith))
-      (over-pushed (numberingOf o) [] ls)
+      (loop (limitsOf o .numbering) (limitsOf o .name) start (pushed (limitsOf o .numbering)) body tests [] start 0 ls (omega arith))
+      (over-pushed (limitsOf o .numbering) [] ls)
+
+  counted : (check : List Str → Result C) → ((ns : List Str) → length ns ≡ length ls → Is (check ns) (parseCount 4 (length ls)) (make ns))
+      → Is (for-from body [] start ls and-then check) (parseNameAndAddress o (suc start) ls) (make (map (kept (limitsOf o .numbering)) ls))
+  unfolding parseNameAndAddress
+  counted check f = and-is check tested (λ g. rw four (f (map (kept (limitsOf o .numbering)) ls) (length-map ls (kept (limitsOf o .numbering)))))
 
   pub named : Is
       (for-from body [] start ls and-then λ names. S._then_ (err-if (is-empty names) 7 0) (S._then_ (err-if (ltb 4 (length names)) 7 0) (Ok (make names))))
       (parseNameAndAddress o (suc start) ls)
-      (make (map (kept (numberingOf o)) ls))
-  unfolding parseNameAndAddress
-  named =
-      and-is
-      (λ names. S._then_ (err-if (is-empty names) 7 0) (S._then_ (err-if (ltb 4 (length names)) 7 0) (Ok (make names))))
-      tested
-      (λ g. rw four (counts (map (kept (numberingOf o)) ls) (make (map (kept (numberingOf o)) ls)) (length-map ls (kept (numberingOf o)))))
+      (make (map (kept (limitsOf o .numbering)) ls))
+  named = counted _ (λ ns e. counts ns (make ns) e)
 
   -- where there is a name, it is tested only that they are not too many
   pub named-some : 1 ≤ length ls
       → Is
       (for-from body [] start ls and-then λ names. S._then_ (err-if (ltb 4 (length names)) 7 0) (Ok (make names)))
       (parseNameAndAddress o (suc start) ls)
-      (make (map (kept (numberingOf o)) ls))
-  unfolding parseNameAndAddress
-  named-some h =
-      and-is
-      (λ names. S._then_ (err-if (ltb 4 (length names)) 7 0) (Ok (make names)))
-      tested
-      (λ g. rw (four, le-leb 1 (length ls) h)
-      (last-is
-      (must-is _ (leb (length ls) 4) 7 0 (at-most (length (map (kept (numberingOf o)) ls)) 4 ∙ ap (λ (n : ℕ). not (leb n 4)) (length-map ls (kept (numberingOf o)))))
-      (λ k. ok)))
+      (make (map (kept (limitsOf o .numbering)) ls))
+  named-some h = counted _ (λ ns e. rw (le-leb 1 (length ls) h, ← e) (last-is (must-is _ (leb (length ns) 4) 7 0 (at-most (length ns) 4)) (λ k. ok)))
 
 -- a line of names without a number
 plain : {C : Type 0} (m n k : ℕ) (l : Str) (w : C) → m ≡ n
@@ -107,17 +99,14 @@ pub line-50 : Tests Unnumbered 35 0 (λ vars l. tt) Field50NoOption·line
 unfolding Field50NoOption·line
 line-50 vars i j l e = plain (i + 1) (suc i) (suc j) l tt (omega arith)
 
+-- and 59, which has the same loop
 pub line-50K : (start : ℕ) → Tests Unnumbered 35 start (pushed Unnumbered) (Field50K·line start)
 unfolding Field50K·line
-line-50K start names i j l e = plain (start + (i - start + 1)) (suc i) (suc j) l (push names l) (omega arith)
+line-50K start names i j l e = rw (minus-is i start (omega arith)) (plain (start + (i - start + 1)) (suc i) (suc j) l (push names l) (omega arith))
 
 pub line-50H : Tests Unnumbered 35 1 (pushed Unnumbered) Field50H·line
 unfolding Field50H·line
 line-50H names i j l e = plain (1 + i) (suc i) (suc j) l (push names l) (omega arith)
-
-pub line-59 : (start : ℕ) → Tests Unnumbered 35 start (pushed Unnumbered) (name-line start)
-unfolding name-line
-line-59 start names i j l e = plain (start + (i - start + 1)) (suc i) (suc j) l (push names l) (omega arith)
 
 -- a numbered line, as the choices test it
 pub numbers : (l : Str) → numbered l ≡ isNumbered l
@@ -149,45 +138,50 @@ line-50F names i j l e =
     let n : 1 + i ≡ suc i = omega arith in
     rw n
     (two-steps l (suc i) (λ t.
-    then-is (must-is _ (leb (length (drop 2 l)) 33) 4 (suc i) (at-most (length (drop 2 l)) 33)) (λ g. last-is (swift-chars (drop 2 l) (suc i)) (λ h. ok))))
+    rw (from-is 2 l (numbered-room l t))
+    (then-is (must-is _ (leb (length (drop 2 l)) 33) 4 (suc i) (at-most (length (drop 2 l)) 33)) (λ g. last-is (swift-chars (drop 2 l) (suc i)) (λ h. ok)))))
 
 -- as 59F does, in one
-one-step : (l : Str) → (ltb (length l) 2 || not (is-digit (unwrap (nth 0 l))) || not (equals (nth 1 l) slash)) ≡ not (isNumbered l)
+one-step : (l : Str)
+    → (Ok (ltb (length l) 2) or (unwrap (nth 0 l) and-then λ c. Ok (not (is-digit c))) or Ok (not (equals (nth 1 l) slash))) ≡ Ok (not (isNumbered l))
 unfolding isNumbered
 one-step [] = refl
 one-step (d ∷ []) = refl
-one-step (d ∷ s ∷ l) = rw (le-ltb (length (d ∷ s ∷ l)) 2 (omega arith), digits d) (go (digit d))
-  where
-    go : (a : Bool) → (not a || not (eqb s slash)) ≡ not (a && eqb s slash)
-    go true = refl
-    go false = refl
+one-step (d ∷ s ∷ l) = rw (le-ltb (length (d ∷ s ∷ l)) 2 (omega arith), digits d) (by-test (digit d) (λ e. rw e) (λ e. rw e))
+
+-- its digit is there
+line-number : (l : Str) → isNumbered l ≡ true → (unwrap (nth 0 l) and-then λ c. unwrap (to-digit c)) ≡ Ok (getD l 0 0 - 48)
+unfolding isNumbered
+line-number [] e = absurd (false≢true e)
+line-number (d ∷ []) e = absurd (false≢true e)
+line-number (d ∷ s ∷ l) e = rw (digits d ∙ and-eq-true-iff (digit d) (eqb s slash) .0 e .0, to-digit)
 
 -- the number of a line is its byte less that of 0
-turn : (l : Str) (m k : ℕ) → isNumbered l ≡ true → m ≡ k → eqb (to-digit (unwrap (nth 0 l))) m ≡ eqb (getD l 0 0) (48 + k)
+turn : (l : Str) (m k : ℕ) → isNumbered l ≡ true → m ≡ k → eqb (getD l 0 0 - 48) m ≡ eqb (getD l 0 0) (48 + k)
 unfolding isNumbered digit
 turn [] m k e f = absurd (false≢true e)
 turn (d ∷ []) m k e f = absurd (false≢true e)
-turn (d ∷ s ∷ l) m k e f = go (eqb d (48 + k)) refl
-  where
-    low : 48 ≤ d
-    low = leb-true 48 d (and-eq-true-iff _ _ .0 (and-eq-true-iff (between 48 57 d) (eqb s slash) .0 e .0) .0)
-
-    go : (t : Bool) → eqb d (48 + k) ≡ t → eqb (d - 48) m ≡ eqb d (48 + k)
-    go true g = rw g (eq-eqb (d - 48) m (omega (arith, eqb-true d (48 + k) g)))
-    go false g = rw g (ne-eqb (d - 48) m (λ h. eqb-false d (48 + k) g (omega (arith, low))))
+turn (d ∷ s ∷ l) m k e f =
+    let low = leb-true 48 d (and-eq-true-iff _ _ .0 (and-eq-true-iff (between 48 57 d) (eqb s slash) .0 e .0) .0) in
+    by-test (eqb d (48 + k))
+    (λ g. rw g (eq-eqb (d - 48) m (omega (arith, eqb-true d (48 + k) g))))
+    (λ g. rw g (ne-eqb (d - 48) m (λ h. eqb-false d (48 + k) g (omega (arith, low)))))
 
 pub line-59F : (start : ℕ) → Tests InTurn 33 start (pushed InTurn) (Field59F·line start)
 unfolding Field59F·line parseLine
 line-59F start names i j l e =
-    let num = to-digit (unwrap (nth 0 l)) in
+    let num = getD l 0 0 - 48 in
     let m : i - start + 1 ≡ suc j = omega arith in
     let n : start + (i - start + 1) ≡ suc i = omega arith in
     reply-is
-    (then-is (must-at _ (isNumbered l) 5 (one-step l) n) (λ f.
-    let t = turn l (i - start + 1) (suc j) (must-held _ 5 (suc i) f) m in
-    then-is (must-at _ (eqb (getD l 0 0) (48 + suc j)) 6 (ap not t) n) (λ g.
+    (rw (one-step l, minus-is i start (omega arith))
+    (then-is (must-at _ (isNumbered l) 5 refl n) (λ f.
+    let numbered = must-held (isNumbered l) 5 (suc i) f in
+    let t = turn l (i - start + 1) (suc j) numbered m in
+    rw (line-number l numbered, from-is 2 l (numbered-room l numbered))
+    (then-is (must-at _ (eqb (getD l 0 0) (48 + suc j)) 6 (ap not t) n) (λ g.
     let k : num ≡ i - start + 1 = eqb-true num (i - start + 1) (t ∙ must-held _ 6 (suc i) g) in
     let p : start + num ≡ suc i = omega arith in
     then-is (must-at _ (leb (length (drop 2 l)) 33) 4 (at-most (length (drop 2 l)) 33) p) (λ h.
-    last-is (chars-at (drop 2 l) p) (λ q. ok)))))
+    last-is (chars-at (drop 2 l) p) (λ q. ok)))))))
     (sym (then-assoc (must (isNumbered l) 5 (suc i)) (must (eqb (getD l 0 0) (48 + suc j)) 6 (suc i)) _))

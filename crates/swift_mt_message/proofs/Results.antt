@@ -1,5 +1,5 @@
 -- A result of the Rust as a reply of document 01 with a value, and the Rust's statements in their order. Assumes nothing.
-use mathlib.Core.Path.{_≡_, refl, sym, _∙_, ap}
+use mathlib.Core.Path.{_≡_, refl, _∙_, ap}
 use mathlib.Core.Bool.{Bool, true, false, not}
 use Prim.Native.Nat.{ℕ}
 use Rattle.errors.specs.Refusals.{Reply, accepted, refused, must, _then_}
@@ -44,21 +44,24 @@ module _ {A B : Type 0} where
   and-is {r = accepted} f e g = record { is = ap (λ (y : Result A). y and-then f) (e .is) ∙ g refl .is }
   and-is {r = refused k n} f e g = record { is = ap (λ (y : Result A). y and-then f) (e .is) }
 
-  -- the last check before what is given
-  pub last-is : {x : Result A} {r : Reply} {v : A} {rest : Result B} {w : B} → Is x r v → (r ≡ accepted → Is rest accepted w) → Is (S._then_ x rest) r w
-  last-is {r = accepted} {rest = rest} e f = record { is = ap (λ (y : Result A). S._then_ y rest) (e .is) ∙ f refl .is }
-  last-is {r = refused k n} {rest = rest} e f = record { is = ap (λ (y : Result A). S._then_ y rest) (e .is) }
-
-  pub last-and : {x : Result A} {r : Reply} {v : A} (f : A → Result B) {w : B} → Is x r v → (r ≡ accepted → Is (f v) accepted w) → Is (x and-then f) r w
-  last-and {r = accepted} f e g = record { is = ap (λ (y : Result A). y and-then f) (e .is) ∙ g refl .is }
-  last-and {r = refused k n} f e g = record { is = ap (λ (y : Result A). y and-then f) (e .is) }
-
 -- the same reply, and the same value where it accepts
 pub reply-is : {A : Type 0} {x : Result A} {r s : Reply} {v : A} → Is x r v → r ≡ s → Is x s v
 reply-is {v = v} e f = record { is = e .is ∙ ap (λ (q : Reply). result q v) f }
 
 pub value-is : {A : Type 0} {x : Result A} {r : Reply} {v w : A} → Is x r v → v ≡ w → Is x r w
 value-is {r = r} e f = record { is = e .is ∙ ap (result r) f }
+
+pub then-accepted : (r : Reply) → (r then accepted) ≡ r
+then-accepted accepted = refl
+then-accepted (refused k n) = refl
+
+-- the last check before what is given
+module _ {A B : Type 0} where
+  pub last-is : {x : Result A} {r : Reply} {v : A} {rest : Result B} {w : B} → Is x r v → (r ≡ accepted → Is rest accepted w) → Is (S._then_ x rest) r w
+  last-is {r = r} e f = reply-is (then-is e f) (then-accepted r)
+
+  pub last-and : {x : Result A} {r : Reply} {v : A} (f : A → Result B) {w : B} → Is x r v → (r ≡ accepted → Is (f v) accepted w) → Is (x and-then f) r w
+  last-and {r = r} f e g = reply-is (and-is f e g) (then-accepted r)
 
 -- checks in order
 pub then-same : (r : Reply) {s t : Reply} → (r ≡ accepted → s ≡ t) → (r then s) ≡ (r then t)
@@ -70,11 +73,3 @@ pub if-is : {A : Type 0} (t b : Bool) (k n : ℕ) {x : Result A} {s : Reply} {v 
     → Is (elim t [ true ↦ x | false ↦ Err k n ]) (must b k n then s) v
 if-is {A} t true k n {x} e f = record { is = ap (λ (u : Bool). elim u as (λ y. Result A) [ true ↦ x | false ↦ Err k n ]) e ∙ f refl .is }
 if-is {A} t false k n {x} e f = record { is = ap (λ (u : Bool). elim u as (λ y. Result A) [ true ↦ x | false ↦ Err k n ]) e }
-
-pub then-accepted : (r : Reply) → (r then accepted) ≡ r
-then-accepted accepted = refl
-then-accepted (refused k n) = refl
-
--- a check that is known to pass
-pub passed-is : {A : Type 0} {b : Bool} (k n : ℕ) {x : Result A} {r : Reply} {v : A} → b ≡ true → Is x r v → Is x (must b k n then r) v
-passed-is k n {r = r} e f = reply-is f (sym (ap (λ (t : Bool). must t k n then r) e))

@@ -3,17 +3,21 @@ use mathlib.Core.Path.{_≡_, refl, sym, _∙_, ap}
 use mathlib.Core.Bool.{Bool, true, false, not, _&&_, _||_, or-comm, or-assoc, and-assoc, and-eq-true-iff, false≢true}
 use mathlib.Core.List.{List, [], _∷_, _++_}
 use mathlib.Core.Option.{none, some, Option·map}
-use Prim.Native.Nat.{ℕ, suc, _≤_, _<_}
+use Prim.Native.Nat.{ℕ, zero, suc, _+_, _-_, _≤_, _<_}
 use native.Mathlib.Omega.{arith}
-use lib.Dec.{ltb, leb, eqb}
-use lib.ListN.{length}
-use borrow.Author.Tests.{le-leb, leb-true, leb-false, lt-ltb, le-ltb}
+use lib.Dec.{ltb, leb, eqb, leb·zero}
+use lib.ListN.{length, take, drop, length-append}
+use lib.Seq.{take-add, length-take-le, drop-append-seam}
+use borrow.Author.Tests.{le-leb, leb-true, leb-false, lt-ltb, le-ltb, eq-eqb}
 use Rattle.swift_utils.specs.Bytes.{all, among, between, bytes, letter, digit, alphanumeric, signs, legal}
 use Rattle.field_utils.specs.Lines.{upto, starts}
+use Rattle.field_utils.proofs.Places.{Upto, here, past, by-upto}
+use Rattle.field_utils.proofs.Places as places
 use Rattle.field_utils.specs.Trim.{white, trimmedStart, keep, trimmedEnd, trimmed}
-use Rattle.swift_mt_message.specs.Std.{Str, is-empty, contains, starts-with, find, is-alphabetic, is-digit, is-alphanumeric, is-whitespace, trim-start, trim-end, trim}
+use Rattle.swift_mt_message.specs.Std.{Str, Ok, minus, is-empty, slice-from, slice-to, slice, contains, starts-with, find, is-alphabetic, is-digit, is-alphanumeric, is-whitespace, trim-start, trim-end, trim}
 use Rattle.swift_mt_message.specs.Std as S
 use Rattle.swift_mt_message.specs.SwiftUtils.{swift-special}
+use Rattle.swift_mt_message.proofs.Results.{by-test}
 
 -- the classes of a byte
 pub alphabetic : (c : ℕ) → is-alphabetic c ≡ letter c
@@ -83,16 +87,15 @@ started (b ∷ s) c = refl
 
 -- tests of numbers
 pub at-most : (n most : ℕ) → ltb most n ≡ not (leb n most)
-at-most n most = go (leb n most) refl
-  where
-    go : (t : Bool) → leb n most ≡ t → ltb most n ≡ not (leb n most)
-    go true e = rw e (le-ltb most n (leb-true n most e))
-    go false e = rw e (lt-ltb most n (leb-false n most e))
+at-most n most = by-test (leb n most) (λ e. rw e (le-ltb most n (leb-true n most e))) (λ e. rw e (lt-ltb most n (leb-false n most e)))
 
 pub at-least : (n least : ℕ) → ltb n least ≡ not (leb least n)
 at-least n least = at-most least n
 
--- a length from 1 to a limit
+-- a length up to a limit, and one from 1 to a limit
+pub up-to : (n most : ℕ) → ltb most n ≡ not (between 0 most n)
+up-to n most = at-most n most ∙ rw (leb·zero n)
+
 pub counted : {A : Type 0} (l : List A) (most : ℕ) → (is-empty l || ltb most (length l)) ≡ not (between 1 most (length l))
 counted [] most = refl
 counted (x ∷ l) most = rw (le-leb 1 (length (x ∷ l)) (omega arith)) (at-most (length (x ∷ l)) most)
@@ -101,11 +104,11 @@ counted (x ∷ l) most = rw (le-leb 1 (length (x ∷ l)) (omega arith)) (at-most
 start-same : (s : Str) → trim-start s ≡ trimmedStart s
 unfolding trim-start trimmedStart
 start-same [] = refl
-start-same (b ∷ s) = go (white b) refl (start-same s)
-  where
-    go : (t : Bool) → white b ≡ t → trim-start s ≡ trimmedStart s → trim-start (b ∷ s) ≡ trimmedStart (b ∷ s)
-    go true e h = rw (whites b ∙ e, trim-start) (rw (e, trimmedStart) h)
-    go false e h = rw (whites b ∙ e, trim-start) (rw (e, trimmedStart))
+start-same (b ∷ s) =
+    by-test
+    (white b)
+    (λ e. rw (whites b ∙ e, trim-start) (rw (e, trimmedStart) (start-same s)))
+    (λ e. rw (whites b ∙ e, trim-start) (rw (e, trimmedStart)))
 
 end-blank : (s : Str) → S.all is-whitespace s ≡ true → trim-end s ≡ []
 unfolding trim-end
@@ -128,12 +131,12 @@ keep-none b e = rw (e, keep)
 
 end-step : (b : ℕ) (s : Str) → trim-end (b ∷ s) ≡ keep b (trim-end s)
 unfolding trim-end
-end-step b s = go (white b) (S.all is-whitespace s) refl refl
-  where
-    go : (t u : Bool) → white b ≡ t → S.all is-whitespace s ≡ u → trim-end (b ∷ s) ≡ keep b (trim-end s)
-    go true true e f = rw (whites b ∙ e, trim-end) (rw (f, trim-end) (sym (ap (keep b) (end-blank s f) ∙ keep-none b e)))
-    go true false e f = rw (whites b ∙ e, trim-end) (rw (f, trim-end) (sym (end-other b s f)))
-    go false u e f = rw (whites b ∙ e, trim-end) (sym (keep-other b (trim-end s) e))
+end-step b s =
+    by-test (white b)
+    (λ e. rw (whites b ∙ e, trim-end) (by-test (S.all is-whitespace s)
+    (λ f. rw (f, trim-end) (sym (ap (keep b) (end-blank s f) ∙ keep-none b e)))
+    (λ f. rw (f, trim-end) (sym (end-other b s f)))))
+    (λ e. rw (whites b ∙ e, trim-end) (sym (keep-other b (trim-end s) e)))
 
 end-same : (s : Str) → trim-end s ≡ trimmedEnd s
 unfolding trim-end trimmedEnd
@@ -144,81 +147,78 @@ pub trims : (s : Str) → trim s ≡ trimmed s
 unfolding trimmed
 trims s = ap trim-end (start-same s) ∙ end-same (trimmedStart s)
 
+-- a part of a text that is within it
+pub from-is : (a : ℕ) (s : Str) → a ≤ length s → slice-from a s ≡ Ok (drop a s)
+from-is zero s h = refl
+from-is (suc a) [] h = absurd (omega arith)
+from-is (suc a) (b ∷ s) h = from-is a s (omega arith)
+
+pub to-is : (e : ℕ) (s : Str) → e ≤ length s → slice-to e s ≡ Ok (take e s)
+to-is zero s h = refl
+to-is (suc e) [] h = absurd (omega arith)
+to-is (suc e) (b ∷ s) h = rw (to-is e s (omega arith))
+
+pub slice-is : (a n : ℕ) (s : Str) → a + n ≤ length s → slice a (a + n) s ≡ Ok (take n (drop a s))
+slice-is a n s h =
+    rw (to-is (a + n) s h, take-add a n s)
+    (from-is a (take a s ++ take n (drop a s)) (omega (arith, length-append (take a s) (take n (drop a s)), length-take-le a s (omega arith)))
+    ∙ ap Ok (ap (λ (k : ℕ). drop k (take a s ++ take n (drop a s))) (sym (length-take-le a s (omega arith))) ∙ drop-append-seam (take a s) (take n (drop a s))))
+
+pub minus-is : (a b : ℕ) → b ≤ a → minus a b ≡ Ok (a - b)
+minus-is a b h = rw (le-leb b a h, minus)
+
 -- the place of a byte, if it has one
+found-in : {c n : ℕ} {s : Str} → Upto c s n → n < length s → find s c ≡ some n
+unfolding find
+found-in places.none h = absurd (omega arith)
+found-in {c} here h = rw (eq-eqb c c refl, find)
+found-in (past e r) h = rw (e, find) (ap (Option·map suc) (found-in r (omega arith)))
+
+found-out : {c n : ℕ} {s : Str} → Upto c s n → length s ≤ n → find s c ≡ none
+unfolding find
+found-out places.none h = refl
+found-out here h = absurd (omega arith)
+found-out (past e r) h = rw (e, find) (ap (Option·map suc) (found-out r (omega arith)))
+
 pub found-at : (s : Str) (c : ℕ) → upto c s < length s → find s c ≡ some (upto c s)
-unfolding find upto
-found-at [] c h = absurd (omega arith)
-found-at (b ∷ s) c h = go (eqb b c) refl h (found-at s c)
-  where
-    go : (t : Bool) → eqb b c ≡ t → upto c (b ∷ s) < length (b ∷ s) → (upto c s < length s → find s c ≡ some (upto c s)) → find (b ∷ s) c ≡ some (upto c (b ∷ s))
-    go true e h f = rw (e, find) (rw (e, upto))
-    go false e h f =
-        let k : suc (upto c s) < suc (length s) = rw (e, upto) at h in
-        rw (e, find) (rw (e, upto) (ap (Option·map suc) (f (omega arith))))
+found-at s c = found-in (by-upto c s)
 
 pub found-none : (s : Str) (c : ℕ) → length s ≤ upto c s → find s c ≡ none
-unfolding find upto
-found-none [] c h = refl
-found-none (b ∷ s) c h = go (eqb b c) refl h (found-none s c)
-  where
-    go : (t : Bool) → eqb b c ≡ t → length (b ∷ s) ≤ upto c (b ∷ s) → (length s ≤ upto c s → find s c ≡ none) → find (b ∷ s) c ≡ none
-    go true e h f = let k : suc (length s) ≤ 0 = rw (e, upto) at h in absurd (omega arith)
-    go false e h f =
-        let k : suc (length s) ≤ suc (upto c s) = rw (e, upto) at h in
-        rw (e, find) (ap (Option·map suc) (f (omega arith)))
+found-none s c = found-out (by-upto c s)
 
 -- what is trimmed is no longer, and passes each test of all bytes that the whole passes
-module _ (f : ℕ → Bool) where
-  start-all : (s : Str) → all f s ≡ true → all f (trimmedStart s) ≡ true
-  unfolding trimmedStart
-  start-all [] e = refl
-  start-all (b ∷ s) e = go (white b) refl (start-all s (and-eq-true-iff (f b) (all f s) .0 e .1))
-    where
-      go : (t : Bool) → white b ≡ t → all f (trimmedStart s) ≡ true → all f (trimmedStart (b ∷ s)) ≡ true
-      go true w h = rw (w, trimmedStart) h
-      go false w h = rw (w, trimmedStart) e
+pub record Part (s t : Str) : Type 0 where
+  pub shorter : length t ≤ length s
+  pub passes : (f : ℕ → Bool) → all f s ≡ true → all f t ≡ true
 
-  keep-all : (b : ℕ) (s : Str) → f b ≡ true → all f s ≡ true → all f (keep b s) ≡ true
-  unfolding keep
-  keep-all b [] e h = go (white b) refl
-    where
-      go : (t : Bool) → white b ≡ t → all f (keep b []) ≡ true
-      go true w = rw (w, keep)
-      go false w = rw (w, keep) (rw e)
-  keep-all b (a ∷ s) e h = rw e h
-
-  end-all : (s : Str) → all f s ≡ true → all f (trimmedEnd s) ≡ true
-  unfolding trimmedEnd
-  end-all [] e = refl
-  end-all (b ∷ s) e = let h = and-eq-true-iff (f b) (all f s) .0 e in keep-all b (trimmedEnd s) (h .0) (end-all s (h .1))
-
-  pub trimmed-all : (s : Str) → all f s ≡ true → all f (trimmed s) ≡ true
-  unfolding trimmed
-  trimmed-all s e = end-all (trimmedStart s) (start-all s e)
-
-start-length : (s : Str) → length (trimmedStart s) ≤ length s
+start-part : (s : Str) → Part s (trimmedStart s)
 unfolding trimmedStart
-start-length [] = omega arith
-start-length (b ∷ s) = go (white b) refl (start-length s)
-  where
-    go : (t : Bool) → white b ≡ t → length (trimmedStart s) ≤ length s → length (trimmedStart (b ∷ s)) ≤ suc (length s)
-    go true w h = rw (w, trimmedStart) (omega arith)
-    go false w h = rw (w, trimmedStart) (omega arith)
+start-part [] = record { shorter = omega arith; passes = λ f e. e }
+start-part (b ∷ s) =
+    let p = start-part s in
+    by-test (white b)
+    (λ w. rw (w, trimmedStart) (record { shorter = omega (arith, p .shorter); passes = λ f e. p .passes f (and-eq-true-iff (f b) (all f s) .0 e .1) }))
+    (λ w. rw (w, trimmedStart) (record { shorter = omega arith; passes = λ f e. e }))
 
-keep-length : (b : ℕ) (s : Str) → length (keep b s) ≤ suc (length s)
+keep-part : (b : ℕ) (s t : Str) → Part s t → Part (b ∷ s) (keep b t)
 unfolding keep
-keep-length b [] = go (white b) refl
-  where
-    go : (t : Bool) → white b ≡ t → length (keep b []) ≤ 1
-    go true w = rw (w, keep) (omega arith)
-    go false w = rw (w, keep) (omega arith)
-keep-length b (a ∷ s) = omega arith
+keep-part b s [] p =
+    by-test (white b)
+    (λ w. rw (w, keep) (record { shorter = omega arith; passes = λ f e. refl }))
+    (λ w. rw (w, keep) (record { shorter = omega arith; passes = λ f e. rw (and-eq-true-iff (f b) (all f s) .0 e .0) }))
+keep-part b s (a ∷ t) p = record {
+  shorter = omega (arith, p .shorter);
+  passes = λ f e. let h = and-eq-true-iff (f b) (all f s) .0 e in rw (h .0) (p .passes f (h .1));
+}
 
-end-length : (s : Str) → length (trimmedEnd s) ≤ length s
+end-part : (s : Str) → Part s (trimmedEnd s)
 unfolding trimmedEnd
-end-length [] = omega arith
-end-length (b ∷ s) = omega (arith, keep-length b (trimmedEnd s), end-length s)
+end-part [] = record { shorter = omega arith; passes = λ f e. e }
+end-part (b ∷ s) = keep-part b s (trimmedEnd s) (end-part s)
 
-pub trimmed-length : (s : Str) → length (trimmed s) ≤ length s
+pub trimmed-part : (s : Str) → Part s (trimmed s)
 unfolding trimmed
-trimmed-length s = omega (arith, end-length (trimmedStart s), start-length s)
+trimmed-part s =
+    let a = start-part s in
+    let b = end-part (trimmedStart s) in
+    record { shorter = omega (arith, a .shorter, b .shorter); passes = λ f e. b .passes f (a .passes f e) }

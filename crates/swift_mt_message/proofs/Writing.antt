@@ -14,11 +14,12 @@ use Rattle.party.specs.Limits.{limitsOf}
 use Rattle.party.specs.Text.{Used}
 use Rattle.party.specs.Party.{said, Said}
 use Rattle.swift_utils.specs.Bytes.{bytes}
-use Rattle.field_utils.specs.declared.Numbering.the-variants.{Unnumbered, Numbered, InTurn}
-use Rattle.field_utils.specs.Names.{numberingOf}
+use Rattle.party.specs.declared.Numbering.{Numbering}
+use Rattle.party.specs.declared.Numbering.the-variants.{Unnumbered, Numbered, InTurn}
 use Rattle.reader.specs.Reading.{partyOf}
-use Rattle.writer.specs.Writing.{nameLines, writtenLines, joined, writtenBody, writtenField}
-use Rattle.writer.specs.Given.{Given, areNames}
+use Rattle.party.proofs.Options.{by-option}
+use Rattle.writer.specs.Writing.{tagOf, numberOf, nameLines, writtenLines, joined, writtenBody, writtenField}
+use Rattle.writer.specs.Given.{Given, isPresence, areNames}
 use Rattle.writer.proofs.Sayings.{saidWith, said-with, bytesOf, said-party}
 use Rattle.writer.proofs.NamePasses.{written-length}
 use Rattle.writer.proofs.Facts.{Facts, names-are, small}
@@ -29,7 +30,9 @@ use Rattle.writer.proofs.Theorems.{necessary}
 use Rattle.swift_mt_message.specs.Std.{Str, join, digits, number}
 use Rattle.swift_mt_message.specs.Field50 as rust50
 use Rattle.swift_mt_message.specs.Field59 as rust59
-use Rattle.swift_mt_message.specs.Writing.{to-swift-string, recordOf, structOf, Writes}
+use Rattle.swift_mt_message.specs.Structs.{to-swift-string}
+use Rattle.swift_mt_message.specs.Equal.{recordOf}
+use Rattle.swift_mt_message.specs.Writing.{structOf, Writes}
 
 -- ---- lines joined
 join-is : (ls : List Str) → join ls ≡ joined ls
@@ -39,15 +42,10 @@ join-is (l ∷ []) = refl
 join-is (l ∷ m ∷ ls) = ap (λ (x : Str). l ++ 10 ∷ x) (join-is (m ∷ ls))
 
 -- names that are written as they are
-names-plain : (k : ℕ) (us : List Used) → nameLines Unnumbered k us ≡ map bytesOf us
+names-whole : (f : Numbering) → ((k : ℕ) → numberOf f k ≡ []) → (k : ℕ) (us : List Used) → map bytesOf us ≡ nameLines f k us
 unfolding nameLines
-names-plain k [] = refl
-names-plain k (u ∷ us) = ap (_∷_ (u .bytes)) (names-plain (suc k) us)
-
-names-turn : (k : ℕ) (us : List Used) → nameLines InTurn k us ≡ map bytesOf us
-unfolding nameLines
-names-turn k [] = refl
-names-turn k (u ∷ us) = ap (_∷_ (u .bytes)) (names-turn (suc k) us)
+names-whole f e k [] = refl
+names-whole f e k (u ∷ us) = rw (e k) (ap (_∷_ (u .bytes)) (names-whole f e (suc k) us))
 
 -- 50F's numbers
 digit-of : (n : ℕ) → n < 10 → number n ≡ (48 + n) ∷ []
@@ -77,10 +75,10 @@ then-parted f l (m ∷ ls) z h = rw (z, rust59.written) (ap (λ (x : Str). l ++ 
 -- ---- how many names there are
 module _ (o : PartyOption) (z : eqb (limitsOf o .names) 0 ≡ false) (count : ℕ) (us : List Used) (h : areNames o count us ≡ true) where
   few : length us ≤ 4
-  few = omega (arith, names-are o count us h .pass z .most, written-length (numberingOf o) 1 us, small o .names)
+  few = omega (arith, names-are o count us h .pass z .most, written-length (limitsOf o .numbering) 1 us, small o .names)
 
   some-names : 1 ≤ length us
-  some-names = omega (arith, names-are o count us h .pass z .least, written-length (numberingOf o) 1 us)
+  some-names = omega (arith, names-are o count us h .pass z .least, written-length (limitsOf o .numbering) 1 us)
 
 -- the tests of the index
 parted : (b : Bool) (k : ℕ) → 1 ≤ k → (ltb 0 k || b) ≡ true
@@ -90,72 +88,78 @@ parted-all : (k : ℕ) → (ltb 0 k || eqb k 0 && true) ≡ true
 parted-all zero = refl
 parted-all (suc k) = parted (eqb (suc k) 0 && true) (suc k) (omega arith)
 
--- ---- by the option
+-- ---- by the option, and by whether an account or identifier is there: it always is, it never is, or either
+module _ (P : PartyOption → Bool → Type 0) (o : PartyOption) where
+  always : eqb (limitsOf o .shortest) 0 ≡ false → P o true → (present : Bool) → isPresence o present ≡ true → P o present
+  always z y true e = y
+  always z y false e = absurd (false≢true (sym z ∙ e))
+
+  never : ltb 0 (limitsOf o .longest) ≡ false → P o false → (present : Bool) → isPresence o present ≡ true → P o present
+  never z n true e = absurd (false≢true (sym z ∙ e))
+  never z n false e = n
+
+  either : P o true → P o false → (present : Bool) → isPresence o present ≡ true → P o present
+  either y n true e = y
+  either y n false e = n
+
 module _ (count : ℕ) (u v : Used) where
   abbrev S : PartyOption → Bool → List Used → Said
   S o present us = saidWith o present count u v us
 
-  abbrev Text : PartyOption → Bool → List Used → Type 0
-  Text o present us = to-swift-string o (structOf o present (u .bytes) (v .bytes) (map bytesOf us)) ≡ writtenField (S o present us)
+  abbrev Text : PartyOption → Bool → Type 0
+  Text o present =
+      (us : List Used) → Facts (S o present us) → to-swift-string o (structOf o present (u .bytes) (v .bytes) (map bytesOf us)) ≡ writtenField (S o present us)
 
-  text-is : (o : PartyOption) (present : Bool) (us : List Used) → Facts (S o present us) → Text o present us
-  unfolding writtenField writtenBody writtenLines nameLines joined rust50.Field50NoOption·to-swift-string rust50.Field50A·to-swift-string rust50.Field50F·to-swift-string rust50.Field50K·to-swift-string rust50.Field50C·to-swift-string rust50.Field50L·to-swift-string rust50.Field50G·to-swift-string rust50.Field50H·to-swift-string rust59.Field59NoOption·to-swift-string rust59.Field59A·to-swift-string rust59.Field59F·to-swift-string
-  text-is Field50NoOption true us h = absurd (false≢true (h .presence))
-  text-is Field50NoOption false us h = ap (_++_ (bytes ":50:")) (join-is (map bytesOf us) ∙ ap joined (sym (names-plain 1 us)))
-  text-is Field50A true us h = refl
-  text-is Field50A false us h = refl
-  text-is Field50F true us h =
-      ap (_++_ (bytes ":50F:")) (join-is (u .bytes ∷ rust50.Field50F·numbered 0 (map bytesOf us)) ∙ ap (λ (ls : List Str). joined (u .bytes ∷ ls)) (names-numbered 0 us (omega (arith, few Field50F refl count us (h .names)))))
-  text-is Field50F false us h = absurd (false≢true (h .presence))
-  text-is Field50K true us h = ap (_++_ (bytes ":50K:")) (join-is ((47 ∷ u .bytes) ∷ map bytesOf us) ∙ ap (λ (ls : List Str). joined ((47 ∷ u .bytes) ∷ ls)) (sym (names-plain 1 us)))
-  text-is Field50K false us h = ap (_++_ (bytes ":50K:")) (join-is (map bytesOf us) ∙ ap joined (sym (names-plain 1 us)))
-  text-is Field50C true us h = absurd (false≢true (h .presence))
-  text-is Field50C false us h = refl
-  text-is Field50L true us h = refl
-  text-is Field50L false us h = absurd (false≢true (h .presence))
-  text-is Field50G true us h = refl
-  text-is Field50G false us h = absurd (false≢true (h .presence))
-  text-is Field50H true us h = ap (_++_ (bytes ":50H:")) (join-is ((47 ∷ u .bytes) ∷ map bytesOf us) ∙ ap (λ (ls : List Str). joined ((47 ∷ u .bytes) ∷ ls)) (sym (names-plain 1 us)))
-  text-is Field50H false us h = absurd (false≢true (h .presence))
-  text-is Field59NoOption present [] h = absurd (omega (arith, some-names Field59NoOption refl count [] (h .names)))
-  text-is Field59NoOption true (w ∷ us) h =
-      ap (_++_ (bytes ":59:" ++ 47 ∷ u .bytes)) (all-parted _ 0 (w .bytes) (map bytesOf us) (λ k g. parted-all k) ∙ ap (λ (ls : List Str). 10 ∷ joined (w .bytes ∷ ls)) (sym (names-plain 2 us)))
-  text-is Field59NoOption false (w ∷ us) h =
-      ap (_++_ (bytes ":59:")) (then-parted _ (w .bytes) (map bytesOf us) refl (λ k g. parted (eqb k 0 && false) k g) ∙ ap (λ (ls : List Str). joined (w .bytes ∷ ls)) (sym (names-plain 2 us)))
-  text-is Field59A true us h = ap (λ (x : Str). bytes ":59A:/" ++ x) (append-assoc (u .bytes) (10 ∷ []) (v .bytes))
-  text-is Field59A false us h = refl
-  text-is Field59F present [] h = absurd (omega (arith, some-names Field59F refl count [] (h .names)))
-  text-is Field59F true (w ∷ us) h =
+  -- names after other lines
+  plain : (ls : List Str) (us : List Used) → join (ls ++ map bytesOf us) ≡ joined (ls ++ nameLines Unnumbered 1 us)
+  plain ls us = join-is (ls ++ map bytesOf us) ∙ ap (λ (ns : List Str). joined (ls ++ ns)) (names-whole Unnumbered (λ k. refl) 1 us)
+
+  text-59 : (present : Bool) → Text Field59NoOption present
+  unfolding writtenField writtenBody writtenLines nameLines tagOf joined rust59.Field59NoOption·to-swift-string
+  text-59 present [] h = absurd (omega (arith, some-names Field59NoOption refl count [] (h .names)))
+  text-59 true (w ∷ us) h =
+      ap (_++_ (bytes ":59:" ++ 47 ∷ u .bytes)) (all-parted _ 0 (w .bytes) (map bytesOf us) (λ k g. parted-all k) ∙ ap (λ (ls : List Str). 10 ∷ joined (w .bytes ∷ ls)) (names-whole Unnumbered (λ k. refl) 2 us))
+  text-59 false (w ∷ us) h =
+      ap (_++_ (bytes ":59:")) (then-parted _ (w .bytes) (map bytesOf us) refl (λ k g. parted (eqb k 0 && false) k g) ∙ ap (λ (ls : List Str). joined (w .bytes ∷ ls)) (names-whole Unnumbered (λ k. refl) 2 us))
+
+  text-59F : (present : Bool) → Text Field59F present
+  unfolding writtenField writtenBody writtenLines nameLines tagOf joined rust59.Field59F·to-swift-string
+  text-59F present [] h = absurd (omega (arith, some-names Field59F refl count [] (h .names)))
+  text-59F true (w ∷ us) h =
       ap (λ (x : Str). bytes ":59F:/" ++ x) (append-assoc (u .bytes) (10 ∷ []) _)
       ∙ ap (λ (x : Str). bytes ":59F:/" ++ (u .bytes ++ 10 ∷ x))
-      (all-parted _ 0 (w .bytes) (map bytesOf us) (λ k g. or-true (ltb 0 k)) ∙ ap (λ (ls : List Str). 10 ∷ joined (w .bytes ∷ ls)) (sym (names-turn 2 us)))
-  text-is Field59F false (w ∷ us) h =
-      ap (_++_ (bytes ":59F:")) (then-parted _ (w .bytes) (map bytesOf us) refl (λ k g. parted false k g) ∙ ap (λ (ls : List Str). joined (w .bytes ∷ ls)) (sym (names-turn 2 us)))
+      (all-parted _ 0 (w .bytes) (map bytesOf us) (λ k g. or-true (ltb 0 k)) ∙ ap (λ (ls : List Str). 10 ∷ joined (w .bytes ∷ ls)) (names-whole InTurn (λ k. refl) 2 us))
+  text-59F false (w ∷ us) h =
+      ap (_++_ (bytes ":59F:")) (then-parted _ (w .bytes) (map bytesOf us) refl (λ k g. parted false k g) ∙ ap (λ (ls : List Str). joined (w .bytes ∷ ls)) (names-whole InTurn (λ k. refl) 2 us))
+
+  text-is : (o : PartyOption) (present : Bool) → isPresence o present ≡ true → Text o present
+  unfolding writtenField writtenBody writtenLines nameLines tagOf joined rust50.Field50NoOption·to-swift-string rust50.Field50A·to-swift-string rust50.Field50F·to-swift-string rust50.Field50K·to-swift-string rust50.Field50C·to-swift-string rust50.Field50L·to-swift-string rust50.Field50G·to-swift-string rust50.Field50H·to-swift-string rust59.Field59A·to-swift-string
+  text-is =
+      by-option (λ o. (present : Bool) → isPresence o present ≡ true → Text o present)
+      (never Text Field50NoOption refl (λ us h. ap (_++_ (bytes ":50:")) (plain [] us)))
+      (either Text Field50A (λ us h. refl) (λ us h. refl))
+      (always Text Field50F refl (λ us h.
+      ap (_++_ (bytes ":50F:")) (join-is (u .bytes ∷ rust50.Field50F·numbered 0 (map bytesOf us)) ∙ ap (λ (ls : List Str). joined (u .bytes ∷ ls)) (names-numbered 0 us (omega (arith, few Field50F refl count us (h .names)))))))
+      (either Text Field50K (λ us h. ap (_++_ (bytes ":50K:")) (plain ((47 ∷ u .bytes) ∷ []) us)) (λ us h. ap (_++_ (bytes ":50K:")) (plain [] us)))
+      (never Text Field50C refl (λ us h. refl))
+      (always Text Field50L refl (λ us h. refl))
+      (always Text Field50G refl (λ us h. refl))
+      (always Text Field50H refl (λ us h. ap (_++_ (bytes ":50H:")) (plain ((47 ∷ u .bytes) ∷ []) us)))
+      (λ present e. text-59 present)
+      (either Text Field59A (λ us h. ap (λ (x : Str). bytes ":59A:/" ++ x) (append-assoc (u .bytes) (10 ∷ []) (v .bytes))) (λ us h. refl))
+      (λ present e. text-59F present)
 
   -- the struct's record is that of what is found in the record's lines
-  found-is : (o : PartyOption) (present : Bool) (us : List Used) → Facts (S o present us) → recordOf o (structOf o present (u .bytes) (v .bytes) (map bytesOf us)) ≡ partyOf o (foundOf (S o present us))
-  found-is Field50NoOption true us h = absurd (false≢true (h .presence))
-  found-is Field50NoOption false us h = refl
-  found-is Field50A true us h = refl
-  found-is Field50A false us h = refl
-  found-is Field50F true us h = refl
-  found-is Field50F false us h = absurd (false≢true (h .presence))
-  found-is Field50K true us h = refl
-  found-is Field50K false us h = refl
-  found-is Field50C true us h = absurd (false≢true (h .presence))
-  found-is Field50C false us h = refl
-  found-is Field50L true us h = refl
-  found-is Field50L false us h = absurd (false≢true (h .presence))
-  found-is Field50G true us h = refl
-  found-is Field50G false us h = absurd (false≢true (h .presence))
-  found-is Field50H true us h = refl
-  found-is Field50H false us h = absurd (false≢true (h .presence))
-  found-is Field59NoOption true us h = refl
-  found-is Field59NoOption false us h = refl
-  found-is Field59A true us h = refl
-  found-is Field59A false us h = refl
-  found-is Field59F true us h = refl
-  found-is Field59F false us h = refl
+  abbrev Found : PartyOption → Bool → Type 0
+  Found o present = (us : List Used) → recordOf o (structOf o present (u .bytes) (v .bytes) (map bytesOf us)) ≡ partyOf o (foundOf (S o present us))
+
+  found-is : (o : PartyOption) (present : Bool) → isPresence o present ≡ true → Found o present
+  found-is =
+      by-option (λ o. (present : Bool) → isPresence o present ≡ true → Found o present)
+      (never Found Field50NoOption refl (λ us. refl)) (either Found Field50A (λ us. refl) (λ us. refl)) (always Found Field50F refl (λ us. refl))
+      (either Found Field50K (λ us. refl) (λ us. refl)) (never Found Field50C refl (λ us. refl)) (always Found Field50L refl (λ us. refl))
+      (always Found Field50G refl (λ us. refl)) (always Found Field50H refl (λ us. refl)) (either Found Field59NoOption (λ us. refl) (λ us. refl))
+      (either Found Field59A (λ us. refl) (λ us. refl)) (either Found Field59F (λ us. refl) (λ us. refl))
 
 -- for every record that a reader can give
 pub writes : (p : Party) → Given p → Writes p
@@ -163,6 +167,6 @@ writes p g =
     let h = given-facts p (necessary p g) in
     let o = p .option in
     record {
-      same = ap said (found-is _ _ _ o (p .present) _ h) ∙ said-party o (foundOf (parts p)) (fitting o _ _ _ _ _ h) ∙ saying-back o _ _ _ _ _ h ∙ sym (said-with p);
-      text = text-is _ _ _ o (p .present) _ h ∙ ap writtenField (sym (said-with p));
+      same = ap said (found-is (p .count) _ _ o (p .present) (h .presence) _) ∙ said-party o (foundOf (parts p)) (fitting o _ _ _ _ _ h) ∙ saying-back o _ _ _ _ _ h ∙ sym (said-with p);
+      text = text-is _ _ _ o (p .present) (h .presence) _ h ∙ ap writtenField (sym (said-with p));
     }

@@ -1,13 +1,14 @@
 -- field50.rs. An error is told by the refusal number of its message and by the body line: 0 where the message names none, 1 for the
--- first line; where the message counts the lines of a part of the body, those before that part and the number that it counts.
-use Prim.Native.Nat.{ℕ, _+_, _-_}
+-- first line; where the message counts the lines of a part of the body, those before that part and the number that it counts. Words of
+-- the message stand beside each. A place in `lines` that the Rust looks at twice is taken once.
+use Prim.Native.Nat.{ℕ, _+_}
 use mathlib.Core.Bool.{Bool, true, false, not, _&&_, _||_}
 use mathlib.Core.List.{List, [], _∷_, _++_}
 use mathlib.Core.Option.{Option, none, some}
 use lib.Dec.{ltb, leb, eqb}
 use lib.ListN.{length, drop}
 use Rattle.swift_utils.specs.Bytes.{bytes}
-use Rattle.swift_mt_message.specs.Std.{Str, slash, newline, Result, Ok, Err, _and-then_, _then_, err-if, if-ok, arm, for-from, for-skip, is-empty, push, all, any, last, nth, is-some-and, equals, let-lines, at, same, contains, starts-with, within, is-digit, is-alphanumeric, trim, join, number}
+use Rattle.swift_mt_message.specs.Std.{Str, slash, newline, Result, Ok, Err, _and-then_, _then_, err-if, _and_, minus, if-ok, arm, for-from, for-skip, is-empty, push, all, any, last, nth, is-some-and, equals, at, let-lines, slice-from, same, contains, starts-with, within, is-digit, is-alphanumeric, trim, join, number}
 use Rattle.swift_mt_message.specs.SwiftUtils.{parse-swift-chars, parse-bic}
 use Rattle.swift_mt_message.specs.FieldUtils.{parse-party-identifier}
 
@@ -17,14 +18,17 @@ pub record Field50NoOption : Type 0 where
 
 -- `Field50NoOption::parse`: the body of its loop, which keeps nothing
 unfoldable pub Field50NoOption·line : Unit {0} → ℕ → Str → Result (Unit {0})
-Field50NoOption·line none-kept i line = err-if (ltb 35 (length line)) 4 (i + 1) then parse-swift-chars line (i + 1) then Ok tt
+Field50NoOption·line none-kept i line =
+    err-if (ltb 35 (length line)) 4 (i + 1)  -- exceeds 35 characters
+    then parse-swift-chars line (i + 1)
+    then Ok tt
 
 -- `Field50NoOption::parse`
 unfoldable pub Field50NoOption·parse : Str → Result Field50NoOption
 Field50NoOption·parse input =
     let-lines input λ lines.
-    err-if (is-empty lines) 1 0
-    then err-if (ltb 4 (length lines)) 1 0
+    err-if (is-empty lines) 1 0  -- must have at least one line
+    then err-if (ltb 4 (length lines)) 1 0  -- cannot have more than 4 lines
     then for-from Field50NoOption·line tt 0 lines
     then Ok (record { name-and-address = lines })
 
@@ -40,16 +44,20 @@ pub record Field50A : Type 0 where
 -- `Field50A::parse`, from the BIC on
 unfoldable pub Field50A·bic : List Str → Option Str → ℕ → Result Field50A
 Field50A·bic lines party-identifier bic-line-idx =
-    err-if (leb (length lines) bic-line-idx) 8 0
-    then parse-bic (at lines bic-line-idx) (bic-line-idx + 1)
+    err-if (leb (length lines) bic-line-idx) 8 0  -- missing BIC code
+    then at lines bic-line-idx
+    and-then λ bic-line.
+    parse-bic bic-line (bic-line-idx + 1)
     and-then λ bic. Ok (record { party-identifier = party-identifier; bic = bic })
 
 -- `Field50A::parse`
 unfoldable pub Field50A·parse : Str → Result Field50A
 Field50A·parse input =
     let-lines input λ lines.
-    err-if (is-empty lines) 1 0
-    then parse-party-identifier (at lines 0)
+    err-if (is-empty lines) 1 0  -- cannot be empty
+    then at lines 0
+    and-then λ first-line.
+    parse-party-identifier first-line
     and-then λ found. elim found [ some party-id ↦ Field50A·bic lines (some party-id) 1 | none ↦ Field50A·bic lines none 0 ]
 
 -- `Field50A::to_swift_string`
@@ -66,10 +74,11 @@ pub record Field50F : Type 0 where
 -- `Field50F::parse`: the body of its loop
 unfoldable pub Field50F·line : List Str → ℕ → Str → Result (List Str)
 Field50F·line name-and-address i line =
-    err-if (ltb (length line) 2 || not (is-some-and is-digit (nth 0 line))) 5 (1 + i)
-    then err-if (not (equals (nth 1 line) slash)) 5 (1 + i)
-    then let text = drop 2 line in
-    err-if (ltb 33 (length text)) 4 (1 + i)
+    err-if (ltb (length line) 2 || not (is-some-and is-digit (nth 0 line))) 5 (1 + i)  -- must start with line number
+    then err-if (not (equals (nth 1 line) slash)) 5 (1 + i)  -- must have '/' after line number
+    then slice-from 2 line
+    and-then λ text.
+    err-if (ltb 33 (length text)) 4 (1 + i)  -- text exceeds 33 characters
     then parse-swift-chars text (1 + i)
     then Ok (push name-and-address text)
 
@@ -77,14 +86,15 @@ Field50F·line name-and-address i line =
 unfoldable pub Field50F·parse : Str → Result Field50F
 Field50F·parse input =
     let-lines input λ lines.
-    err-if (ltb (length lines) 2) 1 0
-    then let party-identifier = at lines 0 in
-    err-if (is-empty party-identifier || ltb 35 (length party-identifier)) 2 1
+    err-if (ltb (length lines) 2) 1 0  -- must have at least 2 lines
+    then at lines 0
+    and-then λ party-identifier.
+    err-if (is-empty party-identifier || ltb 35 (length party-identifier)) 2 1  -- must be 1-35 characters
     then parse-swift-chars party-identifier 1
     then for-skip 1 Field50F·line [] lines
     and-then λ name-and-address.
-    err-if (is-empty name-and-address) 7 0
-    then err-if (ltb 4 (length name-and-address)) 7 0
+    err-if (is-empty name-and-address) 7 0  -- must have at least one numbered name/address line
+    then err-if (ltb 4 (length name-and-address)) 7 0  -- cannot have more than 4 name/address lines
     then Ok (record { party-identifier = party-identifier; name-and-address = name-and-address })
 
 -- `Field50F::to_swift_string`: its numbered lines, from the index i on
@@ -104,8 +114,10 @@ pub record Field50K : Type 0 where
 -- `Field50K::parse`: the body of its loop
 unfoldable pub Field50K·line : ℕ → List Str → ℕ → Str → Result (List Str)
 Field50K·line start-index name-and-address i line =
-    err-if (ltb 35 (length line)) 4 (start-index + (i - start-index + 1))
-    then parse-swift-chars line (start-index + (i - start-index + 1))
+    minus i start-index
+    and-then λ index.
+    err-if (ltb 35 (length line)) 4 (start-index + (index + 1))  -- exceeds 35 characters
+    then parse-swift-chars line (start-index + (index + 1))
     then Ok (push name-and-address line)
 
 -- `Field50K::parse`, from the names on
@@ -113,19 +125,22 @@ unfoldable pub Field50K·names : List Str → Option Str → ℕ → Result Fiel
 Field50K·names lines account start-index =
     for-skip start-index (Field50K·line start-index) [] lines
     and-then λ name-and-address.
-    err-if (is-empty name-and-address) 7 0
-    then err-if (ltb 4 (length name-and-address)) 7 0
+    err-if (is-empty name-and-address) 7 0  -- must have at least one name/address line
+    then err-if (ltb 4 (length name-and-address)) 7 0  -- cannot have more than 4 name/address lines
     then Ok (record { account = account; name-and-address = name-and-address })
 
 -- `Field50K::parse`
 unfoldable pub Field50K·parse : Str → Result Field50K
 Field50K·parse input =
     let-lines input λ lines.
-    err-if (is-empty lines) 1 0
-    then elim (starts-with (at lines 0) slash) [
+    err-if (is-empty lines) 1 0  -- must have at least one line
+    then at lines 0
+    and-then λ first-line.
+    elim (starts-with first-line slash) [
       | true ↦
-          let acc = drop 1 (at lines 0) in
-          err-if (ltb 34 (length acc)) 2 1
+          slice-from 1 first-line
+          and-then λ acc.
+          err-if (ltb 34 (length acc)) 2 1  -- account exceeds 34 characters
           then parse-swift-chars acc 1
           then Field50K·names lines (some acc) 1
       | false ↦ Field50K·names lines none 0
@@ -156,8 +171,8 @@ pub record Field50L : Type 0 where
 -- `Field50L::parse`
 unfoldable pub Field50L·parse : Str → Result Field50L
 Field50L·parse input =
-    err-if (contains input newline) 1 0
-    then err-if (is-empty input || ltb 35 (length input)) 2 1
+    err-if (contains input newline) 1 0  -- must be single line
+    then err-if (is-empty input || ltb 35 (length input)) 2 1  -- must be 1-35 characters
     then parse-swift-chars input 1
     then Ok (record { party-identifier = input })
 
@@ -174,12 +189,17 @@ pub record Field50G : Type 0 where
 unfoldable pub Field50G·parse : Str → Result Field50G
 Field50G·parse input =
     let-lines input λ lines.
-    err-if (not (eqb (length lines) 2)) 1 0
-    then err-if (not (starts-with (at lines 0) slash)) 2 1
-    then let account = drop 1 (at lines 0) in
-    err-if (is-empty account || ltb 34 (length account)) 2 1
+    err-if (not (eqb (length lines) 2)) 1 0  -- must have exactly 2 lines
+    then at lines 0
+    and-then λ first-line.
+    err-if (not (starts-with first-line slash)) 2 1  -- account must start with '/'
+    then slice-from 1 first-line
+    and-then λ account.
+    err-if (is-empty account || ltb 34 (length account)) 2 1  -- account must be 1-34 characters
     then parse-swift-chars account 1
-    then parse-bic (at lines 1) 2
+    then at lines 1
+    and-then λ bic-line.
+    parse-bic bic-line 2
     and-then λ bic. Ok (record { account = account; bic = bic })
 
 -- `Field50G::to_swift_string`
@@ -193,20 +213,26 @@ pub record Field50H : Type 0 where
 
 -- `Field50H::parse`: the body of its loop
 unfoldable pub Field50H·line : List Str → ℕ → Str → Result (List Str)
-Field50H·line name-and-address i line = err-if (ltb 35 (length line)) 4 (1 + i) then parse-swift-chars line (1 + i) then Ok (push name-and-address line)
+Field50H·line name-and-address i line =
+    err-if (ltb 35 (length line)) 4 (1 + i)  -- exceeds 35 characters
+    then parse-swift-chars line (1 + i)
+    then Ok (push name-and-address line)
 
 -- `Field50H::parse`; it tests the account's bytes
 unfoldable pub Field50H·parse : Str → Result Field50H
 Field50H·parse input =
     let-lines input λ lines.
-    err-if (ltb (length lines) 2) 1 0
-    then err-if (not (starts-with (at lines 0) slash)) 2 1
-    then let account = drop 1 (at lines 0) in
-    err-if (is-empty account || ltb 34 (length account)) 2 1
+    err-if (ltb (length lines) 2) 1 0  -- must have at least 2 lines
+    then at lines 0
+    and-then λ first-line.
+    err-if (not (starts-with first-line slash)) 2 1  -- account must start with '/'
+    then slice-from 1 first-line
+    and-then λ account.
+    err-if (is-empty account || ltb 34 (length account)) 2 1  -- account must be 1-34 characters
     then parse-swift-chars account 1
     then for-skip 1 Field50H·line [] lines
     and-then λ name-and-address.
-    err-if (ltb 4 (length name-and-address)) 7 0
+    err-if (ltb 4 (length name-and-address)) 7 0  -- cannot have more than 4 name/address lines
     then Ok (record { account = account; name-and-address = name-and-address })
 
 -- `Field50H::to_swift_string`
@@ -247,7 +273,7 @@ Field50InstructingParty·parse input =
     let trimmed = trim input in
     if-ok true (Field50C·parse trimmed) InstructingParty·C
     (if-ok true (Field50L·parse trimmed) InstructingParty·L
-    (Err 11 0))
+    (Err 11 0))  -- could not be parsed as option C or L
 
 -- `Field50InstructingParty::parse_with_variant`
 unfoldable pub Field50InstructingParty·parse-with-variant : Str → Option Str → Result Field50InstructingParty
@@ -274,10 +300,12 @@ Field50OrderingCustomerFGH·parse input =
     elim (leb 2 (length lines)) [
       | true ↦
           if-ok (any numbered (drop 1 lines)) (Field50F·parse input) FGH·F
-          (if-ok (starts-with (at lines 0) slash && eqb (length lines) 2) (Field50G·parse input) FGH·G
-          (if-ok (starts-with (at lines 0) slash) (Field50H·parse input) FGH·H
-          (Err 11 0)))
-      | false ↦ Err 11 0
+          (at lines 0
+          and-then λ first-line.
+          if-ok (starts-with first-line slash && eqb (length lines) 2) (Field50G·parse input) FGH·G
+          (if-ok (starts-with first-line slash) (Field50H·parse input) FGH·H
+          (Err 11 0)))  -- could not be parsed as option F, G or H
+      | false ↦ Err 11 0  -- could not be parsed as option F, G or H
     ]
 
 -- `Field50OrderingCustomerFGH::parse_with_variant`
@@ -307,7 +335,7 @@ Field50OrderingCustomerAFK·parse input =
     if-ok (any numbered lines) (Field50F·parse input) AFK·F
     (if-ok (last-is-bic lines) (Field50A·parse input) AFK·A
     (if-ok true (Field50K·parse input) AFK·K
-    (Err 11 0)))
+    (Err 11 0)))  -- could not be parsed as option A, F or K
 
 -- `Field50OrderingCustomerAFK::parse_with_variant`
 unfoldable pub Field50OrderingCustomerAFK·parse-with-variant : Str → Option Str → Result Field50OrderingCustomerAFK
@@ -333,10 +361,12 @@ pub data Field50OrderingCustomerNCF : Type 0 where
 unfoldable pub Field50OrderingCustomerNCF·parse : Str → Result Field50OrderingCustomerNCF
 Field50OrderingCustomerNCF·parse input =
     let-lines input λ lines.
-    if-ok (eqb (length lines) 1 && within 8 11 (length (at lines 0))) (Field50C·parse input) NCF·C
+    (Ok (eqb (length lines) 1) and (at lines 0 and-then λ line. Ok (within 8 11 (length line))))
+    and-then λ one-line.
+    if-ok one-line (Field50C·parse input) NCF·C
     (if-ok (any numbered lines) (Field50F·parse input) NCF·F
     (if-ok true (Field50NoOption·parse input) NCF·NoOption
-    (Err 11 0)))
+    (Err 11 0)))  -- could not be parsed as No Option, C or F
 
 -- `Field50OrderingCustomerNCF::parse_with_variant`
 unfoldable pub Field50OrderingCustomerNCF·parse-with-variant : Str → Option Str → Result Field50OrderingCustomerNCF
@@ -363,7 +393,7 @@ Field50Creditor·parse input =
     let-lines input λ lines.
     if-ok (last-is-bic lines) (Field50A·parse input) Creditor·A
     (if-ok true (Field50K·parse input) Creditor·K
-    (Err 11 0))
+    (Err 11 0))  -- could not be parsed as option A or K
 
 -- `Field50Creditor::parse_with_variant`
 unfoldable pub Field50Creditor·parse-with-variant : Str → Option Str → Result Field50Creditor

@@ -1,12 +1,12 @@
 -- field59.rs. Errors are told as in Field50.antt.
-use Prim.Native.Nat.{ℕ, _+_, _-_}
+use Prim.Native.Nat.{ℕ, _+_}
 use mathlib.Core.Bool.{Bool, true, false, not, _&&_, _||_}
 use mathlib.Core.List.{List, [], _∷_, _++_}
 use mathlib.Core.Option.{Option, none, some}
 use lib.Dec.{ltb, leb, eqb}
-use lib.ListN.{length, drop}
+use lib.ListN.{length}
 use Rattle.swift_utils.specs.Bytes.{bytes}
-use Rattle.swift_mt_message.specs.Std.{Str, slash, newline, Result, Ok, Err, _and-then_, _then_, err-if, if-ok, arm, for-skip, is-empty, push, nth, is-some, equals, unwrap, let-lines, at, starts-with, is-digit, to-digit}
+use Rattle.swift_mt_message.specs.Std.{Str, slash, newline, Result, Ok, Err, _and-then_, _then_, err-if, _and_, _or_, minus, if-ok, arm, for-skip, is-empty, push, nth, is-some, equals, unwrap, at, let-lines, slice-from, starts-with, is-digit, to-digit}
 use Rattle.swift_mt_message.specs.SwiftUtils.{parse-swift-chars, parse-bic}
 use Rattle.swift_mt_message.specs.FieldUtils.{parse-party-identifier, parse-name-and-address}
 use Rattle.swift_mt_message.specs.Field50.{is-variant, no-variant}
@@ -37,12 +37,18 @@ unfoldable pub Field59F·line : ℕ → List Str → ℕ → Str → Result (Lis
 Field59F·line start-idx name-and-address i line =
     let first-char = nth 0 line in
     let second-char = nth 1 line in
-    err-if (ltb (length line) 2 || not (is-digit (unwrap first-char)) || not (equals second-char slash)) 5 (start-idx + (i - start-idx + 1))
-    then let line-num = to-digit (unwrap first-char) in
-    let expected-line-num = i - start-idx + 1 in
-    err-if (not (eqb line-num expected-line-num)) 6 (start-idx + expected-line-num)
-    then let content = drop 2 line in
-    err-if (ltb 33 (length content)) 4 (start-idx + line-num)
+    (Ok (ltb (length line) 2) or (unwrap first-char and-then λ c. Ok (not (is-digit c))) or Ok (not (equals second-char slash)))
+    and-then λ unnumbered.
+    minus i start-idx
+    and-then λ index.
+    err-if unnumbered 5 (start-idx + (index + 1))  -- must start with line number and slash
+    then (unwrap first-char and-then λ c. unwrap (to-digit c))
+    and-then λ line-num.
+    let expected-line-num = index + 1 in
+    err-if (not (eqb line-num expected-line-num)) 6 (start-idx + expected-line-num)  -- doesn't match expected
+    then slice-from 2 line
+    and-then λ content.
+    err-if (ltb 33 (length content)) 4 (start-idx + line-num)  -- content exceeds 33 characters
     then parse-swift-chars content (start-idx + line-num)
     then Ok (push name-and-address line)
 
@@ -51,16 +57,18 @@ unfoldable pub Field59F·names : List Str → Option Str → ℕ → Result Fiel
 Field59F·names lines party-identifier start-idx =
     for-skip start-idx (Field59F·line start-idx) [] lines
     and-then λ name-and-address.
-    err-if (is-empty name-and-address) 7 0
-    then err-if (ltb 4 (length name-and-address)) 7 0
+    err-if (is-empty name-and-address) 7 0  -- must have at least one name/address line
+    then err-if (ltb 4 (length name-and-address)) 7 0  -- cannot have more than 4 name/address lines
     then Ok (record { party-identifier = party-identifier; name-and-address = name-and-address })
 
 -- `Field59F::parse`
 unfoldable pub Field59F·parse : Str → Result Field59F
 Field59F·parse input =
     let-lines input λ lines.
-    err-if (is-empty lines) 1 0
-    then parse-party-identifier (at lines 0)
+    err-if (is-empty lines) 1 0  -- cannot be empty
+    then at lines 0
+    and-then λ first-line.
+    parse-party-identifier first-line
     and-then λ found. elim found [ some party-id ↦ Field59F·names lines (some party-id) 1 | none ↦ Field59F·names lines none 0 ]
 
 -- the loop of `Field59F::to_swift_string` and of `Field59NoOption::to_swift_string`, from the index i on: a line, and before it a
@@ -78,18 +86,23 @@ Field59F·to-swift-string self =
 -- `Field59A::parse`, from the BIC on
 unfoldable pub Field59A·bic : List Str → Option Str → ℕ → Result Field59A
 Field59A·bic lines account bic-line-idx =
-    err-if (leb (length lines) bic-line-idx) 8 0
-    then parse-bic (at lines bic-line-idx) (bic-line-idx + 1)
+    err-if (leb (length lines) bic-line-idx) 8 0  -- missing BIC code
+    then at lines bic-line-idx
+    and-then λ bic-line.
+    parse-bic bic-line (bic-line-idx + 1)
     and-then λ bic. Ok (record { account = account; bic = bic })
 
 -- `Field59A::parse`
 unfoldable pub Field59A·parse : Str → Result Field59A
 Field59A·parse input =
     let-lines input λ lines.
-    err-if (is-empty lines) 1 0
-    then elim (starts-with (at lines 0) slash) [
+    err-if (is-empty lines) 1 0  -- cannot be empty
+    then at lines 0
+    and-then λ first-line.
+    elim (starts-with first-line slash) [
       | true ↦
-          let identifier = drop 1 (at lines 0) in
+          slice-from 1 first-line
+          and-then λ identifier.
           elim (leb (length identifier) 34) [
             | true ↦ parse-swift-chars identifier 1 then Field59A·bic lines (some identifier) 1
             | false ↦ Field59A·bic lines none 0
@@ -113,10 +126,13 @@ Field59NoOption·names lines account start-idx =
 unfoldable pub Field59NoOption·parse : Str → Result Field59NoOption
 Field59NoOption·parse input =
     let-lines input λ lines.
-    err-if (is-empty lines) 1 0
-    then elim (starts-with (at lines 0) slash) [
+    err-if (is-empty lines) 1 0  -- cannot be empty
+    then at lines 0
+    and-then λ first-line.
+    elim (starts-with first-line slash) [
       | true ↦
-          let identifier = drop 1 (at lines 0) in
+          slice-from 1 first-line
+          and-then λ identifier.
           elim (leb (length identifier) 34) [
             | true ↦ parse-swift-chars identifier 1 then Field59NoOption·names lines (some identifier) 1
             | false ↦ Field59NoOption·names lines none 0
@@ -130,25 +146,32 @@ Field59NoOption·to-swift-string self =
     let account : Str = elim (self .account) [ some acc ↦ slash ∷ acc | none ↦ [] ] in
     bytes ":59:" ++ account ++ written (λ i. ltb 0 i || eqb i 0 && is-some (self .account)) 0 (self .name-and-address)
 
--- the test of `Field59::parse` for the line number format
-unfoldable pub Field59·numbered : List Str → Bool
+-- the test of `Field59::parse` for the line number format, at check_start
+unfoldable pub Field59·numbered-at : List Str → ℕ → Result Bool
+Field59·numbered-at lines check-start =
+    Ok (ltb check-start (length lines))
+    and (at lines check-start
+    and-then λ test-line.
+    Ok (leb 2 (length test-line)) and (unwrap (nth 0 test-line) and-then λ c. Ok (is-digit c)) and Ok (equals (nth 1 test-line) slash))
+
+-- the same, in the lines of a body
+unfoldable pub Field59·numbered : List Str → Result Bool
 Field59·numbered lines =
-    let check-start = elim (starts-with (at lines 0) slash) as (λ x. ℕ) [ true ↦ 1 | false ↦ 0 ] in
-    let test-line = at lines check-start in
-    not (is-empty lines)
-    && ltb check-start (length lines)
-    && leb 2 (length test-line)
-    && is-digit (unwrap (nth 0 test-line))
-    && equals (nth 1 test-line) slash
+    Ok (not (is-empty lines))
+    and (at lines 0
+    and-then λ first-line.
+    Field59·numbered-at lines (elim (starts-with first-line slash) [ true ↦ 1 | false ↦ 0 ]))
 
 -- `Field59::parse`
 unfoldable pub Field59·parse : Str → Result Field59
 Field59·parse input =
-    let-lines input λ lines.
     if-ok true (Field59A·parse input) Field59·A
-    (if-ok (Field59·numbered lines) (Field59F·parse input) Field59·F
+    (let-lines input λ lines.
+    Field59·numbered lines
+    and-then λ numbered.
+    if-ok numbered (Field59F·parse input) Field59·F
     (if-ok true (Field59NoOption·parse input) Field59·NoOption
-    (Err 11 0)))
+    (Err 11 0)))  -- could not be parsed as option A, F, or No Option
 
 -- `Field59::parse_with_variant`
 unfoldable pub Field59·parse-with-variant : Str → Option Str → Result Field59
@@ -174,7 +197,7 @@ unfoldable pub Field59Debtor·parse : Str → Result Field59Debtor
 Field59Debtor·parse input =
     if-ok true (Field59A·parse input) Debtor·A
     (if-ok true (Field59NoOption·parse input) Debtor·NoOption
-    (Err 11 0))
+    (Err 11 0))  -- could not be parsed as option A or No Option
 
 -- `Field59Debtor::parse_with_variant`
 unfoldable pub Field59Debtor·parse-with-variant : Str → Option Str → Result Field59Debtor

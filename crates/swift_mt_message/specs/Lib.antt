@@ -3,5 +3,10 @@ pub mod SwiftUtils
 pub mod FieldUtils
 pub mod Field50
 pub mod Field59
+pub mod Structs
+pub mod Enums
 pub mod Equal
 pub mod Writing
+pub mod Panics
+pub mod Cases
+pub mod Listed

@@ -1,11 +1,11 @@
 -- What the Rust uses of std. A text is the list of its bytes, and a character one byte: all of this is for ASCII. A `_` in a name of
--- the Rust is `-` here.
+-- the Rust is `-` here. What panics in the Rust gives `Panic` here; an index plus 1 never does, since no list is so long.
 use Prim.Native.Nat.{ℕ, zero, suc, _+_, _-_, _/_, _%_}
 use mathlib.Core.Bool.{Bool, true, false, _&&_, _||_}
 use mathlib.Core.List.{List, [], _∷_, _++_, map}
 use mathlib.Core.Option.{Option, none, some, Option·map, Option·getD}
 use lib.Dec.{ltb, leb, eqb}
-use lib.ListN.{take, drop, getD}
+use lib.ListN.{drop}
 
 -- `String` and `&str`
 abbrev pub Str : Type 0
@@ -21,28 +21,32 @@ newline = 10
 abbrev pub return : ℕ
 return = 13
 
--- `crate::Result`: an error's message is told by the refusal number and the body line that it stands for
+-- `crate::Result`, or a panic: an error's message is told by the refusal number and the body line that it stands for
 pub data Result (A : Type 0) : Type 0 where
   Ok : A → Result A
   Err : ℕ → ℕ → Result A
+  Panic : Result A
 
 module _ {A B : Type 0} where
-  -- `?`: an error is returned, and a value is used by what follows
+  -- `?`: an error is returned, and a value is used by what follows; a panic ends it all
   infixr 20 _and-then_
   abbrev pub _and-then_ : Result A → (A → Result B) → Result B
   Ok v and-then f = f v
   Err k n and-then f = Err k n
+  Panic and-then f = Panic
 
   -- the same where the value is not used: a statement and those that follow it
   infixr 20 _then_
   abbrev pub _then_ : Result A → Result B → Result B
   Ok v then rest = rest
   Err k n then rest = Err k n
+  Panic then rest = Panic
 
   -- `if test && let Ok(field) = tried { return Ok(variant(field)); }`, and what follows it
   unfoldable pub if-ok : Bool → Result A → (A → B) → Result B → Result B
   if-ok true (Ok field) variant rest = Ok (variant field)
   if-ok true (Err k n) variant rest = rest
+  if-ok true Panic variant rest = Panic
   if-ok false tried variant rest = rest
 
   -- an arm of a match, `test => { let field = tried?; Ok(variant(field)) }`, and the arms below it
@@ -54,6 +58,19 @@ module _ {A B : Type 0} where
 abbrev pub err-if : Bool → ℕ → ℕ → Result (Unit {0})
 err-if true k n = Err k n
 err-if false k n = Ok tt
+
+-- `&&` and `||` where a side can panic: the right side is reached where the left leaves it open
+infixr 30 _and_
+abbrev pub _and_ : Result Bool → Result Bool → Result Bool
+a and b = a and-then λ t. elim t [ true ↦ b | false ↦ Ok false ]
+
+infixr 30 _or_
+abbrev pub _or_ : Result Bool → Result Bool → Result Bool
+a or b = a and-then λ t. elim t [ true ↦ Ok true | false ↦ b ]
+
+-- `a - b` of two `usize`
+abbrev pub minus : ℕ → ℕ → Result ℕ
+minus a b = elim (leb b a) [ true ↦ Ok (a - b) | false ↦ Panic ]
 
 module _ {A B : Type 0} where
   -- `for (i, x) in xs.iter().enumerate()` from the index i on: the body changes the variables of the loop, or returns an error
@@ -107,14 +124,20 @@ module _ {A : Type 0} where
   is-some-and f none = false
   is-some-and f (some x) = f x
 
+  -- `unwrap`
+  abbrev pub unwrap : Option A → Result A
+  unwrap none = Panic
+  unwrap (some x) = Ok x
+
+  -- `xs[i]`
+  abbrev pub at : List A → ℕ → Result A
+  at [] i = Panic
+  at (x ∷ xs) zero = Ok x
+  at (x ∷ xs) (suc i) = at xs i
+
 -- `== Some(c)` of a character
 abbrev pub equals : Option ℕ → ℕ → Bool
 equals c d = is-some-and (λ b. eqb b d) c
-
--- `unwrap` of a character; 0 where the Rust would panic
-abbrev pub unwrap : Option ℕ → ℕ
-unwrap none = 0
-unwrap (some c) = c
 
 -- a character in front of the first of some pieces, or a piece of its own where there is none
 unfoldable pub in-front : ℕ → List Str → List Str
@@ -144,13 +167,21 @@ lines s = map line-of (split-inclusive s)
 unfoldable pub let-lines : {A : Type 0} → Str → (List Str → A) → A
 let-lines input rest = rest (lines input)
 
--- `lines[i]`; empty where the Rust would panic
-abbrev pub at : List Str → ℕ → Str
-at lines i = getD lines i []
+-- `&s[a..]`
+abbrev pub slice-from : ℕ → Str → Result Str
+slice-from zero s = Ok s
+slice-from (suc a) [] = Panic
+slice-from (suc a) (b ∷ s) = slice-from a s
 
--- `&s[a..e]`; what there is of it where the Rust would panic
-abbrev pub slice : ℕ → ℕ → Str → Str
-slice a e s = take (e - a) (drop a s)
+-- `&s[..e]`
+abbrev pub slice-to : ℕ → Str → Result Str
+slice-to zero s = Ok []
+slice-to (suc e) [] = Panic
+slice-to (suc e) (b ∷ s) = slice-to e s and-then λ t. Ok (b ∷ t)
+
+-- `&s[a..e]`
+abbrev pub slice : ℕ → ℕ → Str → Result Str
+slice a e s = slice-to e s and-then slice-from a
 
 -- `==` of texts
 abbrev pub same : Str → Str → Bool
@@ -198,9 +229,9 @@ is-alphanumeric c = is-alphabetic c || is-digit c
 unfoldable pub is-whitespace : ℕ → Bool
 is-whitespace c = eqb c 32 || within 9 13 c
 
--- `to_digit(10).unwrap()` of a digit
-abbrev pub to-digit : ℕ → ℕ
-to-digit c = c - 48
+-- `to_digit(10)`
+abbrev pub to-digit : ℕ → Option ℕ
+to-digit c = elim (is-digit c) [ true ↦ some (c - 48) | false ↦ none ]
 
 -- `trim_start`
 unfoldable pub trim-start : Str → Str

@@ -1,5 +1,5 @@
--- The cases of parse_swift_chars, parse_account and parse_bic, and that a BIC's length is at least 8. Assumes nothing.
-use mathlib.Core.Path.{_≡_, refl}
+-- The cases of parse_swift_chars, parse_length, parse_account and parse_bic, and that a BIC's length is at least the shorter. Assumes nothing.
+use mathlib.Core.Path.{_≡_, refl, ap}
 use mathlib.Core.Bool.{Bool, true, false, _||_, and-false, false≢true}
 use mathlib.Core.List.{List}
 use Prim.Native.Nat.{ℕ, _≤_, _<_}
@@ -7,17 +7,17 @@ use native.Mathlib.Omega.{arith}
 use lib.Dec.{leb, eqb}
 use lib.ListN.{length, take, drop}
 use borrow.Author.Tests.{eqb-true, le-leb, lt-leb}
-use Rattle.errors.specs.Refusals.{refused, must}
+use Rattle.errors.specs.Refusals.{Reply, accepted, refused, must, _then_}
 use Rattle.swift_utils.specs.Bytes.{all, letter, alphanumeric, legal}
-use Rattle.swift_utils.specs.Checks.{parseSwiftChars, parseAccount, bicLength, parseBic}
+use Rattle.swift_utils.specs.Checks.{parseSwiftChars, parseLength, parseAccount, bicShort, bicLong, bicLength, parseBic}
 
-pub bicLength-least : (n : ℕ) → bicLength n ≡ true → 8 ≤ n
+pub bicLength-least : (n : ℕ) → bicLength n ≡ true → bicShort ≤ n
 unfolding bicLength
-bicLength-least n = go (eqb n 8) (eqb n 11) refl refl
+bicLength-least n = go (eqb n bicShort) (eqb n bicLong) refl refl
   where
-    go : (p q : Bool) → eqb n 8 ≡ p → eqb n 11 ≡ q → (p || q) ≡ true → 8 ≤ n
-    go true q e f t = let h = eqb-true n 8 e in omega arith
-    go false true e f t = let h = eqb-true n 11 f in omega arith
+    go : (p q : Bool) → eqb n bicShort ≡ p → eqb n bicLong ≡ q → (p || q) ≡ true → bicShort ≤ n
+    go true q e f t = let h = eqb-true n bicShort e in omega arith
+    go false true e f t = let h = eqb-true n bicLong f in omega arith
     go false false e f t = absurd (false≢true t)
 
 module _ (n : ℕ) (l : List ℕ) where
@@ -26,17 +26,18 @@ module _ (n : ℕ) (l : List ℕ) where
   chars e = rw e
 
   module _ (shortest longest : ℕ) where
-    pub account-short : length l < shortest → parseAccount shortest longest n l ≡ refused 2 n
-    unfolding parseAccount
-    account-short h = rw (lt-leb _ _ h)
+    pub length-short : length l < shortest → parseLength shortest longest n l ≡ refused 2 n
+    length-short h = rw (lt-leb _ _ h)
 
-    pub account-long : longest < length l → parseAccount shortest longest n l ≡ refused 2 n
-    unfolding parseAccount
-    account-long h = rw (lt-leb _ _ h, and-false (leb shortest (length l)))
+    pub length-long : longest < length l → parseLength shortest longest n l ≡ refused 2 n
+    length-long h = rw (lt-leb _ _ h, and-false (leb shortest (length l)))
 
-    pub account-fits : shortest ≤ length l → length l ≤ longest → parseAccount shortest longest n l ≡ parseSwiftChars n l
+    pub length-fits : shortest ≤ length l → length l ≤ longest → parseLength shortest longest n l ≡ accepted
+    length-fits h k = rw (le-leb _ _ h, le-leb _ _ k)
+
+    pub account-length : {r : Reply} → parseLength shortest longest n l ≡ r → parseAccount shortest longest n l ≡ (r then parseSwiftChars n l)
     unfolding parseAccount
-    account-fits h k = rw (le-leb _ _ h, le-leb _ _ k)
+    account-length e = ap (λ (r : Reply). r then parseSwiftChars n l) e
 
   pub bic-length : bicLength (length l) ≡ false → parseBic n l ≡ refused 9 n
   unfolding parseBic

@@ -11,13 +11,24 @@ use Rattle.swift_utils.specs.Bytes.{between, all, letter, alphanumeric, 
 unfoldable pub parseSwiftChars : ℕ → List ℕ → Reply
 parseSwiftChars n l = must (all legal l) 3 n
 
--- an account or identifier of a length from shortest to longest, else 2, and of legal bytes
-unfoldable pub parseAccount : ℕ → ℕ → ℕ → List ℕ → Reply
-parseAccount shortest longest n l = must (between shortest longest (length l)) 2 n then parseSwiftChars n l
+-- 2: an account or identifier of a length that is not from shortest to longest
+abbrev pub parseLength : ℕ → ℕ → ℕ → List ℕ → Reply
+parseLength shortest longest n l = must (between shortest longest (length l)) 2 n
 
--- BIC: length 8 or 11
+-- an account or identifier: its length, then legal bytes
+unfoldable pub parseAccount : ℕ → ℕ → ℕ → List ℕ → Reply
+parseAccount shortest longest n l = parseLength shortest longest n l then parseSwiftChars n l
+
+-- BIC: length 8 ..
+abbrev pub bicShort : ℕ
+bicShort = 8
+
+-- .. or 11
+abbrev pub bicLong : ℕ
+bicLong = 11
+
 unfoldable pub bicLength : ℕ → Bool
-bicLength n = eqb n 8 || eqb n 11
+bicLength n = eqb n bicShort || eqb n bicLong
 
 -- BIC: 9 for another length; bytes 1 to 6 letters, the rest letters or digits, else 10
 unfoldable pub parseBic : ℕ → List ℕ → Reply

@@ -4,7 +4,7 @@ use errors::ParseError;
 ghost use mathlib.Core.Path.{_≡_};
 ghost use Rattle.errors.specs.Refusals.{told};
 ghost use Rattle.swift_utils.specs.Bytes.{legal, digit, alphanumeric, all};
-ghost use Rattle.swift_utils.specs.Checks.{parseSwiftChars, parseAccount, bicLength, parseBic};
+ghost use Rattle.swift_utils.specs.Checks.{parseSwiftChars, parseLength, parseAccount, bicLength, parseBic};
 ghost use Rattle.swift_utils.specs.Classes.{classOf, classTable, entryAtLeast};
 
 // The class of each byte: 0 illegal, 1 LF, 2 legal and neither LF, a digit nor a letter, 3 a digit, 4 a letter.
@@ -332,10 +332,9 @@ pub fn parse_swift_chars(input: &[u8], line: usize) -> Outcome
     }
 }
 
-// An account or identifier of a length from shortest to longest, else 2, and of legal bytes, else 3, at the line that is handed in. The
-// Rust tests each option's by hand; its `parse_account` is for other fields.
-pub fn parse_account(input: &[u8], shortest: usize, longest: usize, line: usize) -> Outcome
-    ensures { λ r. ⌜ told r ≡ parseAccount shortest longest line (now (input .entry)) ⌝ }
+// A length from shortest to longest, or 2 at the line that is handed in.
+pub fn parse_length(input: &[u8], shortest: usize, longest: usize, line: usize) -> Outcome
+    ensures { λ r. ⌜ told r ≡ parseLength shortest longest line (now (input .entry)) ⌝ }
 {
     let n = input.len();
     if n < shortest {
@@ -344,14 +343,30 @@ pub fn parse_account(input: &[u8], shortest: usize, longest: usize, line: usize)
     if longest < n {
         return Outcome::Refused(ParseError::PartyIdentifier(line));
     }
+    Outcome::Accepted
+}
+
+// An account or identifier: its length, then its bytes. The Rust tests each option's by hand; its `parse_account` is for other fields.
+pub fn parse_account(input: &[u8], shortest: usize, longest: usize, line: usize) -> Outcome
+    ensures { λ r. ⌜ told r ≡ parseAccount shortest longest line (now (input .entry)) ⌝ }
+{
+    let outcome = parse_length(input, shortest, longest, line);
+    if let Outcome::Refused(e) = outcome {
+        return Outcome::Refused(e);
+    }
     parse_swift_chars(input, line)
 }
+
+// The lengths of a BIC, without a branch code and with one.
+pub const BIC_SHORT: usize = 8;
+
+pub const BIC_LONG: usize = 11;
 
 // Whether a BIC can be so long.
 pub fn is_bic_length(n: usize) -> bool
     ensures { λ r. ⌜ r ≡ bicLength n ⌝ }
 {
-    n == 8 || n == 11
+    n == BIC_SHORT || n == BIC_LONG
 }
 
 // A BIC, or 9 and then 10 at the line that is handed in.

@@ -14,8 +14,8 @@ use Rattle.swift_utils.specs.Bytes.{all, among, between, letter, digit, alphanu
 use Rattle.swift_utils.specs.Checks.{parseSwiftChars, parseAccount, bicLength, parseBic}
 use Rattle.field_utils.specs.Lines.{upto}
 use Rattle.field_utils.specs.Identifier.{secondSlash, identifierReply}
-use Rattle.reader.specs.declared.First.{First}
-use Rattle.reader.specs.declared.First.the-variants.{Name, Identified, Account, ShortAccount, SlashAccount, AnyAccount, WholeLine}
+use Rattle.party.specs.declared.First.{First}
+use Rattle.party.specs.declared.First.the-variants.{NoAccount, Identified, Account, ShortAccount, SlashAccount, AnyAccount, WholeLine}
 use Rattle.reader.specs.Options.{lengthReply, ascii}
 use Rattle.writer.specs.Given.{textReply}
 use Rattle.writer.proofs.Tests.{both-left, both-right, both}
@@ -103,7 +103,7 @@ identifier-ascii longest n x = go (ltb (upto 47 x) (length x)) (eqb (upto 47 x) 
         all-split ascii (upto 47 x) x (all-ascii alphanumeric alphanumeric-ascii (take (upto 47 x) x) c) (from-slash ascii x refl (ltb-true _ _ a) r)
 
 pub text-ascii : (first : First) (o : PartyOption) (x : List ℕ) → textReply first o x ≡ accepted → all ascii x ≡ true
-text-ascii Name o x e = account-ascii _ _ 1 x e
+text-ascii NoAccount o x e = account-ascii _ _ 1 x e
 text-ascii Identified o x e = identifier-ascii _ 1 x e
 text-ascii Account o x e = account-ascii _ _ 1 x e
 text-ascii ShortAccount o x e = account-ascii _ _ 1 x e

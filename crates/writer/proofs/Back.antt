@@ -18,13 +18,13 @@ use Rattle.party.specs.Party.{Said, said}
 use Rattle.swift_utils.specs.Bytes.{all, between}
 use Rattle.swift_utils.specs.Checks.{parseAccount, bicLength, parseBic}
 use Rattle.swift_utils.proofs.Checks.{bicLength-least}
-use Rattle.field_utils.specs.Lines.{starts, lines, withoutCr}
+use Rattle.field_utils.specs.Lines.{starts, lines}
+use Rattle.field_utils.specs.Cursor.{withoutCr}
 use Rattle.field_utils.specs.Identifier.{isNumbered}
-use Rattle.field_utils.specs.Names.{numberingOf}
-use Rattle.reader.specs.declared.Layout.{Layout}
-use Rattle.reader.specs.declared.Layout.the-variants.{BicOnly, TextOnly, ByLines}
+use Rattle.party.specs.declared.Layout.{Layout}
+use Rattle.party.specs.declared.Layout.the-variants.{BicOnly, TextOnly, ByLines}
 use Rattle.reader.specs.Reading.{Found, giving, partyOf}
-use Rattle.reader.specs.Options.{accountReply, ascii, bodyReply, byLines, foundBy, layoutOf, read}
+use Rattle.reader.specs.Options.{accountReply, ascii, bodyReply, byLines, foundBy, read, bodyMost}
 use Rattle.reader.specs.Code.{passedHead}
 use Rattle.writer.specs.Writing.{nameLines, headLines, writtenLines, joined, writtenBody, pieces}
 use Rattle.writer.specs.Given.{isAccount, isBic}
@@ -42,8 +42,8 @@ use Rattle.writer.proofs.Necessary.{GoodIn, readLines, by-head, names-o
 -- ---- what an accepted body gives
 pub record Accepted (o : PartyOption) (body : List ℕ) : Type 0 where
   pub fits : bodyReply body ≡ accepted
-  pub good : GoodIn o (readLines (layoutOf o) body) (foundBy (layoutOf o) o body)
-  pub says : said (read o body .party) ≡ saying o (foundBy (layoutOf o) o body)
+  pub good : GoodIn o (readLines (limitsOf o .layout) body) (foundBy (limitsOf o .layout) o body)
+  pub says : said (read o body .party) ≡ saying o (foundBy (limitsOf o .layout) o body)
 
 giving-reply : (r : Reply) (p : Party) → giving r p .reply ≡ r
 giving-reply accepted p = refl
@@ -55,10 +55,10 @@ giving-party r p e = rw e
 pub accepted-is : (o : PartyOption) (body : List ℕ) → read o body .reply ≡ accepted → Accepted o body
 unfolding read
 accepted-is o body e =
-    let f = foundBy (layoutOf o) o body in
+    let f = foundBy (limitsOf o .layout) o body in
     let r : (bodyReply body then f .reply) ≡ accepted = sym (giving-reply (bodyReply body then f .reply) (partyOf o f)) ∙ e in
     let b = then-first (bodyReply body) _ r in
-    let a : all ascii body ≡ true = must-held (all ascii body) 13 0 (then-second (must (leb (length body) 2048) 12 0) _ b) in
+    let a : all ascii body ≡ true = must-held (all ascii body) 13 0 (then-second (must (leb (length body) bodyMost) 12 0) _ b) in
     let g = found-good o body a (then-second (bodyReply body) _ r) in
     record { fits = b; good = g; says = ap said (giving-party (bodyReply body then f .reply) (partyOf o f) r) ∙ said-party o f (g .fits) }
 
@@ -72,7 +72,7 @@ module _ (o : PartyOption) (present : Bool) (count : ℕ) (u v : Used) (us : Lis
   written-bare e = go present refl
     where
       go : (t : Bool) → present ≡ t
-          → headLines o t (S .account) ++ map bytesOf (S .bic) ++ nameLines (numberingOf o) 1 (S .names) ≡ bareHead o t (S .account) ++ map bytesOf (S .bic) ++ nameLines (numberingOf o) 1 (S .names)
+          → headLines o t (S .account) ++ map bytesOf (S .bic) ++ nameLines (limitsOf o .numbering) 1 (S .names) ≡ bareHead o t (S .account) ++ map bytesOf (S .bic) ++ nameLines (limitsOf o .numbering) 1 (S .names)
       go true p = rw (gap-none o (not-both (eqb (placeOf o) (placeOf Field59F)) present e p), append-nil (bareHead o true (S .account)))
       go false p = refl
 
@@ -118,7 +118,7 @@ module _ (o : PartyOption) (present : Bool) (count : ℕ) (u v : Used) (us : Lis
       rw (body-bare o present count u v us e)
       (body-fits (joined (bare T)) (omega (arith, joined-most (bare T) 183 (omega arith))) (joined-ascii (bare T) (plain o present count u v us h)))
 
-  pub back-found : isReadBack T ≡ true → foundBy (layoutOf o) o (writtenBody T) ≡ foundOf T
+  pub back-found : isReadBack T ≡ true → foundBy (limitsOf o .layout) o (writtenBody T) ≡ foundOf T
   unfolding isReadBack
   back-found e =
       let q = body-bare o present count u v us (not-identified T e) in
@@ -128,7 +128,7 @@ module _ (o : PartyOption) (present : Bool) (count : ℕ) (u v : Used) (us : Lis
       let p : pieces (joined (bare T)) ≡ bare T = pieces-joined (bare T) (some (bare T) last) ls in
       let same : lines (joined (bare T)) ≡ bare T =
       lines-joined (bare T) ls ∙ relined-same (bare T) (ap lastEmpty (sym p) ∙ last) (ap earlierCr (sym p) ∙ not-cr (joined (bare T)) two) in
-      ap (foundBy (layoutOf o) o) q ∙ joined-found (layoutOf o) o T (bare-found count u v us o present h) same
+      ap (foundBy (limitsOf o .layout) o) q ∙ joined-found (limitsOf o .layout) o T (bare-found count u v us o present h) same
 
 -- ---- not read back
 -- the lines of a body that is not read back weigh less than the record's
@@ -189,9 +189,9 @@ unfolding writtenBody writtenLines bare nameLines withoutCr
 identified-no count u v [] h e = absurd (omega (arith, names-are Field59F count [] (h .names) .pass refl .least))
 identified-no count u v (w ∷ us) h e =
     let p = plain Field59F true count u v (w ∷ us) h in
-    let ls : All Line ((47 ∷ u .bytes) ∷ w .bytes ∷ nameLines (numberingOf Field59F) 2 us) = lines-of (bare (saidWith Field59F true count u v (w ∷ us))) p in
-    let r = lines-joined ((47 ∷ u .bytes) ∷ [] ∷ w .bytes ∷ nameLines (numberingOf Field59F) 2 us) (ls .0, (refl, ls .1)) in
-    gap-refused (withoutCr (47 ∷ u .bytes)) (relined (w .bytes ∷ nameLines (numberingOf Field59F) 2 us)) (slash-kept (u .bytes)) (cr-all ascii (47 ∷ u .bytes) (p .0 .bytes)) (ap (λ (x : List (List ℕ)). byLines Field59F x .reply) (sym r) ∙ e)
+    let ls : All Line ((47 ∷ u .bytes) ∷ w .bytes ∷ nameLines (limitsOf Field59F .numbering) 2 us) = lines-of (bare (saidWith Field59F true count u v (w ∷ us))) p in
+    let r = lines-joined ((47 ∷ u .bytes) ∷ [] ∷ w .bytes ∷ nameLines (limitsOf Field59F .numbering) 2 us) (ls .0, (refl, ls .1)) in
+    gap-refused (withoutCr (47 ∷ u .bytes)) (relined (w .bytes ∷ nameLines (limitsOf Field59F .numbering) 2 us)) (slash-kept (u .bytes)) (cr-all ascii (47 ∷ u .bytes) (p .0 .bytes)) (ap (λ (x : List (List ℕ)). byLines Field59F x .reply) (sym r) ∙ e)
 
 -- a BIC has a byte, and so has a 50L
 bic-least : (n : ℕ) (x : List ℕ) → parseBic n x ≡ accepted → 8 ≤ length x
@@ -210,8 +210,8 @@ module _ (count : ℕ) (u v : Used) (us : List Used) where
 
   -- what reading its body gives weighs no less than the record's lines
   pub record Again (o : PartyOption) (present : Bool) : Type 0 where
-    pub reply : foundBy (layoutOf o) o (writtenBody (Q o present)) .reply ≡ accepted
-    pub heavy : weight (bare (Q o present)) ≤ weight (readLines (layoutOf o) (writtenBody (Q o present)))
+    pub reply : foundBy (limitsOf o .layout) o (writtenBody (Q o present)) .reply ≡ accepted
+    pub heavy : weight (bare (Q o present)) ≤ weight (readLines (limitsOf o .layout) (writtenBody (Q o present)))
 
   pub back-no : (o : PartyOption) (present : Bool) → Facts (Q o present) → isReadBack (Q o present) ≡ false → Again o present → ⊥
   unfolding identified59F isReadBack writtenBody writtenLines nameLines

@@ -18,15 +18,15 @@ use Rattle.swift_utils.specs.Bytes.{all, among, between, letter, digit, alphanu
 use Rattle.swift_utils.specs.Checks.{bicLength, parseBic}
 use Rattle.field_utils.specs.Lines.{starts}
 use Rattle.field_utils.specs.Identifier.{isNumbered}
-use Rattle.field_utils.specs.declared.Numbering.the-variants.{Unnumbered}
-use Rattle.field_utils.specs.Names.{numberingOf}
-use Rattle.reader.specs.declared.First.the-variants.{Identified, Account, ShortAccount}
-use Rattle.reader.specs.declared.Layout.{Layout}
-use Rattle.reader.specs.declared.Layout.the-variants.{BicOnly, TextOnly, ByLines}
+use Rattle.party.specs.declared.Numbering.the-variants.{Unnumbered}
+use Rattle.party.specs.declared.First.the-variants.{Identified, Account, ShortAccount}
+use Rattle.party.specs.declared.Layout.{Layout}
+use Rattle.party.specs.declared.Layout.the-variants.{BicOnly, TextOnly, ByLines}
 use Rattle.reader.specs.Reading.{Found}
-use Rattle.reader.specs.Options.{noHead, headBy, firstOf, accountReply, byLines, bicOnly, textOnly, layoutOf}
+use Rattle.reader.specs.Options.{isCounted, noHead, headBy, accountReply, byLines, bicOnly, textOnly}
 use Rattle.reader.specs.Code.{passedHead}
 use Rattle.reader.proofs.Bodies.{head-there, head-none}
+use Rattle.reader.proofs.LineCounts.{counts-open}
 use Rattle.reader.proofs.Readings.{rest-bic, rest-names, text-line}
 use Rattle.writer.specs.Writing.{slashOf, numberOf, nameLines, joined}
 use Rattle.writer.specs.Given.{every, isAccount, isBic, areNames, isTaken}
@@ -42,7 +42,7 @@ bareHead o true us = map (λ (u : Used). slashOf o ++ u .bytes) us
 bareHead o false us = []
 
 unfoldable pub bare : Said → List (List ℕ)
-bare s = bareHead (s .option) (s .present) (s .account) ++ map bytesOf (s .bic) ++ nameLines (numberingOf (s .option)) 1 (s .names)
+bare s = bareHead (s .option) (s .present) (s .account) ++ map bytesOf (s .bic) ++ nameLines (limitsOf (s .option) .numbering) 1 (s .names)
 
 -- what is found in them
 abbrev pub firstBytes : List Used → List ℕ
@@ -96,15 +96,15 @@ numbered-free (d ∷ s ∷ l) e = digit-least d (both-left (digit d) (eqb s 47) 
 -- ---- the first line and the others, with a BIC and with names
 module _ (o : PartyOption) where
   abbrev Counted : ℕ → Type 0
-  Counted n = between (limitsOf o .least) (limitsOf o .most) n ≡ true
+  Counted n = isCounted o n ≡ true
 
-  bic-there : limitsOf o .names ≡ 0 → (l x : List ℕ) (v : Used) → headBy (firstOf o) o l ≡ passedHead true x → Counted 2 → isBic v ≡ true
+  bic-there : limitsOf o .names ≡ 0 → (l x : List ℕ) (v : Used) → headBy (limitsOf o .first) o l ≡ passedHead true x → Counted 2 → isBic v ≡ true
       → byLines o (l ∷ v .bytes ∷ []) ≡ record { reply = accepted; present = true; account = x; bic = v .bytes; names = [] }
   bic-there z l x v e c b =
       head-there o l (v .bytes ∷ []) (sym e) c refl refl refl ∙ rest-bic o refl 2 (passedHead true x) (v .bytes ∷ []) z
       ∙ rw (bic-any 1 2 (v .bytes) (bic-passes v b))
 
-  bic-none : limitsOf o .names ≡ 0 → (v : Used) → headBy (firstOf o) o (v .bytes) ≡ noHead → Counted 1 → isBic v ≡ true
+  bic-none : limitsOf o .names ≡ 0 → (v : Used) → headBy (limitsOf o .first) o (v .bytes) ≡ noHead → Counted 1 → isBic v ≡ true
       → byLines o (v .bytes ∷ []) ≡ record { reply = accepted; present = false; account = []; bic = v .bytes; names = [] }
   bic-none z v e c b =
       head-none o (v .bytes) [] (sym e) c refl refl refl ∙ rest-bic o refl 1 noHead (v .bytes ∷ []) z ∙ rw (bic-passes v b)
@@ -112,51 +112,51 @@ module _ (o : PartyOption) where
   named : Bool → List ℕ → List Used → Found
   named present x us = record { reply = accepted; present = present; account = x; bic = []; names = map bytesOf us }
 
-  names-there : (limitsOf o .names ≡ 0 → ⊥) → (l x : List ℕ) (us : List Used) → headBy (firstOf o) o l ≡ passedHead true x → Counted (suc (length us))
-      → NamesPass o (nameLines (numberingOf o) 1 us) → byLines o (l ∷ nameLines (numberingOf o) 1 us) ≡ named true x us
+  names-there : (limitsOf o .names ≡ 0 → ⊥) → (l x : List ℕ) (us : List Used) → headBy (limitsOf o .first) o l ≡ passedHead true x → Counted (suc (length us))
+      → NamesPass o (nameLines (limitsOf o .numbering) 1 us) → byLines o (l ∷ nameLines (limitsOf o .numbering) 1 us) ≡ named true x us
   unfolding named
   names-there z l x us e c p =
-      let ls = nameLines (numberingOf o) 1 us in
-      head-there o l ls (sym e) (rw (written-length (numberingOf o) 1 us) c) refl refl refl
+      let ls = nameLines (limitsOf o .numbering) 1 us in
+      head-there o l ls (sym e) (rw (written-length (limitsOf o .numbering) 1 us) c) refl refl refl
       ∙ rest-names o refl 2 (passedHead true x) ls z
-      ∙ rw (names-pass o 2 ls p, kept-written (numberingOf o) 1 us)
+      ∙ rw (names-pass o 2 ls p, kept-written (limitsOf o .numbering) 1 us)
 
   names-none : (limitsOf o .names ≡ 0 → ⊥) → (u : Used) (us : List Used) → Counted (suc (length us))
-      → ((l : List ℕ) (ls : List (List ℕ)) → nameLines (numberingOf o) 1 (u ∷ us) ≡ l ∷ ls → headBy (firstOf o) o l ≡ noHead)
-      → NamesPass o (nameLines (numberingOf o) 1 (u ∷ us)) → byLines o (nameLines (numberingOf o) 1 (u ∷ us)) ≡ named false [] (u ∷ us)
+      → ((l : List ℕ) (ls : List (List ℕ)) → nameLines (limitsOf o .numbering) 1 (u ∷ us) ≡ l ∷ ls → headBy (limitsOf o .first) o l ≡ noHead)
+      → NamesPass o (nameLines (limitsOf o .numbering) 1 (u ∷ us)) → byLines o (nameLines (limitsOf o .numbering) 1 (u ∷ us)) ≡ named false [] (u ∷ us)
   unfolding named nameLines
   names-none z u us c e p =
-      let l = numberOf (numberingOf o) 1 ++ u .bytes in
-      let ls = nameLines (numberingOf o) 2 us in
-      head-none o l ls (sym (e l ls refl)) (rw (written-length (numberingOf o) 2 us) c) refl refl refl
+      let l = numberOf (limitsOf o .numbering) 1 ++ u .bytes in
+      let ls = nameLines (limitsOf o .numbering) 2 us in
+      head-none o l ls (sym (e l ls refl)) (rw (written-length (limitsOf o .numbering) 2 us) c) refl refl refl
       ∙ rest-names o refl 1 noHead (l ∷ ls) z
-      ∙ rw (names-pass o 1 (l ∷ ls) p, kept-written (numberingOf o) 1 (u ∷ us))
+      ∙ rw (names-pass o 1 (l ∷ ls) p, kept-written (limitsOf o .numbering) 1 (u ∷ us))
 
   -- with names, by the test of them
   module _ (z : limitsOf o .names ≡ 0 → ⊥) (count : ℕ) (us : List Used) (h : areNames o count us ≡ true) where
     abbrev written : List (List ℕ)
-    written = nameLines (numberingOf o) 1 us
+    written = nameLines (limitsOf o .numbering) 1 us
 
     pass : NamesPass o written
     pass = names-are o count us h .pass (ne-eqb _ _ z)
 
     few : (1 ≤ length us) × (length us ≤ 4)
     few =
-        let n = written-length (numberingOf o) 1 us in
+        let n = written-length (limitsOf o .numbering) 1 us in
         (omega (arith, pass .least, n), omega (arith, pass .most, n, small o .names))
 
-    true-names : (l x : List ℕ) → headBy (firstOf o) o l ≡ passedHead true x → ((n : ℕ) → 1 ≤ n → n ≤ 4 → Counted (suc n)) → byLines o (l ∷ written) ≡ named true x us
+    true-names : (l x : List ℕ) → headBy (limitsOf o .first) o l ≡ passedHead true x → ((n : ℕ) → 1 ≤ n → n ≤ 4 → Counted (suc n)) → byLines o (l ∷ written) ≡ named true x us
     true-names l x e c = names-there z l x us e (c (length us) (few .0) (few .1)) pass
 
   false-names : (limitsOf o .names ≡ 0 → ⊥) → (count : ℕ) (us : List Used) → areNames o count us ≡ true → ((n : ℕ) → 1 ≤ n → n ≤ 4 → Counted n)
-      → ((l : List ℕ) (ls : List (List ℕ)) → nameLines (numberingOf o) 1 us ≡ l ∷ ls → NamesPass o (l ∷ ls) → Free (firstOf o) o l)
-      → byLines o (nameLines (numberingOf o) 1 us) ≡ named false [] us
+      → ((l : List ℕ) (ls : List (List ℕ)) → nameLines (limitsOf o .numbering) 1 us ≡ l ∷ ls → NamesPass o (l ∷ ls) → Free (limitsOf o .first) o l)
+      → byLines o (nameLines (limitsOf o .numbering) 1 us) ≡ named false [] us
   unfolding nameLines
   false-names z count [] h c free = absurd (omega (arith, few z count [] h .0))
   false-names z count (u ∷ us) h c free =
       let n = few z count (u ∷ us) h in
       names-none z u us (c (suc (length us)) (n .0) (n .1))
-      (λ l ls e. none-made (firstOf o) o l (free l ls e (subst (NamesPass o) e (pass z count (u ∷ us) h)))) (pass z count (u ∷ us) h)
+      (λ l ls e. none-made (limitsOf o .first) o l (free l ls e (subst (NamesPass o) e (pass z count (u ∷ us) h)))) (pass z count (u ∷ us) h)
 
 within : (low high n : ℕ) → low ≤ n → n ≤ high → between low high n ≡ true
 within low high n h k = both (leb low n) (leb n high) (le-leb low n h) (le-leb n high k)
@@ -185,10 +185,10 @@ module _ (count : ℕ) (u v : Used) (us : List Used) where
   S o present = saidWith o present count u v us
 
   abbrev Goal : PartyOption → Bool → Type 0
-  Goal o present = Facts (S o present) → Reads (layoutOf o) o (S o present)
+  Goal o present = Facts (S o present) → Reads (limitsOf o .layout) o (S o present)
 
-  head-in : (o : PartyOption) → Heads (firstOf o) → every (isAccount o true) (u ∷ []) ≡ true → headBy (firstOf o) o (slashBy (firstOf o) ++ u .bytes) ≡ passedHead true (u .bytes)
-  head-in o n h = head-made (firstOf o) o (u .bytes) n (account-passes o u (one (isAccount o true) u h))
+  head-in : (o : PartyOption) → Heads (limitsOf o .first) → every (isAccount o true) (u ∷ []) ≡ true → headBy (limitsOf o .first) o (slashBy (limitsOf o .first) ++ u .bytes) ≡ passedHead true (u .bytes)
+  head-in o n h = head-made (limitsOf o .first) o (u .bytes) n (account-passes o u (one (isAccount o true) u h))
 
   free-bic : every isBic (v ∷ []) ≡ true → starts 47 (v .bytes) ≡ false
   free-bic h = bic-free 1 (v .bytes) (bic-passes v (one isBic v h))
@@ -205,21 +205,21 @@ module _ (count : ℕ) (u v : Used) (us : List Used) where
   bare-found Field50NoOption false h = false-names Field50NoOption (λ z. omega arith) count us (h .names) (λ n a b. within 1 4 n a b) (λ l ls e p. tt)
   bare-found Field50A true h = bic-there Field50A refl _ (u .bytes) v (head-in Field50A tt (h .account)) refl (one isBic v (h .bic))
   bare-found Field50A false h = bic-none Field50A refl v (none-made Identified Field50A (v .bytes) (free-bic (h .bic))) refl (one isBic v (h .bic))
-  bare-found Field50F true h = true-names Field50F (λ z. omega arith) count us (h .names) _ (u .bytes) (head-in Field50F tt (h .account)) (λ n a b. within 2 2048 (suc n) (omega arith) (omega arith))
+  bare-found Field50F true h = true-names Field50F (λ z. omega arith) count us (h .names) _ (u .bytes) (head-in Field50F tt (h .account)) (λ n a b. counts-open Field50F refl (suc n) (omega arith) refl)
   bare-found Field50F false h = absurd (false≢true (h .presence))
-  bare-found Field50K true h = true-names Field50K (λ z. omega arith) count us (h .names) _ (u .bytes) (head-in Field50K tt (h .account)) (λ n a b. within 1 2048 (suc n) (omega arith) (omega arith))
-  bare-found Field50K false h = false-names Field50K (λ z. omega arith) count us (h .names) (λ n a b. within 1 2048 n a (omega arith)) (λ l ls e p. untaken us l ls (h .free) e)
+  bare-found Field50K true h = true-names Field50K (λ z. omega arith) count us (h .names) _ (u .bytes) (head-in Field50K tt (h .account)) (λ n a b. counts-open Field50K refl (suc n) (omega arith) refl)
+  bare-found Field50K false h = false-names Field50K (λ z. omega arith) count us (h .names) (λ n a b. counts-open Field50K refl n a refl) (λ l ls e p. untaken us l ls (h .free) e)
   bare-found Field50C true h = absurd (false≢true (h .presence))
   bare-found Field50C false h = rw (bic-passes v (one isBic v (h .bic)))
   bare-found Field50L true h = text-found (h .account)
   bare-found Field50L false h = absurd (false≢true (h .presence))
   bare-found Field50G true h = bic-there Field50G refl _ (u .bytes) v (head-in Field50G tt (h .account)) refl (one isBic v (h .bic))
   bare-found Field50G false h = absurd (false≢true (h .presence))
-  bare-found Field50H true h = true-names Field50H (λ z. omega arith) count us (h .names) _ (u .bytes) (head-in Field50H tt (h .account)) (λ n a b. within 2 2048 (suc n) (omega arith) (omega arith))
+  bare-found Field50H true h = true-names Field50H (λ z. omega arith) count us (h .names) _ (u .bytes) (head-in Field50H tt (h .account)) (λ n a b. counts-open Field50H refl (suc n) (omega arith) refl)
   bare-found Field50H false h = absurd (false≢true (h .presence))
-  bare-found Field59NoOption true h = true-names Field59NoOption (λ z. omega arith) count us (h .names) _ (u .bytes) (head-in Field59NoOption tt (h .account)) (λ n a b. within 1 2048 (suc n) (omega arith) (omega arith))
-  bare-found Field59NoOption false h = false-names Field59NoOption (λ z. omega arith) count us (h .names) (λ n a b. within 1 2048 n a (omega arith)) (λ l ls e p k. untaken us l ls (untaken-short us (h .free)) e)
+  bare-found Field59NoOption true h = true-names Field59NoOption (λ z. omega arith) count us (h .names) _ (u .bytes) (head-in Field59NoOption tt (h .account)) (λ n a b. counts-open Field59NoOption refl (suc n) (omega arith) refl)
+  bare-found Field59NoOption false h = false-names Field59NoOption (λ z. omega arith) count us (h .names) (λ n a b. counts-open Field59NoOption refl n a refl) (λ l ls e p k. untaken us l ls (untaken-short us (h .free)) e)
   bare-found Field59A true h = bic-there Field59A refl _ (u .bytes) v (head-in Field59A tt (h .account)) refl (one isBic v (h .bic))
   bare-found Field59A false h = bic-none Field59A refl v (none-made ShortAccount Field59A (v .bytes) (λ k. free-bic (h .bic))) refl (one isBic v (h .bic))
-  bare-found Field59F true h = true-names Field59F (λ z. omega arith) count us (h .names) _ (u .bytes) (head-in Field59F tt (h .account)) (λ n a b. within 1 2048 (suc n) (omega arith) (omega arith))
-  bare-found Field59F false h = false-names Field59F (λ z. omega arith) count us (h .names) (λ n a b. within 1 2048 n a (omega arith)) (λ l ls e p. numbered-free l (both-left _ _ (p .each .0 .number)))
+  bare-found Field59F true h = true-names Field59F (λ z. omega arith) count us (h .names) _ (u .bytes) (head-in Field59F tt (h .account)) (λ n a b. counts-open Field59F refl (suc n) (omega arith) refl)
+  bare-found Field59F false h = false-names Field59F (λ z. omega arith) count us (h .names) (λ n a b. counts-open Field59F refl n a refl) (λ l ls e p. numbered-free l (both-left _ _ (p .each .0 .number)))

@@ -8,15 +8,14 @@ use lib.ListN.{length}
 use borrow.Author.Tests.{eqb-true, eq-eqb, leb-true, not-true}
 use Rattle.errors.specs.Refusals.{accepted}
 use Rattle.party.specs.declared.PartyOption.{PartyOption}
-use Rattle.party.specs.declared.PartyOption.the-variants.{Field50NoOption, Field50A, Field50F, Field50K, Field50C, Field50L, Field50G, Field50H, Field59NoOption, Field59A, Field59F}
 use Rattle.party.specs.Limits.{limitsOf}
 use Rattle.party.specs.Text.{Used}
 use Rattle.party.specs.Party.{Said}
 use Rattle.swift_utils.specs.Checks.{parseBic}
-use Rattle.field_utils.specs.Names.{numberingOf, parseNameAndAddress}
-use Rattle.reader.specs.Options.{firstOf}
+use Rattle.field_utils.specs.Names.{parseNameAndAddress}
 use Rattle.writer.specs.Writing.{nameLines}
 use Rattle.writer.specs.Given.{passes, every, isLine, textReply, isAccount, isPresence, isBic, areNames, isTaken, isGiven}
+use Rattle.party.proofs.Options.{by-option}
 use Rattle.writer.proofs.Tests.{both-left, both-right, both, is-not, passed, passing}
 use Rattle.writer.proofs.NamePasses.{NamesPass, names-held, names-pass}
 
@@ -26,7 +25,7 @@ pub record Facts (s : Said) : Type 0 where
   pub account : every (isAccount (s .option) (s .present)) (s .account) ≡ true
   pub bic : every isBic (s .bic) ≡ true
   pub names : areNames (s .option) (s .count) (s .names) ≡ true
-  pub free : (not (s .present) && isTaken (firstOf (s .option)) (s .names)) ≡ false
+  pub free : (not (s .present) && isTaken (limitsOf (s .option) .first) (s .names)) ≡ false
 
 module _ (s : Said) where
   abbrev pres : Bool
@@ -42,7 +41,7 @@ module _ (s : Said) where
   nams = areNames (s .option) (s .count) (s .names)
 
   abbrev taken : Bool
-  taken = not (s .present) && isTaken (firstOf (s .option)) (s .names)
+  taken = not (s .present) && isTaken (limitsOf (s .option) .first) (s .names)
 
   pub facts : isGiven s ≡ true → Facts s
   unfolding isGiven
@@ -69,11 +68,11 @@ module _ (s : Said) where
 pub record NamesAre (o : PartyOption) (count : ℕ) (us : List Used) : Type 0 where
   pub counted : length us ≡ count
   pub lines : every isLine us ≡ true
-  pub pass : eqb (limitsOf o .names) 0 ≡ false → NamesPass o (nameLines (numberingOf o) 1 us)
+  pub pass : eqb (limitsOf o .names) 0 ≡ false → NamesPass o (nameLines (limitsOf o .numbering) 1 us)
 
 module _ (o : PartyOption) (count : ℕ) (us : List Used) where
   abbrev named : Bool
-  named = elim (eqb (limitsOf o .names) 0) [ true ↦ true | false ↦ passes (parseNameAndAddress o 1 (nameLines (numberingOf o) 1 us)) ]
+  named = elim (eqb (limitsOf o .names) 0) [ true ↦ true | false ↦ passes (parseNameAndAddress o 1 (nameLines (limitsOf o .numbering) 1 us)) ]
 
   pub names-are : areNames o count us ≡ true → NamesAre o count us
   unfolding areNames
@@ -83,7 +82,7 @@ module _ (o : PartyOption) (count : ℕ) (us : List Used) where
         counted = eqb-true _ _ (both-left (eqb (length us) count) (every isLine us) first);
         lines = both-right (eqb (length us) count) (every isLine us) first;
         pass = λ z.
-            let n : named ≡ passes (parseNameAndAddress o 1 (nameLines (numberingOf o) 1 us)) = rw (z, named) in
+            let n : named ≡ passes (parseNameAndAddress o 1 (nameLines (limitsOf o .numbering) 1 us)) = rw (z, named) in
             names-held o 1 _ (passed _ (sym n ∙ both-right (eqb (length us) count && every isLine us) named e));
       }
 
@@ -95,11 +94,11 @@ module _ (o : PartyOption) (count : ℕ) (us : List Used) where
     where
       go : (t : Bool) → eqb (limitsOf o .names) 0 ≡ t → named ≡ true
       go true z = rw (z, named)
-      go false z = let n : named ≡ passes (parseNameAndAddress o 1 (nameLines (numberingOf o) 1 us)) = rw (z, named) in n ∙ passing _ (names-pass o 1 _ (h .pass z))
+      go false z = let n : named ≡ passes (parseNameAndAddress o 1 (nameLines (limitsOf o .numbering) 1 us)) = rw (z, named) in n ∙ passing _ (names-pass o 1 _ (h .pass z))
 
 -- an account or identifier, and a BIC
 pub account-line : (o : PartyOption) (present : Bool) (u : Used) → isAccount o present u ≡ true → isLine u ≡ true
-account-line o true u e = both-left (isLine u) (passes (textReply (firstOf o) o (u .bytes))) e
+account-line o true u e = both-left (isLine u) (passes (textReply (limitsOf o .first) o (u .bytes))) e
 account-line o false u e = both-right (eqb (u .len) 0) (isLine u) e
 
 pub account-lines : (o : PartyOption) (present : Bool) (us : List Used) → every (isAccount o present) us ≡ true → every isLine us ≡ true
@@ -108,8 +107,8 @@ account-lines o present (u ∷ us) e =
     both (isLine u) (every isLine us) (account-line o present u (both-left (isAccount o present u) (every (isAccount o present) us) e))
     (account-lines o present us (both-right (isAccount o present u) (every (isAccount o present) us) e))
 
-pub account-passes : (o : PartyOption) (u : Used) → isAccount o true u ≡ true → textReply (firstOf o) o (u .bytes) ≡ accepted
-account-passes o u e = passed _ (both-right (isLine u) (passes (textReply (firstOf o) o (u .bytes))) e)
+pub account-passes : (o : PartyOption) (u : Used) → isAccount o true u ≡ true → textReply (limitsOf o .first) o (u .bytes) ≡ accepted
+account-passes o u e = passed _ (both-right (isLine u) (passes (textReply (limitsOf o .first) o (u .bytes))) e)
 
 pub bic-passes : (u : Used) → isBic u ≡ true → parseBic 1 (u .bytes) ≡ accepted
 bic-passes u e = passed _ (both-right (isLine u) (passes (parseBic 1 (u .bytes))) e)
@@ -127,17 +126,9 @@ pub record Small (o : PartyOption) : Type 0 where
   pub name : limitsOf o .name ≤ 35
 
 small-is : (o : PartyOption) → (leb (limitsOf o .longest) 35 && leb (limitsOf o .names) 4 && leb (limitsOf o .name) 35) ≡ true
-small-is Field50NoOption = refl
-small-is Field50A = refl
-small-is Field50F = refl
-small-is Field50K = refl
-small-is Field50C = refl
-small-is Field50L = refl
-small-is Field50G = refl
-small-is Field50H = refl
-small-is Field59NoOption = refl
-small-is Field59A = refl
-small-is Field59F = refl
+small-is =
+    by-option (λ (o : PartyOption). (leb (limitsOf o .longest) 35 && leb (limitsOf o .names) 4 && leb (limitsOf o .name) 35) ≡ true) refl refl refl
+    refl refl refl refl refl refl refl refl
 
 pub small : (o : PartyOption) → Small o
 small o =

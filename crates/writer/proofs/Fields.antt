@@ -6,16 +6,15 @@ use mathlib.Core.List.{List, [], _∷_, _++_, map, append-assoc, append-nil}
 use native.Mathlib.Omega.{arith}
 use lib.Dec.{eqb}
 use lib.ListN.{length, take}
-use borrow.Author.Tests.{lt-ltb, eq-eqb, ne-eqb}
+use borrow.Author.Tests.{lt-ltb, eq-eqb, ne-eqb, eqb-true, eqb-false}
 use Rattle.party.specs.declared.PartyOption.{PartyOption}
-use Rattle.party.specs.declared.PartyOption.the-variants.{Field50NoOption, Field50A, Field50F, Field50K, Field50C, Field50L, Field50G, Field50H, Field59NoOption, Field59A, Field59F}
 use Rattle.party.specs.declared.Party.{Party}
 use Rattle.party.specs.declared.Limits.{Limits}
 use Rattle.party.specs.Limits.{limitsOf}
 use Rattle.party.specs.Text.{Used, used}
 use Rattle.party.specs.Party.{said, where-limit}
-use Rattle.field_utils.specs.Names.{numberingOf}
-use Rattle.writer.specs.Writing.{tagOf, slashOf, headLines, nameLines, writtenLines, joined, writtenBody, writtenField}
+use Rattle.party.proofs.Options.{by-option}
+use Rattle.writer.specs.Writing.{capital, tagOf, slashOf, headLines, nameLines, writtenLines, joined, writtenBody, writtenField}
 use Rattle.writer.specs.Code.{lead, led, hasHead, headOf, namesOn, restOn}
 
 -- ---- lines with LFs between them are lines with an LF before each but the first
@@ -53,17 +52,19 @@ record Headed (o : PartyOption) (present : Bool) (u : Used) : Type 0 where
 headed : (o : PartyOption) (present : Bool) (u : Used) → Headed o present u
 unfolding led after
 headed o false u = record { bytes = refl; later = refl }
-headed Field50NoOption true u = record { bytes = refl; later = refl }
-headed Field50A true u = record { bytes = refl; later = refl }
-headed Field50F true u = record { bytes = refl; later = refl }
-headed Field50K true u = record { bytes = refl; later = refl }
-headed Field50C true u = record { bytes = refl; later = refl }
-headed Field50L true u = record { bytes = refl; later = refl }
-headed Field50G true u = record { bytes = refl; later = refl }
-headed Field50H true u = record { bytes = refl; later = refl }
-headed Field59NoOption true u = record { bytes = refl; later = refl }
-headed Field59A true u = record { bytes = refl; later = refl }
-headed Field59F true u = record { bytes = refl; later = refl }
+headed o true u =
+    by-option (λ (k : PartyOption). Headed k true u)
+    (record { bytes = refl; later = refl })
+    (record { bytes = refl; later = refl })
+    (record { bytes = refl; later = refl })
+    (record { bytes = refl; later = refl })
+    (record { bytes = refl; later = refl })
+    (record { bytes = refl; later = refl })
+    (record { bytes = refl; later = refl })
+    (record { bytes = refl; later = refl })
+    (record { bytes = refl; later = refl })
+    (record { bytes = refl; later = refl })
+    (record { bytes = refl; later = refl }) o
 
 -- ---- the field
 pub field-parts :
@@ -75,7 +76,7 @@ field-parts p =
     let h = headed o (p .present) (used (p .account)) in
     let head = headIn o (p .present) (used (p .account)) in
     let bic = map (λ (u : Used). u .bytes) (said p .bic) in
-    let names = nameLines (numberingOf o) 1 (said p .names) in
+    let names = nameLines (limitsOf o .numbering) 1 (said p .names) in
     ap (λ (r : List ℕ). tagOf o ++ r)
     (joined-led ((head ++ bic) ++ names) ∙ ap (led false) (append-assoc head bic names) ∙ led-append false head (bic ++ names)
     ∙ ap (λ (r : List ℕ). r ++ led (after false head) (bic ++ names)) (h .bytes)
@@ -83,17 +84,9 @@ field-parts p =
 
 -- ---- what follows the account or identifier: an option has no BIC, or no names
 bic-alone : (o : PartyOption) → (limitsOf o .bic ≡ 0 → ⊥) → limitsOf o .names ≡ 0
-bic-alone Field50NoOption h = absurd (h refl)
-bic-alone Field50A h = refl
-bic-alone Field50F h = absurd (h refl)
-bic-alone Field50K h = absurd (h refl)
-bic-alone Field50C h = refl
-bic-alone Field50L h = refl
-bic-alone Field50G h = refl
-bic-alone Field50H h = absurd (h refl)
-bic-alone Field59NoOption h = absurd (h refl)
-bic-alone Field59A h = refl
-bic-alone Field59F h = absurd (h refl)
+bic-alone =
+    by-option (λ o. (limitsOf o .bic ≡ 0 → ⊥) → limitsOf o .names ≡ 0) (λ h. absurd (h refl)) (λ h. refl) (λ h. absurd (h refl)) (λ h. absurd (h refl)) (λ h. refl) (λ h. refl) (λ h. refl) (λ h. absurd (h refl))
+    (λ h. absurd (h refl)) (λ h. refl) (λ h. absurd (h refl))
 
 pub rest-names : (later : Bool) (p : Party) → limitsOf (p .option) .bic ≡ 0 → restOn later p ≡ namesOn later p
 unfolding said
@@ -107,63 +100,27 @@ rest-bic later p h =
     rw (bic, names) (append-nil (lead later ++ used (p .bic) .bytes))
 
 -- ---- the tag, by the limits
-abbrev pub tagBy : Limits → List ℕ
-tagBy l =
-    elim (eqb (l .letter) 0) [
-      | true ↦ 58 ∷ (48 + l .field / 10) ∷ (48 + l .field % 10) ∷ 58 ∷ []
-      | false ↦ 58 ∷ (48 + l .field / 10) ∷ (48 + l .field % 10) ∷ l .letter ∷ 58 ∷ []
-    ]
-
-pub tag-by : (o : PartyOption) → tagOf o ≡ tagBy (limitsOf o)
-tag-by Field50NoOption = refl
-tag-by Field50A = refl
-tag-by Field50F = refl
-tag-by Field50K = refl
-tag-by Field50C = refl
-tag-by Field50L = refl
-tag-by Field50G = refl
-tag-by Field50H = refl
-tag-by Field59NoOption = refl
-tag-by Field59A = refl
-tag-by Field59F = refl
-
-plain : (l : Limits) → l .letter ≡ 0 → (58 ∷ (48 + l .field / 10) ∷ (48 + l .field % 10) ∷ 58 ∷ []) ≡ tagBy l
-plain l z = rw (eq-eqb (l .letter) 0 z, tagBy)
-
-lettered : (l : Limits) → (l .letter ≡ 0 → ⊥) → (58 ∷ (48 + l .field / 10) ∷ (48 + l .field % 10) ∷ l .letter ∷ 58 ∷ []) ≡ tagBy l
-lettered l h = rw (ne-eqb (l .letter) 0 h, tagBy)
-
 module _ (o : PartyOption) {l : Limits} (e : l ≡ limitsOf o) where
   pub tag-plain : l .letter ≡ 0 → (58 ∷ (48 + l .field / 10) ∷ (48 + l .field % 10) ∷ 58 ∷ []) ≡ tagOf o
-  tag-plain z = plain l z ∙ ap tagBy e ∙ sym (tag-by o)
+  unfolding tagOf
+  tag-plain z = rw (← e, eq-eqb (l .letter) 0 z)
 
   pub tag-lettered : (l .letter ≡ 0 → ⊥) → (58 ∷ (48 + l .field / 10) ∷ (48 + l .field % 10) ∷ l .letter ∷ 58 ∷ []) ≡ tagOf o
-  tag-lettered h = lettered l h ∙ ap tagBy e ∙ sym (tag-by o)
+  unfolding tagOf
+  tag-lettered h = rw (← e, ne-eqb (l .letter) 0 h, capital, ← e)
 
 -- a tag has at most 5 bytes
 pub tag-most : (o : PartyOption) → length (tagOf o) ≤ 5
-tag-most Field50NoOption = omega arith
-tag-most Field50A = omega arith
-tag-most Field50F = omega arith
-tag-most Field50K = omega arith
-tag-most Field50C = omega arith
-tag-most Field50L = omega arith
-tag-most Field50G = omega arith
-tag-most Field50H = omega arith
-tag-most Field59NoOption = omega arith
-tag-most Field59A = omega arith
-tag-most Field59F = omega arith
+tag-most o = go (eqb (limitsOf o .letter) 0) refl
+  where
+    go : (t : Bool) → eqb (limitsOf o .letter) 0 ≡ t → length (tagOf o) ≤ 5
+    go true e = omega (arith, ap length (tag-plain o refl (eqb-true _ _ e)))
+    go false e = omega (arith, ap length (tag-lettered o refl (eqb-false _ _ e)))
 
 -- ---- the slash as a part of an array
 pub slash-part : (o : PartyOption) → take (length (slashOf o)) (47 ∷ []) ≡ slashOf o
-slash-part Field50NoOption = refl
-slash-part Field50A = refl
-slash-part Field50F = refl
-slash-part Field50K = refl
-slash-part Field50C = refl
-slash-part Field50L = refl
-slash-part Field50G = refl
-slash-part Field50H = refl
-slash-part Field59NoOption = refl
-slash-part Field59A = refl
-slash-part Field59F = refl
+slash-part o = go (limitsOf o .slash)
+  where
+    go : (t : Bool) → let slash = elim t as (λ x. List ℕ) [ true ↦ 47 ∷ [] | false ↦ [] ] in take (length slash) (47 ∷ []) ≡ slash
+    go true = refl
+    go false = refl

@@ -16,8 +16,8 @@ use Rattle.swift_utils.specs.Checks.{parseAccount}
 use Rattle.field_utils.specs.Lines.{upto, starts}
 use Rattle.field_utils.specs.Identifier.{secondSlash, identifierReply}
 use Rattle.field_utils.proofs.Identifiers.{identifier-absent, identifier-given}
-use Rattle.reader.specs.declared.First.{First}
-use Rattle.reader.specs.declared.First.the-variants.{Name, Identified, Account, ShortAccount, SlashAccount, AnyAccount, WholeLine}
+use Rattle.party.specs.declared.First.{First}
+use Rattle.party.specs.declared.First.the-variants.{NoAccount, Identified, Account, ShortAccount, SlashAccount, AnyAccount, WholeLine}
 use Rattle.reader.specs.Options.{Head, noHead, head, identifierHead, accountReply, lengthReply, headBy, ascii}
 use Rattle.reader.specs.Code.{passedHead}
 use Rattle.reader.proofs.Heads.{short-long, short-fits, account-none, account-some, slash-there}
@@ -26,7 +26,7 @@ use Rattle.writer.proofs.Tests.{both-left, both-right}
 
 -- what stands before an account or identifier, by what the first line is
 abbrev pub slashBy : First → List ℕ
-slashBy Name = []
+slashBy NoAccount = []
 slashBy Identified = 47 ∷ []
 slashBy Account = 47 ∷ []
 slashBy ShortAccount = 47 ∷ []
@@ -62,7 +62,7 @@ identifier-length longest n x = go (ltb (upto 47 x) (length x)) refl
 
 -- how many bytes an identifier can have besides the longest text: a code of two and its slash
 abbrev pub extraOf : First → ℕ
-extraOf Name = 0
+extraOf NoAccount = 0
 extraOf Identified = 3
 extraOf Account = 0
 extraOf ShortAccount = 0
@@ -71,7 +71,7 @@ extraOf AnyAccount = 0
 extraOf WholeLine = 0
 
 pub extra-most : (first : First) → extraOf first ≤ 3
-extra-most Name = omega arith
+extra-most NoAccount = omega arith
 extra-most Identified = omega arith
 extra-most Account = omega arith
 extra-most ShortAccount = omega arith
@@ -81,7 +81,7 @@ extra-most WholeLine = omega arith
 
 -- the length of a text that passes
 pub text-length : (first : First) (o : PartyOption) (x : List ℕ) → textReply first o x ≡ accepted → length x ≤ limitsOf o .longest + extraOf first
-text-length Name o x e = let h = account-length _ _ 1 x e in omega arith
+text-length NoAccount o x e = let h = account-length _ _ 1 x e in omega arith
 text-length Identified o x e = identifier-length _ 1 x e
 text-length Account o x e = let h = account-length _ _ 1 x e in omega arith
 text-length ShortAccount o x e = let h = account-length _ _ 1 x e in omega arith
@@ -93,7 +93,7 @@ text-length WholeLine o x e = let h = account-length _ _ 1 x e in omega arith
 
 -- a first line that can be an account or identifier
 abbrev pub Heads : First → Type 0
-Heads Name = ⊥
+Heads NoAccount = ⊥
 Heads Identified = Unit {0}
 Heads Account = Unit {0}
 Heads ShortAccount = Unit {0}
@@ -104,7 +104,7 @@ Heads WholeLine = Unit {0}
 -- ---- the line of an account or identifier gives it
 pub head-made : (first : First) (o : PartyOption) (x : List ℕ) → Heads first → textReply first o x ≡ accepted → headBy first o (slashBy first ++ x) ≡ passedHead true x
 unfolding starts
-head-made Name o x n e = absurd n
+head-made NoAccount o x n e = absurd n
 head-made Identified o x n e = ap identifierHead (identifier-given o 1 (47 ∷ x) refl) ∙ ap (head x) e
 head-made Account o x n e = account-some o (47 ∷ x) refl ∙ ap (head x) e
 head-made ShortAccount o x n e = short-fits o refl (47 ∷ x) (account-length _ _ 1 x e) ∙ account-some o (47 ∷ x) refl ∙ ap (head x) e
@@ -121,7 +121,7 @@ pub record There (first : First) (o : PartyOption) (l : List ℕ) : Type 0 where
 
 -- what a first line without one is not
 abbrev pub Free : First → PartyOption → List ℕ → Type 0
-Free Name o l = Unit {0}
+Free NoAccount o l = Unit {0}
 Free Identified o l = starts 47 l ≡ false
 Free Account o l = starts 47 l ≡ false
 Free ShortAccount o l = length (drop 1 l) ≤ limitsOf o .longest → starts 47 l ≡ false
@@ -153,7 +153,7 @@ all-drop [] e = e
 all-drop (b ∷ l) e = both-right (ascii b) (all ascii l) e
 
 pub first-there : (first : First) (o : PartyOption) (l : List ℕ) → all ascii l ≡ true → headBy first o l .present ≡ true → headBy first o l .reply ≡ accepted → There first o l
-first-there Name o l a p r = absurd (true≢false (sym p))
+first-there NoAccount o l a p r = absurd (true≢false (sym p))
 first-there Identified o l a p r = go (starts 47 l) refl
   where
     go : (t : Bool) → starts 47 l ≡ t → There Identified o l
@@ -185,7 +185,7 @@ first-there AnyAccount o l a p r = go (starts 47 l) refl
 first-there WholeLine o l a p r = there-of WholeLine o l l _ refl refl r (λ k. k)
 
 pub first-none : (first : First) (o : PartyOption) (l : List ℕ) → headBy first o l .present ≡ false → None first o l
-first-none Name o l p = record { head = refl; free = tt }
+first-none NoAccount o l p = record { head = refl; free = tt }
 first-none Identified o l p = go (starts 47 l) refl
   where
     go : (t : Bool) → starts 47 l ≡ t → None Identified o l
@@ -209,7 +209,7 @@ first-none WholeLine o l p = absurd (true≢false p)
 
 -- a first line that is free gives none
 pub none-made : (first : First) (o : PartyOption) (l : List ℕ) → Free first o l → headBy first o l ≡ noHead
-none-made Name o l h = refl
+none-made NoAccount o l h = refl
 none-made Identified o l h = ap identifierHead (identifier-absent o 1 l h)
 none-made Account o l h = account-none o l h
 none-made ShortAccount o l h = go (leb (length (drop 1 l)) (limitsOf o .longest)) refl

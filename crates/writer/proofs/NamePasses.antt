@@ -1,6 +1,6 @@
 -- What lines of names that pass have, whatever body lines they are. Assumes nothing.
 use mathlib.Core.Path.{_≡_, refl, _∙_, ap}
-use mathlib.Core.Bool.{Bool, true, _&&_, false≢true}
+use mathlib.Core.Bool.{Bool, true, _&&_}
 use mathlib.Core.List.{List, [], _∷_, _++_, map}
 use Prim.Native.Nat.{ℕ, zero, suc, _+_, _≤_}
 use native.Mathlib.Omega.{arith}
@@ -14,13 +14,13 @@ use Rattle.party.specs.Limits.{limitsOf}
 use Rattle.party.specs.Text.{Used}
 use Rattle.swift_utils.specs.Bytes.{all, between, digit, legal}
 use Rattle.swift_utils.specs.Checks.{parseSwiftChars}
-use Rattle.field_utils.specs.declared.Numbering.{Numbering}
-use Rattle.field_utils.specs.declared.Numbering.the-variants.{Unnumbered, Numbered, InTurn}
+use Rattle.party.specs.declared.Numbering.{Numbering}
+use Rattle.party.specs.declared.Numbering.the-variants.{Unnumbered, Numbered, InTurn}
 use Rattle.field_utils.specs.Identifier.{isNumbered}
-use Rattle.field_utils.specs.Names.{numberingOf, skipOf, parseNumber, parseLine, parseLines, parseNameAndAddress, kept}
+use Rattle.field_utils.specs.Names.{skipOf, parseNumber, parseLine, parseLines, parseNameAndAddress, kept}
 use Rattle.writer.specs.Writing.{numberOf, nameLines}
 use Rattle.writer.specs.Given.{every, isLine}
-use Rattle.writer.proofs.Tests.{both-left, both-right, both, none-more, rest-not}
+use Rattle.writer.proofs.Tests.{both-left, both-right, both, none-more, rest-not, numbered-room}
 use Rattle.writer.proofs.Relined.{All, Line, weight}
 use Rattle.writer.proofs.Sayings.{usedOf, bytesOf, Short, line-free}
 
@@ -82,7 +82,7 @@ module _ (f : Numbering) (longest : ℕ) where
 
 -- names that pass
 pub record NamesPass (o : PartyOption) (ls : List (List ℕ)) : Type 0 where
-  pub each : AllPass (numberingOf o) (limitsOf o .name) 1 ls
+  pub each : AllPass (limitsOf o .numbering) (limitsOf o .name) 1 ls
   pub least : 1 ≤ length ls
   pub most : length ls ≤ limitsOf o .names
 
@@ -90,9 +90,9 @@ module _ (o : PartyOption) (n : ℕ) (ls : List (List ℕ)) where
   pub names-held : parseNameAndAddress o n ls ≡ accepted → NamesPass o ls
   unfolding parseNameAndAddress
   names-held e =
-      let counted = must-held (between 1 (limitsOf o .names) (length ls)) 7 0 (then-second (parseLines (numberingOf o) (limitsOf o .name) n 1 ls) _ e) in
+      let counted = must-held (between 1 (limitsOf o .names) (length ls)) 7 0 (then-second (parseLines (limitsOf o .numbering) (limitsOf o .name) n 1 ls) _ e) in
       record {
-        each = lines-held (numberingOf o) (limitsOf o .name) n 1 ls (then-first _ _ e);
+        each = lines-held (limitsOf o .numbering) (limitsOf o .name) n 1 ls (then-first _ _ e);
         least = leb-true _ _ (both-left (leb 1 (length ls)) (leb (length ls) (limitsOf o .names)) counted);
         most = leb-true _ _ (both-right (leb 1 (length ls)) (leb (length ls) (limitsOf o .names)) counted);
       }
@@ -100,7 +100,7 @@ module _ (o : PartyOption) (n : ℕ) (ls : List (List ℕ)) where
   pub names-pass : NamesPass o ls → parseNameAndAddress o n ls ≡ accepted
   unfolding parseNameAndAddress
   names-pass h =
-      then-passes _ _ (lines-pass (numberingOf o) (limitsOf o .name) n 1 ls (h .each))
+      then-passes _ _ (lines-pass (limitsOf o .numbering) (limitsOf o .name) n 1 ls (h .each))
       (must-passes (between 1 (limitsOf o .names) (length ls)) 7 0 (both _ _ (le-leb _ _ (h .least)) (le-leb _ _ (h .most))))
 
 -- ---- the lines that are written of names, and the names that are kept of lines
@@ -133,12 +133,6 @@ written-lines f k (u ∷ us) h =
     (number-line f k (u .bytes) (line-free u (both-left (isLine u) (every isLine us) h)), written-lines f (suc k) us (both-right (isLine u) (every isLine us) h))
 
 -- ---- lines that pass, written again of what is kept of them
-numbered-two : (l : List ℕ) → isNumbered l ≡ true → 2 ≤ length l
-unfolding isNumbered
-numbered-two [] e = absurd (false≢true e)
-numbered-two (d ∷ []) e = absurd (false≢true e)
-numbered-two (d ∷ s ∷ l) e = omega arith
-
 digit-of : (k : ℕ) → k ≤ 9 → digit (48 + k) ≡ true
 unfolding digit
 digit-of k h = both (leb 48 (48 + k)) (leb (48 + k) 57) (le-leb 48 (48 + k) (omega arith)) (le-leb (48 + k) 57 (omega arith))
@@ -151,7 +145,7 @@ again-one InTurn longest k l h p = p
 
 again-length : (f : Numbering) (k : ℕ) (l : List ℕ) → isNumber f k l ≡ true → length (numberOf f k ++ kept f l) ≡ length l
 again-length Unnumbered k l e = refl
-again-length Numbered k l e = let h = numbered-two l e in omega (arith, length-drop 2 l)
+again-length Numbered k l e = let h = numbered-room l e in omega (arith, length-drop 2 l)
 again-length InTurn k l e = refl
 
 -- the lines that are written of what is kept of lines

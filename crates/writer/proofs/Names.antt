@@ -15,10 +15,11 @@ use Rattle.party.specs.Limits.{limitsOf}
 use Rattle.party.specs.Text.{Used, used}
 use Rattle.party.specs.Party.{said, IsParty, namesOf}
 use Rattle.party.proofs.Laws.{map-take, take-min}
-use Rattle.field_utils.specs.declared.Numbering.{Numbering}
-use Rattle.field_utils.specs.declared.Numbering.the-variants.{Unnumbered, Numbered, InTurn}
+use Rattle.party.specs.declared.Numbering.{Numbering}
+use Rattle.party.specs.declared.Numbering.the-variants.{Unnumbered, Numbered, InTurn}
 use Rattle.writer.specs.Writing.{numberOf, nameLines}
-use Rattle.writer.specs.Code.{lead, led, marks, nameCount, isName, allNames}
+use Rattle.writer.specs.Code.{lead, led, nameCount, isName, allNames}
+use Rattle.field_utils.specs.Names.{keptFrom}
 
 -- the text that stands for one past the end
 abbrev pub none : Text
@@ -29,18 +30,18 @@ abbrev pub namesIn : ℕ → Party → List Used
 namesIn n p = take n (map used (p .«name_and_address»))
 
 -- how long a name's number is
-pub number-length : (f : Numbering) (k : ℕ) → length (numberOf f k) ≡ marks f
+pub number-length : (f : Numbering) (k : ℕ) → length (numberOf f k) ≡ keptFrom f
 number-length Unnumbered k = refl
 number-length Numbered k = refl
 number-length InTurn k = refl
 
-pub marks-most : (f : Numbering) → marks f ≤ 2
+pub marks-most : (f : Numbering) → keptFrom f ≤ 2
 marks-most Unnumbered = omega arith
 marks-most Numbered = omega arith
 marks-most InTurn = omega arith
 
 -- a name's number as a part of an array
-pub number-part : (f : Numbering) (i : ℕ) → take (marks f) ((49 + i) ∷ 47 ∷ []) ≡ numberOf f (suc i)
+pub number-part : (f : Numbering) (i : ℕ) → take (keptFrom f) ((49 + i) ∷ 47 ∷ []) ≡ numberOf f (suc i)
 number-part Unnumbered i = refl
 number-part Numbered i = let e : 49 + i ≡ 48 + suc i = omega arith in rw e
 number-part InTurn i = refl
@@ -104,7 +105,7 @@ module _ (p : Party) (sizes : IsParty p) where
     pub left-length :
         (f : Numbering) (later : Bool) (i : ℕ) → i < n →
         length (led later (nameLines f (suc i) (drop i (namesIn n p))))
-        ≡ length (lead later) + marks f + length (used (getD (p .«name_and_address») i none) .bytes)
+        ≡ length (lead later) + keptFrom f + length (used (getD (p .«name_and_address») i none) .bytes)
         + length (led true (nameLines f (suc (suc i)) (drop (suc i) (namesIn n p))))
     left-length f later i h = rw (left-next f later i h) (simp (length-append, number-length) (omega arith))
 

@@ -14,21 +14,22 @@ use Rattle.party.specs.declared.PartyOption.the-variants.{Field50NoOption, Fiel
 use Rattle.party.specs.Limits.{limitsOf}
 use Rattle.party.specs.Text.{Used}
 use Rattle.party.specs.Party.{Said}
-use Rattle.swift_utils.specs.Bytes.{all, among, between, letter, digit, alphanumeric}
+use Rattle.swift_utils.specs.Bytes.{all, among, letter, digit, alphanumeric}
 use Rattle.swift_utils.specs.Checks.{bicLength, parseBic}
 use Rattle.field_utils.specs.Lines.{onto, starts, lines}
-use Rattle.field_utils.specs.Names.{numberingOf, parseNameAndAddress, kept}
-use Rattle.reader.specs.declared.First.{First}
-use Rattle.reader.specs.declared.First.the-variants.{Name, Identified, Account, ShortAccount, SlashAccount, AnyAccount, WholeLine}
-use Rattle.reader.specs.declared.Layout.{Layout}
-use Rattle.reader.specs.declared.Layout.the-variants.{BicOnly, TextOnly, ByLines}
+use Rattle.field_utils.specs.Names.{parseNameAndAddress, kept}
+use Rattle.party.specs.declared.First.{First}
+use Rattle.party.specs.declared.First.the-variants.{NoAccount, Identified, Account, ShortAccount, SlashAccount, AnyAccount, WholeLine}
+use Rattle.party.specs.declared.Layout.{Layout}
+use Rattle.party.specs.declared.Layout.the-variants.{BicOnly, TextOnly, ByLines}
 use Rattle.reader.specs.Reading.{Found}
-use Rattle.reader.specs.Options.{Head, noHead, headBy, firstOf, accountReply, withNames, withBic, afterHead, fromHead, byLines, bicOnly, textOnly, foundBy, layoutOf, ascii}
+use Rattle.reader.specs.Options.{isCounted, Head, noHead, headBy, accountReply, withNames, withBic, afterHead, fromHead, byLines, bicOnly, textOnly, foundBy, ascii}
 use Rattle.reader.specs.Code.{passedHead}
 use Rattle.reader.proofs.Bodies.{head-there, head-none}
 use Rattle.reader.proofs.Readings.{rest-bic, rest-names}
 use Rattle.writer.specs.Writing.{slashOf, nameLines}
 use Rattle.writer.specs.Given.{passes, every, isLine, textReply, isAccount, isPresence, isBic, areNames, isTaken}
+use Rattle.party.proofs.Options.{by-option}
 use Rattle.writer.proofs.Tests.{both-left, both-right, both, passing, rest-not, none-more, first-not}
 use Rattle.writer.proofs.Relined.{All, Line, weight, lines-are}
 use Rattle.writer.proofs.Sayings.{usedOf, Short, Fitting, saying, line-is, lines-is}
@@ -57,32 +58,32 @@ module _ (f : ℕ → Bool) where
 
 -- ---- the first line of an accepted body, and what follows it
 pub record Heading (o : PartyOption) (l : List ℕ) (ls : List (List ℕ)) : Type 0 where
-  pub there : There (firstOf o) o l
+  pub there : There (limitsOf o .first) o l
   pub found : byLines o (l ∷ ls) ≡ afterHead o 2 (passedHead true (there .text)) ls
 
 pub record Headless (o : PartyOption) (l : List ℕ) (ls : List (List ℕ)) : Type 0 where
-  pub none : None (firstOf o) o l
+  pub none : None (limitsOf o .first) o l
   pub found : byLines o (l ∷ ls) ≡ afterHead o 1 noHead (l ∷ ls)
 
 module _ (o : PartyOption) (l : List ℕ) (ls : List (List ℕ)) (e : byLines o (l ∷ ls) .reply ≡ accepted) where
   abbrev h : Head
-  h = headBy (firstOf o) o l
+  h = headBy (limitsOf o .first) o l
 
-  counted : between (limitsOf o .least) (limitsOf o .most) (length (l ∷ ls)) ≡ true
-  counted = must-held _ 1 0 (then-first (must (between (limitsOf o .least) (limitsOf o .most) (length (l ∷ ls))) 1 0) _ e)
+  counted : isCounted o (length (l ∷ ls)) ≡ true
+  counted = must-held _ 1 0 (then-first (must (isCounted o (length (l ∷ ls))) 1 0) _ e)
 
   from-head : fromHead o h (l ∷ ls) ls .reply ≡ accepted
-  from-head = then-second (must (between (limitsOf o .least) (limitsOf o .most) (length (l ∷ ls))) 1 0) _ e
+  from-head = then-second (must (isCounted o (length (l ∷ ls))) 1 0) _ e
 
   pub heading : all ascii l ≡ true → h .present ≡ true → Heading o l ls
   heading a p =
       let r : h .reply ≡ accepted = then-first (h .reply) _ (rw (p, fromHead) at from-head) in
-      let t = first-there (firstOf o) o l a p r in
+      let t = first-there (limitsOf o .first) o l a p r in
       record { there = t; found = head-there o l ls (sym (t .head)) counted refl refl refl }
 
   pub headless : h .present ≡ false → Headless o l ls
   headless p =
-      let t = first-none (firstOf o) o l p in
+      let t = first-none (limitsOf o .first) o l p in
       record { none = t; found = head-none o l ls (sym (t .head)) counted refl refl refl }
 
 -- ---- what is found is good: it fits a record, that passes the test, and its lines weigh no more than the body's
@@ -93,11 +94,11 @@ pub record Good (f : Found) (s : Said) (ls : List (List ℕ)) : Type 0 where
   pub light : weight (bare s) ≤ weight ls
 
 -- the parts
-slash-line : (o : PartyOption) (x l : List ℕ) → l ≡ slashBy (firstOf o) ++ x → Line l → Line x
-slash-line o x l e h = go (firstOf o) (subst Line e h)
+slash-line : (o : PartyOption) (x l : List ℕ) → l ≡ slashBy (limitsOf o .first) ++ x → Line l → Line x
+slash-line o x l e h = go (limitsOf o .first) (subst Line e h)
   where
     go : (first : First) → Line (slashBy first ++ x) → Line x
-    go Name k = k
+    go NoAccount k = k
     go Identified k = rest-not 47 x k
     go Account k = rest-not 47 x k
     go ShortAccount k = rest-not 47 x k
@@ -105,12 +106,12 @@ slash-line o x l e h = go (firstOf o) (subst Line e h)
     go AnyAccount k = rest-not 47 x k
     go WholeLine k = k
 
-text-short : (o : PartyOption) (x : List ℕ) → textReply (firstOf o) o x ≡ accepted → Short x
-text-short o x e = omega (arith, text-length (firstOf o) o x e, extra-most (firstOf o), small o .longest)
+text-short : (o : PartyOption) (x : List ℕ) → textReply (limitsOf o .first) o x ≡ accepted → Short x
+text-short o x e = omega (arith, text-length (limitsOf o .first) o x e, extra-most (limitsOf o .first), small o .longest)
 
-account-there : (o : PartyOption) (x : List ℕ) → Line x → textReply (firstOf o) o x ≡ accepted → every (isAccount o true) (usedOf x ∷ []) ≡ true
+account-there : (o : PartyOption) (x : List ℕ) → Line x → textReply (limitsOf o .first) o x ≡ accepted → every (isAccount o true) (usedOf x ∷ []) ≡ true
 account-there o x h e =
-    both (isAccount o true (usedOf x)) true (both (isLine (usedOf x)) (passes (textReply (firstOf o) o x)) (line-is x h) (passing _ e)) refl
+    both (isAccount o true (usedOf x)) true (both (isLine (usedOf x)) (passes (textReply (limitsOf o .first) o x)) (line-is x h) (passing _ e)) refl
 
 account-none : (o : PartyOption) → every (isAccount o false) (usedOf [] ∷ []) ≡ true
 account-none o = both (isAccount o false (usedOf [])) true (line-is [] refl) refl
@@ -123,29 +124,29 @@ no-names o z = are-names o 0 [] (record { counted = refl; lines = refl; pass = �
 
 module _ (o : PartyOption) (ls : List (List ℕ)) (h : All Line ls) (p : NamesPass o ls) where
   abbrev names : List (List ℕ)
-  names = map (kept (numberingOf o)) ls
+  names = map (kept (limitsOf o .numbering)) ls
 
   names-there : areNames o (length names) (map usedOf names) ≡ true
   names-there =
       are-names o (length names) (map usedOf names)
       (record {
         counted = length-map names usedOf;
-        lines = lines-is names (kept-lines (numberingOf o) ls h);
+        lines = lines-is names (kept-lines (limitsOf o .numbering) ls h);
         pass = λ z. record {
-          each = again-pass (numberingOf o) (limitsOf o .name) 1 ls (omega (arith, p .most, small o .names)) (p .each);
+          each = again-pass (limitsOf o .numbering) (limitsOf o .name) 1 ls (omega (arith, p .most, small o .names)) (p .each);
           least = rw (again-count) (p .least);
           most = rw (again-count) (p .most);
         };
       })
     where
-      again-count : length (again (numberingOf o) 1 ls) ≡ length ls
-      again-count = written-length (numberingOf o) 1 (map usedOf names) ∙ length-map names usedOf ∙ length-map ls (kept (numberingOf o))
+      again-count : length (again (limitsOf o .numbering) 1 ls) ≡ length ls
+      again-count = written-length (limitsOf o .numbering) 1 (map usedOf names) ∙ length-map names usedOf ∙ length-map ls (kept (limitsOf o .numbering))
 
   names-fit : All Short names
-  names-fit = kept-short (numberingOf o) (limitsOf o .name) 1 ls (omega (arith, small o .name)) (p .each)
+  names-fit = kept-short (limitsOf o .numbering) (limitsOf o .name) 1 ls (omega (arith, small o .name)) (p .each)
 
   names-few : length names ≤ 4
-  names-few = omega (arith, length-map ls (kept (numberingOf o)), p .most, small o .names)
+  names-few = omega (arith, length-map ls (kept (limitsOf o .numbering)), p .most, small o .names)
 
 -- with a BIC
 bic-of : (o : PartyOption) (n : ℕ) (h : Head) (ls : List (List ℕ)) → limitsOf o .names ≡ 0 → afterHead o n h ls .reply ≡ accepted → withBic n h ls .reply ≡ accepted
@@ -162,10 +163,10 @@ abbrev withSome : PartyOption → Bool → List Used → List (List ℕ) → Sai
 withSome o present us ns = record { option = o; present = present; count = length ns; account = us; bic = []; names = map usedOf ns }
 
 module _ (o : PartyOption) where
-  slash-length : (x l : List ℕ) → slashOf o ≡ slashBy (firstOf o) → l ≡ slashBy (firstOf o) ++ x → length (slashOf o ++ x) ≡ length l
+  slash-length : (x l : List ℕ) → slashOf o ≡ slashBy (limitsOf o .first) → l ≡ slashBy (limitsOf o .first) ++ x → length (slashOf o ++ x) ≡ length l
   slash-length x l s e = ap length (ap (λ (w : List ℕ). w ++ x) s ∙ sym e)
 
-  bic-heading : (z : limitsOf o .names ≡ 0) → isPresence o true ≡ true → slashOf o ≡ slashBy (firstOf o) → (l : List ℕ) (ls : List (List ℕ)) (d : Heading o l ls)
+  bic-heading : (z : limitsOf o .names ≡ 0) → isPresence o true ≡ true → slashOf o ≡ slashBy (limitsOf o .first) → (l : List ℕ) (ls : List (List ℕ)) (d : Heading o l ls)
       → All Line (l ∷ ls) → byLines o (l ∷ ls) .reply ≡ accepted → (b : List ℕ) (rest : List (List ℕ)) → ls ≡ b ∷ rest
       → Good (withBic 2 (passedHead true (d .there .text)) (b ∷ rest)) (withOne o true (d .there .text) b) (l ∷ ls)
   unfolding bare nameLines
@@ -188,7 +189,7 @@ module _ (o : PartyOption) where
       }
 
   bic-headless : (z : limitsOf o .names ≡ 0) → isPresence o false ≡ true → (l : List ℕ) (ls : List (List ℕ)) → All Line (l ∷ ls) → Headless o l ls → byLines o (l ∷ ls) .reply ≡ accepted
-      → (isTaken (firstOf o) [] ≡ false) → Good (withBic 1 noHead (l ∷ ls)) (withOne o false [] l) (l ∷ ls)
+      → (isTaken (limitsOf o .first) [] ≡ false) → Good (withBic 1 noHead (l ∷ ls)) (withOne o false [] l) (l ∷ ls)
   unfolding bare nameLines
   bic-headless z i l ls h d e t =
       let a : parseBic 1 l ≡ accepted = bic-of o 1 noHead (l ∷ ls) z (ap (λ (f : Found). f .reply) (sym (d .found)) ∙ e) in
@@ -199,9 +200,9 @@ module _ (o : PartyOption) where
         light = omega arith;
       }
 
-  names-heading : (z : limitsOf o .names ≡ 0 → ⊥) → isPresence o true ≡ true → slashOf o ≡ slashBy (firstOf o) → (l : List ℕ) (ls : List (List ℕ)) (d : Heading o l ls)
+  names-heading : (z : limitsOf o .names ≡ 0 → ⊥) → isPresence o true ≡ true → slashOf o ≡ slashBy (limitsOf o .first) → (l : List ℕ) (ls : List (List ℕ)) (d : Heading o l ls)
       → All Line (l ∷ ls) → byLines o (l ∷ ls) .reply ≡ accepted
-      → Good (withNames o 2 (passedHead true (d .there .text)) ls) (withSome o true (usedOf (d .there .text) ∷ []) (map (kept (numberingOf o)) ls)) (l ∷ ls)
+      → Good (withNames o 2 (passedHead true (d .there .text)) ls) (withSome o true (usedOf (d .there .text) ∷ []) (map (kept (limitsOf o .numbering)) ls)) (l ∷ ls)
   unfolding bare
   names-heading z i s l ls d h e =
       let x = d .there .text in
@@ -217,13 +218,13 @@ module _ (o : PartyOption) where
           names = names-there o ls (h .1) p;
           free = refl;
         };
-        light = omega (arith, slash-length x l s (d .there .is), again-weight (numberingOf o) (limitsOf o .name) 1 ls (p .each));
+        light = omega (arith, slash-length x l s (d .there .is), again-weight (limitsOf o .numbering) (limitsOf o .name) 1 ls (p .each));
       }
 
   names-headless : (z : limitsOf o .names ≡ 0 → ⊥) → isPresence o false ≡ true → (us : List Used) → every (isAccount o false) us ≡ true → (l : List ℕ) (ls : List (List ℕ))
       → All Line (l ∷ ls) → Headless o l ls → byLines o (l ∷ ls) .reply ≡ accepted
-      → (NamesPass o (l ∷ ls) → isTaken (firstOf o) (map usedOf (map (kept (numberingOf o)) (l ∷ ls))) ≡ false)
-      → Good (withNames o 1 noHead (l ∷ ls)) (withSome o false us (map (kept (numberingOf o)) (l ∷ ls))) (l ∷ ls)
+      → (NamesPass o (l ∷ ls) → isTaken (limitsOf o .first) (map usedOf (map (kept (limitsOf o .numbering)) (l ∷ ls))) ≡ false)
+      → Good (withNames o 1 noHead (l ∷ ls)) (withSome o false us (map (kept (limitsOf o .numbering)) (l ∷ ls))) (l ∷ ls)
   unfolding bare
   names-headless z i us a l ls h d e t =
       let r : afterHead o 1 noHead (l ∷ ls) .reply ≡ accepted = ap (λ (f : Found). f .reply) (sym (d .found)) ∙ e in
@@ -232,15 +233,15 @@ module _ (o : PartyOption) where
         reply = names-pass o 1 (l ∷ ls) p;
         fits = record { account = omega arith; bic = omega arith; names = names-fit o (l ∷ ls) h p; few = names-few o (l ∷ ls) h p };
         facts = record { presence = i; account = a; bic = refl; names = names-there o (l ∷ ls) h p; free = t p };
-        light = omega (arith, again-weight (numberingOf o) (limitsOf o .name) 1 (l ∷ ls) (p .each));
+        light = omega (arith, again-weight (limitsOf o .numbering) (limitsOf o .name) 1 (l ∷ ls) (p .each));
       }
 
 -- ---- by the option
 pub by-head : (o : PartyOption) (l : List ℕ) (ls : List (List ℕ)) → all ascii l ≡ true → byLines o (l ∷ ls) .reply ≡ accepted → {C : Type 0}
     → (Heading o l ls → C) → (Headless o l ls → C) → C
-by-head o l ls a e {C} f g = go (headBy (firstOf o) o l .present) refl
+by-head o l ls a e {C} f g = go (headBy (limitsOf o .first) o l .present) refl
   where
-    go : (t : Bool) → headBy (firstOf o) o l .present ≡ t → C
+    go : (t : Bool) → headBy (limitsOf o .first) o l .present ≡ t → C
     go true p = f (heading o l ls e a p)
     go false p = g (headless o l ls e p)
 
@@ -253,9 +254,9 @@ second o h (b ∷ rest) z e f = f b rest refl
 abbrev pub GoodIn : PartyOption → List (List ℕ) → Found → Type 0
 GoodIn o ls f = Good f (saying o f) ls
 
-named-not : (o : PartyOption) (l : List ℕ) (ls : List (List ℕ)) → firstOf o ≡ Name → Heading o l ls → ⊥
+named-not : (o : PartyOption) (l : List ℕ) (ls : List (List ℕ)) → limitsOf o .first ≡ NoAccount → Heading o l ls → ⊥
 named-not o l ls n d =
-    let t : There Name o l = subst (λ (w : First). There w o l) n (d .there) in
+    let t : There NoAccount o l = subst (λ (w : First). There w o l) n (d .there) in
     true≢false (sym (ap (λ (h : Head). h .present) (t .head)))
 
 -- a first name of 59 is short enough to be taken for an account
@@ -263,7 +264,7 @@ short-name : (l : List ℕ) (ls : List (List ℕ)) → NamesPass Field59NoOption
 short-name l ls p = omega (arith, p .each .0 .long, length-drop 1 l)
 
 module _ (l : List ℕ) (ls : List (List ℕ)) (h : All Line (l ∷ ls)) where
-  bic-there-good : (o : PartyOption) (z : limitsOf o .names ≡ 0) → isPresence o true ≡ true → slashOf o ≡ slashBy (firstOf o)
+  bic-there-good : (o : PartyOption) (z : limitsOf o .names ≡ 0) → isPresence o true ≡ true → slashOf o ≡ slashBy (limitsOf o .first)
       → ((r : Reply) (x b : List ℕ) → saying o (record { reply = r; present = true; account = x; bic = b; names = [] }) ≡ withOne o true x b)
       → byLines o (l ∷ ls) .reply ≡ accepted → Heading o l ls → GoodIn o (l ∷ ls) (byLines o (l ∷ ls))
   bic-there-good o z i s same e d =
@@ -274,7 +275,7 @@ module _ (l : List ℕ) (ls : List (List ℕ)) (h : All Line (l ∷ ls)) where
       subst (GoodIn o (l ∷ ls)) (sym (q ∙ ap (withBic 2 (passedHead true x)) r))
       (subst (λ (w : Said). Good (withBic 2 (passedHead true x) (b ∷ rest)) w (l ∷ ls)) (sym (same (parseBic 2 b) x b)) (bic-heading o z i s l ls d h e b rest r)))
 
-  bic-none-good : (o : PartyOption) (z : limitsOf o .names ≡ 0) → isPresence o false ≡ true → isTaken (firstOf o) [] ≡ false
+  bic-none-good : (o : PartyOption) (z : limitsOf o .names ≡ 0) → isPresence o false ≡ true → isTaken (limitsOf o .first) [] ≡ false
       → ((r : Reply) (b : List ℕ) → saying o (record { reply = r; present = false; account = []; bic = b; names = [] }) ≡ withOne o false [] b)
       → byLines o (l ∷ ls) .reply ≡ accepted → Headless o l ls → GoodIn o (l ∷ ls) (byLines o (l ∷ ls))
   bic-none-good o z i t same e d =
@@ -282,24 +283,24 @@ module _ (l : List ℕ) (ls : List (List ℕ)) (h : All Line (l ∷ ls)) where
       subst (GoodIn o (l ∷ ls)) (sym q)
       (subst (λ (w : Said). Good (withBic 1 noHead (l ∷ ls)) w (l ∷ ls)) (sym (same (parseBic 1 l) l)) (bic-headless o z i l ls h d e t))
 
-  names-there-good : (o : PartyOption) (z : limitsOf o .names ≡ 0 → ⊥) → isPresence o true ≡ true → slashOf o ≡ slashBy (firstOf o)
+  names-there-good : (o : PartyOption) (z : limitsOf o .names ≡ 0 → ⊥) → isPresence o true ≡ true → slashOf o ≡ slashBy (limitsOf o .first)
       → ((r : Reply) (x : List ℕ) (ns : List (List ℕ)) → saying o (record { reply = r; present = true; account = x; bic = []; names = ns }) ≡ withSome o true (usedOf x ∷ []) ns)
       → byLines o (l ∷ ls) .reply ≡ accepted → Heading o l ls → GoodIn o (l ∷ ls) (byLines o (l ∷ ls))
   names-there-good o z i s same e d =
       let x = d .there .text in
       let q : byLines o (l ∷ ls) ≡ withNames o 2 (passedHead true x) ls = d .found ∙ rest-names o refl 2 (passedHead true x) ls z in
       subst (GoodIn o (l ∷ ls)) (sym q)
-      (subst (λ (w : Said). Good (withNames o 2 (passedHead true x) ls) w (l ∷ ls)) (sym (same (parseNameAndAddress o 2 ls) x (map (kept (numberingOf o)) ls)))
+      (subst (λ (w : Said). Good (withNames o 2 (passedHead true x) ls) w (l ∷ ls)) (sym (same (parseNameAndAddress o 2 ls) x (map (kept (limitsOf o .numbering)) ls)))
       (names-heading o z i s l ls d h e))
 
   names-none-good : (o : PartyOption) (z : limitsOf o .names ≡ 0 → ⊥) → isPresence o false ≡ true → (us : List Used) → every (isAccount o false) us ≡ true
       → ((r : Reply) (ns : List (List ℕ)) → saying o (record { reply = r; present = false; account = []; bic = []; names = ns }) ≡ withSome o false us ns)
-      → (None (firstOf o) o l → NamesPass o (l ∷ ls) → isTaken (firstOf o) (map usedOf (map (kept (numberingOf o)) (l ∷ ls))) ≡ false)
+      → (None (limitsOf o .first) o l → NamesPass o (l ∷ ls) → isTaken (limitsOf o .first) (map usedOf (map (kept (limitsOf o .numbering)) (l ∷ ls))) ≡ false)
       → byLines o (l ∷ ls) .reply ≡ accepted → Headless o l ls → GoodIn o (l ∷ ls) (byLines o (l ∷ ls))
   names-none-good o z i us a same t e d =
       let q : byLines o (l ∷ ls) ≡ withNames o 1 noHead (l ∷ ls) = d .found ∙ rest-names o refl 1 noHead (l ∷ ls) z in
       subst (GoodIn o (l ∷ ls)) (sym q)
-      (subst (λ (w : Said). Good (withNames o 1 noHead (l ∷ ls)) w (l ∷ ls)) (sym (same (parseNameAndAddress o 1 (l ∷ ls)) (map (kept (numberingOf o)) (l ∷ ls))))
+      (subst (λ (w : Said). Good (withNames o 1 noHead (l ∷ ls)) w (l ∷ ls)) (sym (same (parseNameAndAddress o 1 (l ∷ ls)) (map (kept (limitsOf o .numbering)) (l ∷ ls))))
       (names-headless o z i us a l ls h d e (t (d .none))))
 
   -- the options whose bodies are lines
@@ -308,36 +309,18 @@ module _ (l : List ℕ) (ls : List (List ℕ)) (h : All Line (l ∷ ls)) where
   Lined TextOnly o = Unit {0}
   Lined ByLines o = all ascii l ≡ true → byLines o (l ∷ ls) .reply ≡ accepted → GoodIn o (l ∷ ls) (byLines o (l ∷ ls))
 
-  pub lines-good : (o : PartyOption) → Lined (layoutOf o) o
-  lines-good Field50NoOption = λ a e. by-head Field50NoOption l ls a e
-      (λ d. absurd (named-not Field50NoOption l ls refl d))
-      (names-none-good Field50NoOption (λ z. omega arith) refl [] refl (λ r ns. refl) (λ n p. refl) e)
-  lines-good Field50A = λ a e. by-head Field50A l ls a e
-      (bic-there-good Field50A refl refl refl (λ r x b. refl) e)
-      (bic-none-good Field50A refl refl refl (λ r b. refl) e)
-  lines-good Field50F = λ a e. by-head Field50F l ls a e
-      (names-there-good Field50F (λ z. omega arith) refl refl (λ r x ns. refl) e)
-      (λ d. absurd (d .none .free))
-  lines-good Field50K = λ a e. by-head Field50K l ls a e
-      (names-there-good Field50K (λ z. omega arith) refl refl (λ r x ns. refl) e)
-      (names-none-good Field50K (λ z. omega arith) refl (usedOf [] ∷ []) (account-none Field50K) (λ r ns. refl) (λ n p. n .free) e)
-  lines-good Field50C = tt
-  lines-good Field50L = tt
-  lines-good Field50G = λ a e. by-head Field50G l ls a e
-      (bic-there-good Field50G refl refl refl (λ r x b. refl) e)
-      (λ d. absurd (d .none .free))
-  lines-good Field50H = λ a e. by-head Field50H l ls a e
-      (names-there-good Field50H (λ z. omega arith) refl refl (λ r x ns. refl) e)
-      (λ d. absurd (d .none .free))
-  lines-good Field59NoOption = λ a e. by-head Field59NoOption l ls a e
-      (names-there-good Field59NoOption (λ z. omega arith) refl refl (λ r x ns. refl) e)
-      (names-none-good Field59NoOption (λ z. omega arith) refl (usedOf [] ∷ []) (account-none Field59NoOption) (λ r ns. refl) (λ n p. n .free (short-name l ls p)) e)
-  lines-good Field59A = λ a e. by-head Field59A l ls a e
-      (bic-there-good Field59A refl refl refl (λ r x b. refl) e)
-      (bic-none-good Field59A refl refl refl (λ r b. refl) e)
-  lines-good Field59F = λ a e. by-head Field59F l ls a e
-      (names-there-good Field59F (λ z. omega arith) refl refl (λ r x ns. refl) e)
-      (names-none-good Field59F (λ z. omega arith) refl (usedOf [] ∷ []) (account-none Field59F) (λ r ns. refl) (λ n p. refl) e)
+  pub lines-good : (o : PartyOption) → Lined (limitsOf o .layout) o
+  lines-good =
+      by-option (λ (o : PartyOption). Lined (limitsOf o .layout) o)
+      (λ a e. by-head Field50NoOption l ls a e (λ d. absurd (named-not Field50NoOption l ls refl d)) (names-none-good Field50NoOption (λ z. omega arith) refl [] refl (λ r ns. refl) (λ n p. refl) e))
+      (λ a e. by-head Field50A l ls a e (bic-there-good Field50A refl refl refl (λ r x b. refl) e) (bic-none-good Field50A refl refl refl (λ r b. refl) e))
+      (λ a e. by-head Field50F l ls a e (names-there-good Field50F (λ z. omega arith) refl refl (λ r x ns. refl) e) (λ d. absurd (d .none .free)))
+      (λ a e. by-head Field50K l ls a e (names-there-good Field50K (λ z. omega arith) refl refl (λ r x ns. refl) e) (names-none-good Field50K (λ z. omega arith) refl (usedOf [] ∷ []) (account-none Field50K) (λ r ns. refl) (λ n p. n .free) e))
+      tt tt (λ a e. by-head Field50G l ls a e (bic-there-good Field50G refl refl refl (λ r x b. refl) e) (λ d. absurd (d .none .free)))
+      (λ a e. by-head Field50H l ls a e (names-there-good Field50H (λ z. omega arith) refl refl (λ r x ns. refl) e) (λ d. absurd (d .none .free)))
+      (λ a e. by-head Field59NoOption l ls a e (names-there-good Field59NoOption (λ z. omega arith) refl refl (λ r x ns. refl) e) (names-none-good Field59NoOption (λ z. omega arith) refl (usedOf [] ∷ []) (account-none Field59NoOption) (λ r ns. refl) (λ n p. n .free (short-name l ls p)) e))
+      (λ a e. by-head Field59A l ls a e (bic-there-good Field59A refl refl refl (λ r x b. refl) e) (bic-none-good Field59A refl refl refl (λ r b. refl) e))
+      (λ a e. by-head Field59F l ls a e (names-there-good Field59F (λ z. omega arith) refl refl (λ r x ns. refl) e) (names-none-good Field59F (λ z. omega arith) refl (usedOf [] ∷ []) (account-none Field59F) (λ r ns. refl) (λ n p. refl) e))
 
 -- ---- bodies that are a BIC, or a text
 all-free : (f : ℕ → Bool) (x : List ℕ) → f 10 ≡ false → all f x ≡ true → Line x
@@ -403,7 +386,7 @@ by-lines-good : (o : PartyOption) (ls : List (List ℕ))
 by-lines-good o [] f h a e = absurd (refused≢accepted e)
 by-lines-good o (l ∷ ls) f h a e = f l ls h (a .0) e
 
-pub found-good : (o : PartyOption) (body : List ℕ) → all ascii body ≡ true → Goal (layoutOf o) o body
+pub found-good : (o : PartyOption) (body : List ℕ) → all ascii body ≡ true → Goal (limitsOf o .layout) o body
 found-good Field50NoOption body a = by-lines-good Field50NoOption (lines body) (λ l ls h. lines-good l ls h Field50NoOption) (lines-are body) (lines-all ascii body a)
 found-good Field50A body a = by-lines-good Field50A (lines body) (λ l ls h. lines-good l ls h Field50A) (lines-are body) (lines-all ascii body a)
 found-good Field50F body a = by-lines-good Field50F (lines body) (λ l ls h. lines-good l ls h Field50F) (lines-are body) (lines-all ascii body a)

@@ -1,7 +1,7 @@
 -- The test of a record by its parts. Assumes nothing.
 use Prim.Native.Nat.{ℕ, zero, suc, _+_, _≤_, _<_}
 use mathlib.Core.Path.{_≡_, refl, sym, _∙_, ap}
-use mathlib.Core.Bool.{Bool, true, false, not, _&&_, and-true, and-false, and-assoc, and-comm, false≢true}
+use mathlib.Core.Bool.{Bool, true, false, not, _&&_, and-true, and-false, and-assoc, and-comm}
 use mathlib.Core.List.{List, [], _∷_, _++_}
 use native.Mathlib.Omega.{arith}
 use lib.Dec.{leb, eqb}
@@ -17,17 +17,19 @@ use Rattle.party.specs.Party.{Said, said, where-limit}
 use Rattle.swift_utils.specs.Bytes.{all, among, digit, legal}
 use Rattle.swift_utils.specs.Checks.{parseSwiftChars, parseAccount}
 use Rattle.swift_utils.specs.Classes.{plain}
-use Rattle.field_utils.specs.declared.Numbering.{Numbering}
-use Rattle.field_utils.specs.declared.Numbering.the-variants.{Unnumbered, Numbered, InTurn}
+use Rattle.party.specs.declared.Numbering.{Numbering}
+use Rattle.party.specs.declared.Numbering.the-variants.{Unnumbered, Numbered, InTurn}
 use Rattle.field_utils.specs.Identifier.{isNumbered}
-use Rattle.field_utils.specs.Names.{numberingOf, skipOf, parseNumber, parseLine, parseLines, parseCount, parseNameAndAddress}
+use Rattle.field_utils.specs.Names.{skipOf, parseNumber, parseLine, parseLines, parseCount, parseNameAndAddress}
 use Rattle.field_utils.proofs.NameLines.{and-first, number-room, number-legal}
-use Rattle.reader.specs.declared.First.the-variants.{Account, ShortAccount, AnyAccount}
-use Rattle.reader.specs.Options.{firstOf, accountReply, lengthReply, ascii}
+use Rattle.party.specs.declared.First.the-variants.{Account, ShortAccount, AnyAccount}
+use Rattle.reader.specs.Options.{accountReply, lengthReply, ascii}
 use Rattle.writer.specs.Writing.{numberOf, nameLines, writtenField, put, fits, placed}
 use Rattle.writer.specs.Given.{passes, every, isLine, textReply, isAccount, isPresence, isBic, areNames, isTaken, isGiven, written}
 use Rattle.writer.specs.Code.{lineReply, numberIn, isName, allNames, slashName}
 use Rattle.writer.proofs.Texts.{all-plain}
+use Rattle.writer.proofs.Tests.{passed}
+use Rattle.writer.proofs.NamePasses.{written-length}
 
 pub passes-then : (r s : Reply) → passes (r then s) ≡ (passes r && passes s)
 passes-then accepted s = refl
@@ -36,10 +38,6 @@ passes-then (refused k n) s = refl
 pub passes-must : (b : Bool) (k n : ℕ) → passes (must b k n) ≡ b
 passes-must true k n = refl
 passes-must false k n = refl
-
-passes-true : (r : Reply) → passes r ≡ true → r ≡ accepted
-passes-true accepted e = refl
-passes-true (refused k n) e = absurd (false≢true e)
 
 -- ---- a test of a text that the option has not, and of one that it has
 module _ (f : Used → Bool) (limit : ℕ) (u : Used) where
@@ -86,13 +84,10 @@ pub turn-written : (k : ℕ) (x : List ℕ) → k ≤ 4 → inTurn Numbered k x 
 unfolding isNumbered digit
 turn-written k x h = rw (le-leb 48 (48 + k) (omega arith), le-leb (48 + k) 57 (omega arith))
 
-pub numbered-room : (x : List ℕ) → isNumbered x ≡ true → 2 ≤ length x
-numbered-room x e = number-room Numbered 0 0 x (rw e)
-
 pub turn-room : (f : Numbering) (k : ℕ) (x : List ℕ) → inTurn f k x ≡ true → numberIn f ≤ length x
 turn-room Unnumbered k x e = omega arith
 turn-room Numbered k x e = omega arith
-turn-room InTurn k x e = number-room InTurn k k x (passes-true (parseNumber InTurn k k x) e)
+turn-room InTurn k x e = number-room InTurn k k x (passed (parseNumber InTurn k k x) e)
 
 -- ---- the k-th name
 kept-legal : (f : Numbering) (k : ℕ) (x : List ℕ) → inTurn f k x ≡ true → all legal (drop (numberIn f) x) ≡ all legal x
@@ -137,11 +132,6 @@ module _ (f : Numbering) (longest k : ℕ) (u : Used) where
         (and-comm (not (among (u .bytes) 10)) (all legal (u .bytes)) ∙ sym (all-plain (u .bytes)))
 
 -- ---- the names
-lines-length : (f : Numbering) (k : ℕ) (us : List Used) → length (nameLines f k us) ≡ length us
-unfolding nameLines
-lines-length f k [] = refl
-lines-length f k (u ∷ us) = ap suc (lines-length f (suc k) us)
-
 and-pairs : (a b c d : Bool) → ((a && b) && (c && d)) ≡ ((a && c) && (b && d))
 and-pairs false b c d = refl
 and-pairs true b true d = refl
@@ -171,16 +161,16 @@ module _ (o : PartyOption) (count : ℕ) (us : List Used) where
 
     pub names-used :
         (limitsOf o .names ≡ 0 → ⊥) →
-        areNames o count us ≡ (allNames (numberingOf o) (limitsOf o .name) 1 us && passes (parseCount (limitsOf o .names) (length us)))
+        areNames o count us ≡ (allNames (limitsOf o .numbering) (limitsOf o .name) 1 us && passes (parseCount (limitsOf o .names) (length us)))
     unfolding areNames parseNameAndAddress
     names-used h =
-        let f = numberingOf o in
+        let f = limitsOf o .numbering in
         let ls = nameLines f 1 us in
         let lines = parseLines f (limitsOf o .name) 1 1 ls in
         rw (eq-eqb (length us) count e, ne-eqb (limitsOf o .names) 0 h, areNames)
         (ap (λ (b : Bool). every isLine us && b) (passes-then lines (parseCount (limitsOf o .names) (length ls)))
         ∙ sym (and-assoc (every isLine us) (passes lines) (passes (parseCount (limitsOf o .names) (length ls))))
-        ∙ rw (lines-all f (limitsOf o .name) 1 us, lines-length f 1 us))
+        ∙ rw (lines-all f (limitsOf o .name) 1 us, written-length f 1 us))
 
 pub taken-account : (us : List Used) → isTaken Account us ≡ slashName us
 taken-account [] = refl
@@ -204,7 +194,7 @@ module _ (p : Party) where
   -- by what its parts' tests say
   pub given-by :
       {a b c d e : Bool} → isPresence (p .option) (p .present) ≡ a → accountTest ≡ b → bicTest ≡ c → namesTest ≡ d → p .present ≡ e →
-      (a && b && c && d && not (not e && isTaken (firstOf (p .option)) (said p .names))) ≡ isGiven (said p)
+      (a && b && c && d && not (not e && isTaken (limitsOf (p .option) .first) (said p .names))) ≡ isGiven (said p)
   unfolding isGiven said
   given-by f g h i j = rw (← f, ← g, ← h, ← i, ← j)
 

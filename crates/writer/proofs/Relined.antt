@@ -7,7 +7,8 @@ use native.Mathlib.Omega.{arith}
 use lib.Dec.{eqb}
 use lib.ListN.{length}
 use Rattle.swift_utils.specs.Bytes.{all, among}
-use Rattle.field_utils.specs.Lines.{onto, starts, lines, withoutCr}
+use Rattle.field_utils.specs.Lines.{onto, starts, lines}
+use Rattle.field_utils.specs.Cursor.{withoutCr}
 use Rattle.writer.specs.Writing.{joined, pieces}
 use Rattle.writer.specs.ReadBack.{isEmpty, endsCr, lastEmpty, earlierCr}
 use Rattle.writer.proofs.Tests.{first-not, rest-not, none-more, both, both-left, both-right, either-left, either-right}

@@ -10,7 +10,7 @@ use borrow.Author.Tests.{eqb-true, eq-eqb, not-true}
 use Rattle.party.specs.declared.PartyOption.{PartyOption}
 use Rattle.party.specs.declared.Party.{Party}
 use Rattle.party.specs.Limits.{limitsOf}
-use Rattle.party.specs.Text.{textOf, fourTexts, Used, used}
+use Rattle.party.specs.Text.{textOf, fourTexts, Used, used, textMost}
 use Rattle.party.specs.Party.{where-limit, namesOf, Said, said}
 use Rattle.party.proofs.Theorems.{used-text}
 use Rattle.swift_utils.specs.Bytes.{among}
@@ -43,7 +43,7 @@ bytesOf u = u .bytes
 
 -- lists that fit a record
 abbrev pub Short : List ℕ → Type 0
-Short l = length l ≤ 38
+Short l = length l ≤ textMost
 
 pub record Fitting (f : Found) : Type 0 where
   pub account : Short (f .account)

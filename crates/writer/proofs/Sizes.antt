@@ -8,15 +8,14 @@ use lib.Dec.{ltb, leb, eqb}
 use lib.ListN.{length, length-append, length-drop}
 use borrow.Author.Tests.{leb-true, eqb-true}
 use Rattle.party.specs.declared.PartyOption.{PartyOption}
-use Rattle.party.specs.declared.PartyOption.the-variants.{Field50NoOption, Field50A, Field50F, Field50K, Field50C, Field50L, Field50G, Field50H, Field59NoOption, Field59A, Field59F}
+use Rattle.party.specs.declared.PartyOption.the-variants.{Field59F}
 use Rattle.party.specs.Limits.{limitsOf, placeOf}
 use Rattle.party.specs.Text.{Used}
 use Rattle.party.specs.Party.{where-limit, Said}
-use Rattle.party.proofs.Options.{place-one}
-use Rattle.field_utils.specs.declared.Numbering.{Numbering}
-use Rattle.field_utils.specs.Names.{numberingOf, skipOf}
-use Rattle.reader.specs.Options.{firstOf}
-use Rattle.writer.specs.Writing.{tagOf, slashOf, gapOf, nameLines, headLines, writtenLines, joined, writtenBody, writtenField}
+use Rattle.party.proofs.Options.{place-one, by-option}
+use Rattle.party.specs.declared.Numbering.{Numbering}
+use Rattle.field_utils.specs.Names.{skipOf}
+use Rattle.writer.specs.Writing.{tagOf, slashOf, gapOf, nameLines, headLines, writtenLines, joined, writtenBody, writtenField, fieldMost}
 use Rattle.writer.specs.Given.{every, isAccount, isBic, areNames}
 use Rattle.writer.specs.ReadBack.{identified59F}
 use Rattle.writer.proofs.Fields.{tag-most}
@@ -35,7 +34,7 @@ weight-append (x ∷ xs) ys = let h = weight-append xs ys in omega arith
 
 -- ---- the most that each part weighs
 abbrev headMost : PartyOption → ℕ
-headMost o = suc (length (slashOf o) + limitsOf o .longest + extraOf (firstOf o))
+headMost o = suc (length (slashOf o) + limitsOf o .longest + extraOf (limitsOf o .first))
 
 one-text : (limit : ℕ) (u : Used) → length (where-limit limit (u ∷ [])) ≤ 1
 one-text limit u = go (ltb 0 limit) refl
@@ -47,7 +46,7 @@ one-text limit u = go (ltb 0 limit) refl
 head-weight : (o : PartyOption) (present : Bool) (us : List Used) → length us ≤ 1 → every (isAccount o present) us ≡ true → weight (bareHead o present us) ≤ headMost o
 head-weight o true [] n h = omega arith
 head-weight o true (u ∷ []) n h =
-    omega (arith, length-append (slashOf o) (u .bytes), text-length (firstOf o) o (u .bytes) (account-passes o u (both-left (isAccount o true u) true h)))
+    omega (arith, length-append (slashOf o) (u .bytes), text-length (limitsOf o .first) o (u .bytes) (account-passes o u (both-left (isAccount o true u) true h)))
 head-weight o true (u ∷ v ∷ us) n h = absurd (omega arith)
 head-weight o false us n h = omega arith
 
@@ -69,7 +68,7 @@ times zero m = 0
 times (suc n) m = m + times n m
 
 abbrev namesMost : PartyOption → ℕ
-namesMost o = times (limitsOf o .names) (suc (limitsOf o .name + skipOf (numberingOf o)))
+namesMost o = times (limitsOf o .names) (suc (limitsOf o .name + skipOf (limitsOf o .numbering)))
 
 lines-weight : (f : Numbering) (longest k n : ℕ) (ls : List (List ℕ)) → length ls ≤ n → AllPass f longest k ls → weight ls ≤ times n (suc (longest + skipOf f))
 lines-weight f longest k n [] h p = omega arith
@@ -78,58 +77,33 @@ lines-weight f longest k (suc n) (l ∷ ls) h p =
     omega (arith, lines-weight f longest (suc k) n ls (omega arith) (p .1), p .0 .long, length-drop (skipOf f) l)
 
 names-weight : (o : PartyOption) (count : ℕ) (us : List Used) → areNames o count (where-limit (limitsOf o .names) us) ≡ true
-    → weight (nameLines (numberingOf o) 1 (where-limit (limitsOf o .names) us)) ≤ namesMost o
+    → weight (nameLines (limitsOf o .numbering) 1 (where-limit (limitsOf o .names) us)) ≤ namesMost o
 unfolding nameLines
 names-weight o count us h = go (eqb (limitsOf o .names) 0) refl
   where
-    go : (t : Bool) → eqb (limitsOf o .names) 0 ≡ t → weight (nameLines (numberingOf o) 1 (where-limit (limitsOf o .names) us)) ≤ namesMost o
+    go : (t : Bool) → eqb (limitsOf o .names) 0 ≡ t → weight (nameLines (limitsOf o .numbering) 1 (where-limit (limitsOf o .names) us)) ≤ namesMost o
     go true e = rw (names-none o us e) (omega arith)
     go false e =
         let w = where-limit (limitsOf o .names) us in
         let p = names-are o count w h .pass e in
-        lines-weight (numberingOf o) (limitsOf o .name) 1 (limitsOf o .names) (nameLines (numberingOf o) 1 w) (p .most) (p .each)
+        lines-weight (limitsOf o .numbering) (limitsOf o .name) 1 (limitsOf o .names) (nameLines (limitsOf o .numbering) 1 w) (p .most) (p .each)
 
 -- ---- together: by the table, 183, and 180 but for 59F
 table-183 : (o : PartyOption) → leb (headMost o + bicMost o + namesMost o) 183 ≡ true
-table-183 Field50NoOption = refl
-table-183 Field50A = refl
-table-183 Field50F = refl
-table-183 Field50K = refl
-table-183 Field50C = refl
-table-183 Field50L = refl
-table-183 Field50G = refl
-table-183 Field50H = refl
-table-183 Field59NoOption = refl
-table-183 Field59A = refl
-table-183 Field59F = refl
+table-183 =
+    by-option (λ (o : PartyOption). leb (headMost o + bicMost o + namesMost o) 183 ≡ true) refl refl refl refl refl refl refl refl refl refl refl
 
 -- but for 59F's, which can have an identifier and names, three less
 table-180 : (o : PartyOption) → eqb (placeOf o) (placeOf Field59F) ≡ false → leb (headMost o + bicMost o + namesMost o) 180 ≡ true
-table-180 Field50NoOption e = refl
-table-180 Field50A e = refl
-table-180 Field50F e = refl
-table-180 Field50K e = refl
-table-180 Field50C e = refl
-table-180 Field50L e = refl
-table-180 Field50G e = refl
-table-180 Field50H e = refl
-table-180 Field59NoOption e = refl
-table-180 Field59A e = refl
-table-180 Field59F e = absurd (true≢false e)
+table-180 =
+    by-option (λ (o : PartyOption). eqb (placeOf o) (placeOf Field59F) ≡ false → leb (headMost o + bicMost o + namesMost o) 180 ≡ true) (λ e. refl)
+    (λ e. refl) (λ e. refl) (λ e. refl) (λ e. refl) (λ e. refl) (λ e. refl) (λ e. refl) (λ e. refl) (λ e. refl) (λ e. absurd (true≢false e))
 
 -- only 59F has an empty line after its identifier
 pub gap-none : (o : PartyOption) → eqb (placeOf o) (placeOf Field59F) ≡ false → gapOf o ≡ []
-gap-none Field50NoOption e = refl
-gap-none Field50A e = refl
-gap-none Field50F e = refl
-gap-none Field50K e = refl
-gap-none Field50C e = refl
-gap-none Field50L e = refl
-gap-none Field50G e = refl
-gap-none Field50H e = refl
-gap-none Field59NoOption e = refl
-gap-none Field59A e = refl
-gap-none Field59F e = absurd (true≢false e)
+gap-none =
+    by-option (λ (o : PartyOption). eqb (placeOf o) (placeOf Field59F) ≡ false → gapOf o ≡ []) (λ e. refl) (λ e. refl) (λ e. refl) (λ e. refl)
+    (λ e. refl) (λ e. refl) (λ e. refl) (λ e. refl) (λ e. refl) (λ e. refl) (λ e. absurd (true≢false e))
 
 -- what lines weigh closed, and joined
 pub closed-length : (ls : List (List ℕ)) → length (closed ls) ≤ weight ls + weight ls
@@ -158,7 +132,7 @@ module _ (o : PartyOption) (present : Bool) (count : ℕ) (u v : Used) (us : Lis
       let b = bic-weight o v (h .bic) in
       let n = names-weight o count us (h .names) in
       let x = weight-append (bareHead o present (S .account)) (map bytesOf (S .bic)) in
-      let y = weight-append (bareHead o present (S .account) ++ map bytesOf (S .bic)) (nameLines (numberingOf o) 1 (S .names)) in
+      let y = weight-append (bareHead o present (S .account) ++ map bytesOf (S .bic)) (nameLines (limitsOf o .numbering) 1 (S .names)) in
       omega (arith, b, n, x, y)
 
   head-part : weight (bareHead o present (S .account)) ≤ headMost o
@@ -176,12 +150,12 @@ module _ (o : PartyOption) (present : Bool) (count : ℕ) (u v : Used) (us : Lis
   unfolding writtenLines bare
   written-weight = go present
     where
-      go : (t : Bool) → weight (headLines o t (S .account) ++ map bytesOf (S .bic) ++ nameLines (numberingOf o) 1 (S .names))
-          ≡ weight (bareHead o t (S .account) ++ map bytesOf (S .bic) ++ nameLines (numberingOf o) 1 (S .names)) + gapPart t
+      go : (t : Bool) → weight (headLines o t (S .account) ++ map bytesOf (S .bic) ++ nameLines (limitsOf o .numbering) 1 (S .names))
+          ≡ weight (bareHead o t (S .account) ++ map bytesOf (S .bic) ++ nameLines (limitsOf o .numbering) 1 (S .names)) + gapPart t
       go true =
           let head = bareHead o true (S .account) in
           let bic = map bytesOf (S .bic) in
-          let names = nameLines (numberingOf o) 1 (S .names) in
+          let names = nameLines (limitsOf o .numbering) 1 (S .names) in
           omega (arith, weight-append (head ++ gapOf o ++ bic) names, weight-append (head ++ gapOf o) bic, weight-append head (gapOf o), weight-append (head ++ bic) names, weight-append head bic)
       go false = omega arith
 
@@ -200,9 +174,9 @@ module _ (o : PartyOption) (present : Bool) (count : ℕ) (u v : Used) (us : Lis
       go false true e = omega (arith, gap-other e)
 
   -- a written field has at most 188 bytes
-  pub field-188 : length (writtenField S) ≤ 188
+  pub field-most : length (writtenField S) ≤ fieldMost
   unfolding writtenField writtenBody
-  field-188 =
+  field-most =
       omega (
         arith,
         joined-most (writtenLines S) 183 (omega (arith, written-weight, gap-one, bare-183)),
@@ -227,9 +201,9 @@ module _ (o : PartyOption) (present : Bool) (count : ℕ) (u v : Used) (us : Lis
       go false = omega arith
 
   -- one that is not a 59F with identifier has at most 184
-  pub field-184 : identified59F S ≡ false → length (writtenField S) ≤ 184
+  pub field-less : identified59F S ≡ false → length (writtenField S) ≤ 184
   unfolding writtenField writtenBody identified59F
-  field-184 n =
+  field-less n =
       omega (
         arith,
         joined-most (writtenLines S) 179 (written-180 (eqb (placeOf o) (placeOf Field59F)) present refl refl n),

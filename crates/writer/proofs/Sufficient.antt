@@ -14,13 +14,14 @@ use Rattle.party.specs.declared.Party.{Party}
 use Rattle.party.specs.Text.{used}
 use Rattle.party.specs.Party.{Said, said, namesOf, Same}
 use Rattle.swift_utils.specs.Bytes.{all}
-use Rattle.reader.specs.declared.Layout.{Layout}
-use Rattle.reader.specs.declared.Layout.the-variants.{BicOnly, TextOnly, ByLines}
+use Rattle.party.specs.declared.Layout.{Layout}
+use Rattle.party.specs.declared.Layout.the-variants.{BicOnly, TextOnly, ByLines}
 use Rattle.reader.specs.Reading.{Reading, Found, giving, partyOf}
-use Rattle.reader.specs.Options.{ascii, bodyReply, byLines, foundBy, layoutOf, read}
+use Rattle.reader.specs.Options.{ascii, bodyReply, byLines, foundBy, read, bodyMost}
 use Rattle.reader.proofs.Bodies.{body-passed}
 use Rattle.writer.specs.Writing.{joined}
 use Rattle.writer.specs.Given.{Given, isGiven}
+use Rattle.party.specs.Limits.{limitsOf}
 use Rattle.writer.proofs.Relined.{All, Line, weight, closed, lines-closed}
 use Rattle.writer.proofs.Sayings.{saidWith, said-with, said-party}
 use Rattle.writer.proofs.Ascii.{all-more}
@@ -44,8 +45,8 @@ closed-ascii : (ls : List (List ℕ)) → All Plain ls → all ascii (closed ls)
 closed-ascii [] h = refl
 closed-ascii (l ∷ ls) h = all-more ascii (l ++ 13 ∷ []) (10 ∷ closed ls) (all-more ascii l (13 ∷ []) (h .0 .bytes) refl) (closed-ascii ls (h .1))
 
-pub body-fits : (body : List ℕ) → length body ≤ 2048 → all ascii body ≡ true → bodyReply body ≡ accepted
-body-fits body h e = then-passes _ _ (must-passes (leb (length body) 2048) 12 0 (le-leb _ _ h)) (must-passes (all ascii body) 13 0 e)
+pub body-fits : (body : List ℕ) → length body ≤ bodyMost → all ascii body ≡ true → bodyReply body ≡ accepted
+body-fits body h e = then-passes _ _ (must-passes (leb (length body) bodyMost) 12 0 (le-leb _ _ h)) (must-passes (all ascii body) 13 0 e)
 
 -- ---- a body that gives a record: its lines each followed by CR LF; for 50C and 50L its text
 pub bodyFor : Layout → List (List ℕ) → List ℕ
@@ -66,7 +67,7 @@ bodyFor-fits TextOnly ls n h = body-fits (joined ls) (omega (arith, joined-most 
 bodyFor-fits ByLines ls n h = body-fits (closed ls) (omega (arith, closed-length ls)) (closed-ascii ls h)
 
 -- ---- a body in which an option finds something is read as that
-pub read-found : (o : PartyOption) (body : List ℕ) (f : Found) → bodyReply body ≡ accepted → foundBy (layoutOf o) o body ≡ f → f .reply ≡ accepted
+pub read-found : (o : PartyOption) (body : List ℕ) (f : Found) → bodyReply body ≡ accepted → foundBy (limitsOf o .layout) o body ≡ f → f .reply ≡ accepted
     → read o body ≡ record { reply = accepted; party = partyOf o f }
 read-found o body f b e r =
     body-passed o body b ∙ ap (λ (g : Found). giving (g .reply) (partyOf o g)) e ∙ ap (λ (w : Reply). giving w (partyOf o f)) r
@@ -79,7 +80,7 @@ pub given-facts : (p : Party) → isGiven (said p) ≡ true → Facts (parts p)
 given-facts p e = facts (parts p) (ap isGiven (sym (said-with p)) ∙ e)
 
 -- a record in whose lines its option finds what it says is read from a body
-pub same-found : (p : Party) (body : List ℕ) → Facts (parts p) → bodyReply body ≡ accepted → foundBy (layoutOf (p .option)) (p .option) body ≡ foundOf (parts p)
+pub same-found : (p : Party) (body : List ℕ) → Facts (parts p) → bodyReply body ≡ accepted → foundBy (limitsOf (p .option) .layout) (p .option) body ≡ foundOf (parts p)
     → (read (p .option) body .reply ≡ accepted) × Same (read (p .option) body .party) p
 same-found p body h b e =
     let o = p .option in
@@ -94,6 +95,6 @@ sufficient p e =
     let s = parts p in
     let h = given-facts p e in
     let plain = bare-plain o _ _ _ _ _ h in
-    let layout = layoutOf o in
+    let layout = limitsOf o .layout in
     let f = same-found p (bodyFor layout (bare s)) h (bodyFor-fits layout (bare s) (bare-183 o _ _ _ _ _ h) plain) (bodyFor-found layout o s (bare-found _ _ _ _ o (p .present) h) plain) in
     record { body = bodyFor layout (bare s); accepts = f .0; same = f .1 }

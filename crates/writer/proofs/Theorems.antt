@@ -8,15 +8,16 @@ use Rattle.errors.specs.Refusals.{accepted}
 use Rattle.party.specs.declared.Party.{Party}
 use Rattle.party.specs.Decides.{Decides}
 use Rattle.party.specs.Party.{Said, said, Same}
-use Rattle.reader.specs.Options.{foundBy, layoutOf, read}
-use Rattle.writer.specs.Writing.{writtenBody, writtenField}
+use Rattle.reader.specs.Options.{foundBy, read}
+use Rattle.writer.specs.Writing.{writtenBody, writtenField, fieldMost}
 use Rattle.writer.specs.Given.{Given, isGiven}
 use Rattle.writer.specs.ReadBack.{identified59F, isReadBack, ReadsBack}
+use Rattle.party.specs.Limits.{limitsOf}
 use Rattle.writer.proofs.Relined.{weight}
 use Rattle.writer.proofs.Sayings.{said-with, saying}
 use Rattle.writer.proofs.Facts.{Facts, is-given}
 use Rattle.writer.proofs.Bare.{bare}
-use Rattle.writer.proofs.Sizes.{field-188, field-184}
+use Rattle.writer.proofs.Sizes.{field-most, field-less}
 use Rattle.writer.proofs.Sufficient.{parts, given-facts, same-found, sufficient}
 use Rattle.writer.proofs.Necessary.{readLines}
 use Rattle.writer.proofs.Back.{accepted-is, not-identified, back-fits, back-found, back-no}
@@ -55,9 +56,9 @@ module _ (p : Party) (g : Given p) where
       let e' : isReadBack (parts p) ≡ false = ap isReadBack (sym (said-with p)) ∙ e in
       let q : Read (writtenBody (parts p)) = subst Read body (r .accepts, r .same) in
       let a = accepted-is o (writtenBody (parts p)) (q .0) in
-      let same : saying o (foundBy (layoutOf o) o (writtenBody (parts p))) ≡ parts p = sym (a .says) ∙ q .1 ∙ said-with p in
+      let same : saying o (foundBy (limitsOf o .layout) o (writtenBody (parts p))) ≡ parts p = sym (a .says) ∙ q .1 ∙ said-with p in
       back-no _ _ _ _ o (p .present) h e'
-      (record { reply = a .good .reply; heavy = subst (λ (s : Said). weight (bare s) ≤ weight (readLines (layoutOf o) (writtenBody (parts p)))) same (a .good .light) })
+      (record { reply = a .good .reply; heavy = subst (λ (s : Said). weight (bare s) ≤ weight (readLines (limitsOf o .layout) (writtenBody (parts p)))) same (a .good .light) })
 
   -- a record that a reader can give is read back from its written body if and only if its last written line is not empty, no earlier one
   -- ends in CR, and it is not 59F with an identifier
@@ -65,9 +66,9 @@ module _ (p : Party) (g : Given p) where
   reading-back = record { yes = read-back; no = not-back }
 
   -- its written field has at most 188 bytes, and at most 184 but for 59F with an identifier
-  pub written-most : length (writtenField (said p)) ≤ 188
-  written-most = subst (λ (s : Said). length (writtenField s) ≤ 188) (sym (said-with p)) (field-188 _ _ _ _ _ _ h)
+  pub written-most : length (writtenField (said p)) ≤ fieldMost
+  written-most = subst (λ (s : Said). length (writtenField s) ≤ fieldMost) (sym (said-with p)) (field-most _ _ _ _ _ _ h)
 
   pub written-less : identified59F (said p) ≡ false → length (writtenField (said p)) ≤ 184
   written-less e =
-      subst (λ (s : Said). length (writtenField s) ≤ 184) (sym (said-with p)) (field-184 _ _ _ _ _ _ h (ap identified59F (sym (said-with p)) ∙ e))
+      subst (λ (s : Said). length (writtenField s) ≤ 184) (sym (said-with p)) (field-less _ _ _ _ _ _ h (ap identified59F (sym (said-with p)) ∙ e))

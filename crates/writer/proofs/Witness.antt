@@ -10,17 +10,16 @@ use borrow.Author.Tests.{le-ltb, eqb-true}
 use Rattle.errors.specs.Refusals.{accepted}
 use Rattle.errors.proofs.Replies.{must-held, then-first}
 use Rattle.party.specs.declared.PartyOption.{PartyOption}
-use Rattle.party.specs.declared.PartyOption.the-variants.{Field50NoOption, Field50A, Field50F, Field50K, Field50C, Field50L, Field50G, Field50H, Field59NoOption, Field59A, Field59F}
 use Rattle.party.specs.Limits.{limitsOf}
 use Rattle.party.specs.Text.{Used}
 use Rattle.party.specs.Party.{where-limit, Said}
 use Rattle.swift_utils.specs.Bytes.{all, digit, legal}
 use Rattle.swift_utils.specs.Checks.{bicLength, parseBic}
-use Rattle.field_utils.specs.declared.Numbering.{Numbering}
-use Rattle.field_utils.specs.declared.Numbering.the-variants.{Unnumbered, Numbered, InTurn}
+use Rattle.party.specs.declared.Numbering.{Numbering}
+use Rattle.party.specs.declared.Numbering.the-variants.{Unnumbered, Numbered, InTurn}
 use Rattle.field_utils.specs.Identifier.{isNumbered}
-use Rattle.field_utils.specs.Names.{numberingOf, kept}
-use Rattle.reader.specs.Options.{firstOf, ascii}
+use Rattle.field_utils.specs.Names.{kept}
+use Rattle.reader.specs.Options.{ascii}
 use Rattle.writer.specs.Writing.{slashOf, nameLines}
 use Rattle.writer.specs.Given.{every, isLine, isAccount, isBic, areNames}
 use Rattle.writer.proofs.Tests.{both-left, both-right, both, none-more}
@@ -97,7 +96,7 @@ module _ (o : PartyOption) (present : Bool) (count : ℕ) (u v : Used) (us : Lis
 account-short : (o : PartyOption) (present : Bool) (us : List Used) → every (isAccount o present) us ≡ true → Short (accountBytes present us)
 account-short o true [] h = omega arith
 account-short o true (u ∷ us) h =
-    omega (arith, text-length (firstOf o) o (u .bytes) (account-passes o u (both-left _ _ h)), extra-most (firstOf o), small o .longest)
+    omega (arith, text-length (limitsOf o .first) o (u .bytes) (account-passes o u (both-left _ _ h)), extra-most (limitsOf o .first), small o .longest)
 account-short o false us h = omega arith
 
 pub bic-most : (n : ℕ) (x : List ℕ) → parseBic n x ≡ accepted → length x ≤ 11
@@ -126,10 +125,10 @@ names-short o count us h = go (eqb (limitsOf o .names) 0) refl
     go false e =
         let w = where-limit (limitsOf o .names) us in
         let p = names-are o count w h .pass e in
-        let k : All Short (map (kept (numberingOf o)) (nameLines (numberingOf o) 1 w)) =
-        kept-short (numberingOf o) (limitsOf o .name) 1 (nameLines (numberingOf o) 1 w) (omega (arith, small o .name)) (p .each) in (
-          subst (All Short) (kept-written (numberingOf o) 1 w) k,
-          omega (arith, length-map w bytesOf, written-length (numberingOf o) 1 w, p .most, small o .names),
+        let k : All Short (map (kept (limitsOf o .numbering)) (nameLines (limitsOf o .numbering) 1 w)) =
+        kept-short (limitsOf o .numbering) (limitsOf o .name) 1 (nameLines (limitsOf o .numbering) 1 w) (omega (arith, small o .name)) (p .each) in (
+          subst (All Short) (kept-written (limitsOf o .numbering) 1 w) k,
+          omega (arith, length-map w bytesOf, written-length (limitsOf o .numbering) 1 w, p .most, small o .names),
         )
 
 pub fitting : (o : PartyOption) (present : Bool) (count : ℕ) (u v : Used) (us : List Used) → Facts (saidWith o present count u v us) → Fitting (foundOf (saidWith o present count u v us))
@@ -151,23 +150,17 @@ slashed : (x : List ℕ) → Plain x → Plain (47 ∷ x)
 slashed x h = record { line = none-more 47 x refl (h .line); bytes = h .bytes }
 
 slash-plain : (o : PartyOption) (x : List ℕ) → Plain x → Plain (slashOf o ++ x)
-slash-plain Field50NoOption x h = slashed x h
-slash-plain Field50A x h = slashed x h
-slash-plain Field50F x h = h
-slash-plain Field50K x h = slashed x h
-slash-plain Field50C x h = slashed x h
-slash-plain Field50L x h = h
-slash-plain Field50G x h = slashed x h
-slash-plain Field50H x h = slashed x h
-slash-plain Field59NoOption x h = slashed x h
-slash-plain Field59A x h = slashed x h
-slash-plain Field59F x h = slashed x h
+slash-plain o x h = go (limitsOf o .slash)
+  where
+    go : (t : Bool) → Plain (elim t as (λ y. List ℕ) [ true ↦ 47 ∷ [] | false ↦ [] ] ++ x)
+    go true = slashed x h
+    go false = h
 
 head-plain : (o : PartyOption) (present : Bool) (us : List Used) → every (isAccount o present) us ≡ true → All Plain (bareHead o present us)
 head-plain o true [] h = tt
 head-plain o true (u ∷ us) h =
     let a = both-left (isAccount o true u) (every (isAccount o true) us) h in (
-      slash-plain o (u .bytes) (record { line = line-free u (account-line o true u a); bytes = text-ascii (firstOf o) o (u .bytes) (account-passes o u a) }),
+      slash-plain o (u .bytes) (record { line = line-free u (account-line o true u a); bytes = text-ascii (limitsOf o .first) o (u .bytes) (account-passes o u a) }),
       head-plain o true us (both-right (isAccount o true u) (every (isAccount o true) us) h),
     )
 head-plain o false us h = tt
@@ -197,16 +190,16 @@ names-plain f longest k (l ∷ ls) h p = (record { line = h .0; bytes = pass-asc
 
 -- names of an option, whether it has some or not
 names-all : (o : PartyOption) (count : ℕ) (us : List Used) → areNames o count (where-limit (limitsOf o .names) us) ≡ true
-    → All Plain (nameLines (numberingOf o) 1 (where-limit (limitsOf o .names) us))
+    → All Plain (nameLines (limitsOf o .numbering) 1 (where-limit (limitsOf o .names) us))
 unfolding nameLines
 names-all o count us h = go (eqb (limitsOf o .names) 0) refl
   where
-    go : (t : Bool) → eqb (limitsOf o .names) 0 ≡ t → All Plain (nameLines (numberingOf o) 1 (where-limit (limitsOf o .names) us))
+    go : (t : Bool) → eqb (limitsOf o .names) 0 ≡ t → All Plain (nameLines (limitsOf o .numbering) 1 (where-limit (limitsOf o .names) us))
     go true e = rw (names-none o us e) tt
     go false e =
         let w = where-limit (limitsOf o .names) us in
         let n = names-are o count w h in
-        names-plain (numberingOf o) (limitsOf o .name) 1 (nameLines (numberingOf o) 1 w) (written-lines (numberingOf o) 1 w (n .lines)) (n .pass e .each)
+        names-plain (limitsOf o .numbering) (limitsOf o .name) 1 (nameLines (limitsOf o .numbering) 1 w) (written-lines (limitsOf o .numbering) 1 w (n .lines)) (n .pass e .each)
 
 pub bare-plain : (o : PartyOption) (present : Bool) (count : ℕ) (u v : Used) (us : List Used) → Facts (saidWith o present count u v us) → All Plain (bare (saidWith o present count u v us))
 unfolding bare

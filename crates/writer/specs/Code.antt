@@ -1,5 +1,5 @@
 -- The working forms of the writer's private functions: the parts that they write and test.
-use Prim.Native.Nat.{ℕ, suc, _+_, _≤_, min}
+use Prim.Native.Nat.{ℕ, suc, _+_, _-_, _≤_, min}
 use mathlib.Core.Path.{_≡_}
 use mathlib.Core.Bool.{Bool, true, false, not, _&&_}
 use mathlib.Core.List.{List, [], _∷_, _++_, map}
@@ -12,11 +12,10 @@ use Rattle.party.specs.Limits.{limitsOf}
 use Rattle.party.specs.Text.{Used}
 use Rattle.party.specs.Party.{said}
 use Rattle.swift_utils.specs.Bytes.{among}
-use Rattle.field_utils.specs.declared.Numbering.{Numbering}
-use Rattle.field_utils.specs.declared.Numbering.the-variants.{Unnumbered, Numbered, InTurn}
+use Rattle.party.specs.declared.Numbering.{Numbering}
 use Rattle.field_utils.specs.Lines.{starts}
-use Rattle.field_utils.specs.Names.{numberingOf, parseLine}
-use Rattle.writer.specs.Writing.{slashOf, gapOf, numberOf, nameLines, put}
+use Rattle.field_utils.specs.Names.{skipOf, keptFrom, parseLine}
+use Rattle.writer.specs.Writing.{slashOf, numberOf, nameLines, put}
 use Rattle.writer.specs.Given.{passes, isLine}
 
 -- the length of a text, which is at most a bound
@@ -39,24 +38,13 @@ unfoldable pub led : Bool → List (List ℕ) → List ℕ
 led later [] = []
 led later (l ∷ ls) = (lead later ++ l) ++ led true ls
 
--- whether a list has a line
-abbrev pub some : List (List ℕ) → Bool
-some [] = false
-some (l ∷ ls) = true
-
 -- whether an empty line follows an account or identifier
 abbrev pub hasGap : PartyOption → Bool
-hasGap o = some (gapOf o)
+hasGap o = limitsOf o .gap
 
 -- whether an account or identifier is written
 abbrev pub hasHead : PartyOption → Bool → Bool
 hasHead o present = present && ltb 0 (limitsOf o .longest)
-
--- how many bytes of a name's number are written before it
-abbrev pub marks : Numbering → ℕ
-marks Unnumbered = 0
-marks Numbered = 2
-marks InTurn = 0
 
 -- how many names are used
 abbrev pub nameCount : PartyOption → ℕ → ℕ
@@ -69,11 +57,11 @@ headOf o false u = []
 
 -- a record's names as they are written
 abbrev pub namesOn : Bool → Party → List ℕ
-namesOn later p = led later (nameLines (numberingOf (p .option)) 1 (said p .names))
+namesOn later p = led later (nameLines (limitsOf (p .option) .numbering) 1 (said p .names))
 
 -- its BIC and its names; an option has at most one of the two
 abbrev pub restOn : Bool → Party → List ℕ
-restOn later p = led later (map (λ (u : Used). u .bytes) (said p .bic) ++ nameLines (numberingOf (p .option)) 1 (said p .names))
+restOn later p = led later (map (λ (u : Used). u .bytes) (said p .bic) ++ nameLines (limitsOf (p .option) .numbering) 1 (said p .names))
 
 -- whether a text without an LF passes
 abbrev pub lineReply : Reply → List ℕ → Bool
@@ -81,9 +69,7 @@ lineReply r x = not (among x 10) && passes r
 
 -- how many bytes of a name's text are its number: 59F's names are kept with it
 abbrev pub numberIn : Numbering → ℕ
-numberIn Unnumbered = 0
-numberIn Numbered = 0
-numberIn InTurn = 2
+numberIn f = skipOf f - keptFrom f
 
 -- whether a text passes as the k-th name
 unfoldable pub isName : Numbering → ℕ → ℕ → Used → Bool

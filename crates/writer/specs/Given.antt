@@ -15,10 +15,10 @@ use Rattle.swift_utils.specs.Bytes.{all, among}
 use Rattle.swift_utils.specs.Checks.{parseBic}
 use Rattle.field_utils.specs.Lines.{starts}
 use Rattle.field_utils.specs.Identifier.{identifierReply}
-use Rattle.field_utils.specs.Names.{numberingOf, parseNameAndAddress}
-use Rattle.reader.specs.declared.First.{First}
-use Rattle.reader.specs.declared.First.the-variants.{Name, Identified, Account, ShortAccount, SlashAccount, AnyAccount, WholeLine}
-use Rattle.reader.specs.Options.{firstOf, accountReply, lengthReply, ascii, read}
+use Rattle.field_utils.specs.Names.{parseNameAndAddress}
+use Rattle.party.specs.declared.First.{First}
+use Rattle.party.specs.declared.First.the-variants.{NoAccount, Identified, Account, ShortAccount, SlashAccount, AnyAccount, WholeLine}
+use Rattle.reader.specs.Options.{accountReply, lengthReply, ascii, read}
 use Rattle.writer.specs.Writing.{Writing, writing, writtenField, nameLines, fits}
 
 -- a record that a reader can give: the same as one that an accepted body gives ('A whole page')
@@ -43,7 +43,7 @@ isLine u = eqb (u .len) (length (u .bytes)) && not (among (u .bytes) 10)
 
 -- what the option's reader asks of an account or identifier; of 50H's bytes, that they are at most 127
 abbrev pub textReply : First → PartyOption → List ℕ → Reply
-textReply Name o x = accountReply o x
+textReply NoAccount o x = accountReply o x
 textReply Identified o x = identifierReply (limitsOf o .longest) 1 x
 textReply Account o x = accountReply o x
 textReply ShortAccount o x = accountReply o x
@@ -53,7 +53,7 @@ textReply WholeLine o x = accountReply o x
 
 -- an account or identifier that is there passes; one that is not there is empty
 abbrev pub isAccount : PartyOption → Bool → Used → Bool
-isAccount o true u = isLine u && passes (textReply (firstOf o) o (u .bytes))
+isAccount o true u = isLine u && passes (textReply (limitsOf o .first) o (u .bytes))
 isAccount o false u = eqb (u .len) 0 && isLine u
 
 -- there is one only where the option has one, and always in 50F, 50G, 50H and 50L, whose shortest has a byte
@@ -70,11 +70,11 @@ unfoldable pub areNames : PartyOption → ℕ → List Used → Bool
 areNames o count us =
     eqb (length us) count
     && every isLine us
-    && elim (eqb (limitsOf o .names) 0) [ true ↦ true | false ↦ passes (parseNameAndAddress o 1 (nameLines (numberingOf o) 1 us)) ]
+    && elim (eqb (limitsOf o .names) 0) [ true ↦ true | false ↦ passes (parseNameAndAddress o 1 (nameLines (limitsOf o .numbering) 1 us)) ]
 
 -- 50K and 59 without an account: a first name with `/` would be taken for one
 abbrev pub isTaken : First → List Used → Bool
-isTaken Name us = false
+isTaken NoAccount us = false
 isTaken Identified us = false
 isTaken Account [] = false
 isTaken Account (u ∷ us) = starts 47 (u .bytes)
@@ -91,7 +91,7 @@ isGiven s =
     && every (isAccount (s .option) (s .present)) (s .account)
     && every isBic (s .bic)
     && areNames (s .option) (s .count) (s .names)
-    && not (not (s .present) && isTaken (firstOf (s .option)) (s .names))
+    && not (not (s .present) && isTaken (limitsOf (s .option) .first) (s .names))
 
 -- 22 a record the same as none that an accepted body gives, then 24
 abbrev pub writeReply : Said → List ℕ → Reply

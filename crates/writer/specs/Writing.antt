@@ -1,5 +1,5 @@
 -- The written field (document 01, field50.rs, field59.rs and 'Rust forms': bytes into a lent buffer).
-use Prim.Native.Nat.{ℕ, suc, _+_}
+use Prim.Native.Nat.{ℕ, suc, _+_, _/_, _%_}
 use mathlib.Core.Bool.{Bool, true, false}
 use mathlib.Core.List.{List, [], _∷_, _++_, map}
 use lib.Dec.{leb, eqb}
@@ -7,57 +7,31 @@ use lib.ListN.{length}
 use lib.Seq.{paste}
 use Rattle.errors.specs.Refusals.{Reply, accepted, refused, told}
 use Rattle.party.specs.declared.PartyOption.{PartyOption}
-use Rattle.party.specs.declared.PartyOption.the-variants.{Field50NoOption, Field50A, Field50F, Field50K, Field50C, Field50L, Field50G, Field50H, Field59NoOption, Field59A, Field59F}
 use Rattle.party.specs.Text.{Used}
 use Rattle.party.specs.Party.{Said}
 use Rattle.swift_utils.specs.Bytes.{bytes}
-use Rattle.field_utils.specs.declared.Numbering.{Numbering}
-use Rattle.field_utils.specs.declared.Numbering.the-variants.{Unnumbered, Numbered, InTurn}
+use Rattle.party.specs.declared.Numbering.{Numbering}
+use Rattle.party.specs.declared.Numbering.the-variants.{Unnumbered, Numbered, InTurn}
 use Rattle.field_utils.specs.Lines.{onto}
-use Rattle.field_utils.specs.Names.{numberingOf}
 use Rattle.writer.specs.declared.Written.{Written}
+use Rattle.party.specs.Limits.{limitsOf}
+
+-- a tag's capital, which is optional: 0 stands for none
+abbrev pub capital : ℕ → List ℕ
+capital letter = elim (eqb letter 0) [ true ↦ [] | false ↦ letter ∷ [] ]
 
 -- an option's tag ('Its tag is `:50` or `:59`, an optional capital, `:`')
-abbrev pub tagOf : PartyOption → List ℕ
-tagOf Field50NoOption = bytes ":50:"
-tagOf Field50A = bytes ":50A:"
-tagOf Field50F = bytes ":50F:"
-tagOf Field50K = bytes ":50K:"
-tagOf Field50C = bytes ":50C:"
-tagOf Field50L = bytes ":50L:"
-tagOf Field50G = bytes ":50G:"
-tagOf Field50H = bytes ":50H:"
-tagOf Field59NoOption = bytes ":59:"
-tagOf Field59A = bytes ":59A:"
-tagOf Field59F = bytes ":59F:"
+unfoldable pub tagOf : PartyOption → List ℕ
+tagOf o =
+    bytes ":" ++ (48 + limitsOf o .field / 10) ∷ (48 + limitsOf o .field % 10) ∷ capital (limitsOf o .letter) ++ bytes ":"
 
 -- what stands before an account or identifier: `/`, but for 50F and 50L (field50.rs)
 abbrev pub slashOf : PartyOption → List ℕ
-slashOf Field50NoOption = bytes "/"
-slashOf Field50A = bytes "/"
-slashOf Field50F = []
-slashOf Field50K = bytes "/"
-slashOf Field50C = bytes "/"
-slashOf Field50L = []
-slashOf Field50G = bytes "/"
-slashOf Field50H = bytes "/"
-slashOf Field59NoOption = bytes "/"
-slashOf Field59A = bytes "/"
-slashOf Field59F = bytes "/"
+slashOf o = elim (limitsOf o .slash) [ true ↦ bytes "/" | false ↦ [] ]
 
 -- the lines after an account or identifier line: 59F's has an empty one (field59.rs)
 abbrev pub gapOf : PartyOption → List (List ℕ)
-gapOf Field50NoOption = []
-gapOf Field50A = []
-gapOf Field50F = []
-gapOf Field50K = []
-gapOf Field50C = []
-gapOf Field50L = []
-gapOf Field50G = []
-gapOf Field50H = []
-gapOf Field59NoOption = []
-gapOf Field59A = []
-gapOf Field59F = [] ∷ []
+gapOf o = elim (limitsOf o .gap) [ true ↦ [] ∷ [] | false ↦ [] ]
 
 -- what is written before the k-th name: 50F's lines are numbered 1, 2, 3, 4; 59F's names have their numbers
 abbrev pub numberOf : Numbering → ℕ → List ℕ
@@ -80,7 +54,7 @@ unfoldable pub writtenLines : Said → List (List ℕ)
 writtenLines s =
     headLines (s .option) (s .present) (s .account)
     ++ map (λ (u : Used). u .bytes) (s .bic)
-    ++ nameLines (numberingOf (s .option)) 1 (s .names)
+    ++ nameLines (limitsOf (s .option) .numbering) 1 (s .names)
 
 -- lines with an LF between them
 unfoldable pub joined : List (List ℕ) → List ℕ
@@ -95,6 +69,10 @@ writtenBody s = joined (writtenLines s)
 -- tag and body
 unfoldable pub writtenField : Said → List ℕ
 writtenField s = tagOf (s .option) ++ writtenBody s
+
+-- a written field alone takes at most 188 bytes ('Pages (added)'); proofs/Theorems.antt has `written-most`
+abbrev pub fieldMost : ℕ
+fieldMost = 188
 
 -- the pieces of a text between LFs ('written lines being the pieces of its written body between LFs')
 unfoldable pub pieces : List ℕ → List (List ℕ)

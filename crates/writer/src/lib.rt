@@ -2,20 +2,21 @@
 // for each option; here the parts are a tag, an account or identifier, a BIC and names, as the option has them.
 use errors::Outcome;
 use errors::ParseError;
-use field_utils::Numbering;
 use field_utils::is_numbered_line;
+use field_utils::kept_from;
 use field_utils::lines::find_lf;
-use field_utils::numbering_of;
 use field_utils::parse_count;
 use field_utils::parse_remaining;
+use field_utils::skip_of;
 use field_utils::starts_with_slash;
+use party::First;
+use party::Numbering;
 use party::Party;
 use party::PartyOption;
+use party::TEXT_MOST;
 use party::Text;
 use party::limits_of;
-use reader::First;
 use reader::account_length;
-use reader::first_of;
 use reader::is_ascii;
 use swift_utils::all_at_least;
 use swift_utils::class_table;
@@ -28,16 +29,19 @@ ghost use lib.ListN.{length};
 ghost use Rattle.errors.specs.declared.Outcome.the-variants.{Refused};
 ghost use Rattle.errors.specs.Refusals.{told};
 ghost use Rattle.party.specs.Limits.{limitsOf};
-ghost use Rattle.party.specs.Text.{used};
+ghost use Rattle.party.specs.Text.{textMost, used};
 ghost use Rattle.party.specs.Party.{said, where-limit};
 ghost use Rattle.swift_utils.specs.Bytes.{among};
 ghost use Rattle.swift_utils.specs.Classes.{classTable};
-ghost use Rattle.field_utils.specs.Names.{numberingOf, parseNumber};
-ghost use Rattle.reader.specs.Options.{firstOf, accountReply};
-ghost use Rattle.reader.specs.declared.First.the-variants.{Identified, AnyAccount};
+ghost use Rattle.field_utils.specs.Names.{parseNumber};
+ghost use Rattle.reader.specs.Options.{accountReply};
+ghost use Rattle.party.specs.declared.First.the-variants.{Identified, AnyAccount};
 ghost use Rattle.writer.specs.Writing.{tagOf, slashOf, numberOf, writtenField, fits, placed, toldWritten};
 ghost use Rattle.writer.specs.Given.{passes, every, textReply, isAccount, isPresence, isBic, areNames, isTaken, isGiven, written};
-ghost use Rattle.writer.specs.Code.{Counted, Puts, lead, hasGap, hasHead, headOf, marks, nameCount, namesOn, restOn, lineReply, numberIn, isName, allNames, slashName};
+ghost use Rattle.writer.specs.Code.{Counted, Puts, lead, hasGap, hasHead, headOf, nameCount, namesOn, restOn, lineReply, numberIn, isName, allNames, slashName};
+
+// The most bytes of a written field.
+pub const FIELD_MOST: usize = 188;
 
 // What writing gives: accepted with the length written, or refused with 0.
 pub struct Written {
@@ -47,10 +51,10 @@ pub struct Written {
 
 // How many bytes a text uses: its length, or all 38 where that passes them.
 fn used_length(t: Text) -> usize
-    ensures { λ r. ⌜ Counted 38 (used t .bytes) r ⌝ }
+    ensures { λ r. ⌜ Counted textMost (used t .bytes) r ⌝ }
 {
     let n = t.len;
-    if n < 38 { n } else { 38 }
+    if n < TEXT_MOST { n } else { TEXT_MOST }
 }
 
 // How many names are used: as many as the count says, at most four, and none where the option has none.
@@ -68,49 +72,16 @@ fn name_count(option: PartyOption, count: usize) -> usize
 fn slash_count(option: PartyOption) -> usize
     ensures { λ r. ⌜ Counted 1 (slashOf option) r ⌝ }
 {
-    match option {
-        PartyOption::Field50NoOption => 1,
-        PartyOption::Field50A => 1,
-        PartyOption::Field50F => 0,
-        PartyOption::Field50K => 1,
-        PartyOption::Field50C => 1,
-        PartyOption::Field50L => 0,
-        PartyOption::Field50G => 1,
-        PartyOption::Field50H => 1,
-        PartyOption::Field59NoOption => 1,
-        PartyOption::Field59A => 1,
-        PartyOption::Field59F => 1,
-    }
+    let limits = limits_of(option);
+    if limits.slash { 1 } else { 0 }
 }
 
 // Whether an empty line follows an account or identifier: in 59F.
 fn has_gap(option: PartyOption) -> bool
     ensures { λ r. ⌜ r ≡ hasGap option ⌝ }
 {
-    match option {
-        PartyOption::Field50NoOption => false,
-        PartyOption::Field50A => false,
-        PartyOption::Field50F => false,
-        PartyOption::Field50K => false,
-        PartyOption::Field50C => false,
-        PartyOption::Field50L => false,
-        PartyOption::Field50G => false,
-        PartyOption::Field50H => false,
-        PartyOption::Field59NoOption => false,
-        PartyOption::Field59A => false,
-        PartyOption::Field59F => true,
-    }
-}
-
-// How many bytes of number stand before a name: 50F's digit and slash. 59F's are in the text.
-fn mark_count(numbering: Numbering) -> usize
-    ensures { λ r. ⌜ r ≡ marks numbering ⌝ }
-{
-    match numbering {
-        Numbering::Unnumbered => 0,
-        Numbering::Numbered => 2,
-        Numbering::InTurn => 0,
-    }
+    let limits = limits_of(option);
+    limits.gap
 }
 
 // Whether an account or identifier is written.
@@ -155,7 +126,9 @@ fn names_length(p: Party, later: bool) -> usize
 {
     let option = p.option;
     let n = name_count(option, p.count);
-    let mark = mark_count(numbering_of(option));
+    let limits = limits_of(option);
+    let numbering = limits.numbering;
+    let mark = kept_from(numbering);
     let mut after = later;
     let mut total = 0;
     let mut i = 0;
@@ -202,6 +175,21 @@ fn put_bytes(buf: &mut [u8], at: usize, s: &[u8]) -> usize
         i += 1;
     }
     at + i
+}
+
+// Puts a text at a place, if it fits; if not, no byte changes.
+pub fn put_text(text: &[u8], buf: &mut [u8], at: usize) -> bool
+    ensures { λ r. ⌜ r ≡ fits (now (buf .entry)) at (now (text .entry)) ⌝ }
+    ensures { λ _. ⌜ now (buf .exit) ≡ placed (now (buf .entry)) at (now (text .entry)) ⌝ }
+{
+    if buf.len() < at {
+        return false;
+    }
+    if buf.len() - at < text.len() {
+        return false;
+    }
+    put_bytes(buf, at, text);
+    true
 }
 
 // Puts an LF, where it is asked for.
@@ -267,7 +255,9 @@ fn put_names(buf: &mut [u8], at: usize, later: bool, p: Party) -> usize
 {
     let option = p.option;
     let n = name_count(option, p.count);
-    let marks = mark_count(numbering_of(option));
+    let limits = limits_of(option);
+    let numbering = limits.numbering;
+    let marks = kept_from(numbering);
     let mut after = later;
     let mut end = at;
     let mut i = 0;
@@ -397,11 +387,12 @@ fn is_identifier(option: PartyOption, text: &[u8]) -> bool
 
 // Whether the option's reader takes a line for an account or identifier.
 fn is_account_text(option: PartyOption, text: &[u8]) -> bool
-    ensures { λ r. ⌜ r ≡ lineReply (textReply (firstOf option) option (now (text .entry))) (now (text .entry)) ⌝ }
+    ensures { λ r. ⌜ r ≡ lineReply (textReply (limitsOf option .first) option (now (text .entry))) (now (text .entry)) ⌝ }
 {
-    let first = first_of(option);
+    let limits = limits_of(option);
+    let first = limits.first;
     match first {
-        First::Name => is_plain_account(option, text),
+        First::NoAccount => is_plain_account(option, text),
         First::Identified => is_identifier(option, text),
         First::Account => is_plain_account(option, text),
         First::ShortAccount => is_plain_account(option, text),
@@ -467,11 +458,7 @@ fn is_in_turn(text: &[u8], turn: usize, numbering: Numbering) -> bool
 fn number_length(numbering: Numbering) -> usize
     ensures { λ r. ⌜ r ≡ numberIn numbering ⌝ }
 {
-    match numbering {
-        Numbering::Unnumbered => 0,
-        Numbering::Numbered => 0,
-        Numbering::InTurn => 2,
-    }
+    skip_of(numbering) - kept_from(numbering)
 }
 
 // Whether a text is the turn-th name of an option with such names, as its reader gives them.
@@ -495,11 +482,11 @@ fn is_name(t: Text, turn: usize, numbering: Numbering, longest: usize, classes: 
 
 // Whether each name is one that the option's reader gives.
 fn all_names(p: Party) -> bool
-    ensures { λ r. ⌜ r ≡ allNames (numberingOf (p .option)) (limitsOf (p .option) .name) 1 (said p .names) ⌝ }
+    ensures { λ r. ⌜ r ≡ allNames (limitsOf (p .option) .numbering) (limitsOf (p .option) .name) 1 (said p .names) ⌝ }
 {
     let option = p.option;
     let limits = limits_of(option);
-    let numbering = numbering_of(option);
+    let numbering = limits.numbering;
     let n = name_count(option, p.count);
     let classes = class_table();
     let mut i = 0;
@@ -548,12 +535,13 @@ fn has_slash_name(p: Party) -> bool
 
 // Whether the first name would be taken for an account.
 fn is_taken(p: Party) -> bool
-    ensures { λ r. ⌜ r ≡ isTaken (firstOf (p .option)) (said p .names) ⌝ }
+    ensures { λ r. ⌜ r ≡ isTaken (limitsOf (p .option) .first) (said p .names) ⌝ }
 {
     let option = p.option;
-    let first = first_of(option);
+    let limits = limits_of(option);
+    let first = limits.first;
     match first {
-        First::Name => false,
+        First::NoAccount => false,
         First::Identified => false,
         First::Account => has_slash_name(p),
         First::ShortAccount => has_slash_name(p),

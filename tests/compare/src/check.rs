@@ -7,12 +7,17 @@ use crate::tally::Tally;
 use party_answers::format::escaped;
 use party_answers::model::{Answer, Call, Case, Choice, Opt, Reader};
 use party_answers::random::Random;
+use party_answers::rules::LONGEST_BODY;
 use party_compare::ours;
 use std::hint::black_box;
 
 /// Stale bytes before what is lent, and the length of the room.
 const BEFORE: usize = 32;
 const ROOM: usize = 320;
+/// How many bytes more than it has a record is lent in, at most.
+const MOST_MORE: usize = 2;
+const OPTIONS: u8 = Opt::ALL.len() as u8;
+const CHOICES: u8 = Choice::ALL.len() as u8;
 
 /// A case whose answers differ.
 pub struct Failure {
@@ -121,7 +126,7 @@ impl Checker {
         let flat = self.read(case.reader, case.call, case.body.as_bytes(), &answer)?;
         if let (Answer::Read { written, .. }, Some(flat)) = (&answer, &flat) {
             self.tally.records += 1;
-            self.write(flat, Some(written))?;
+            self.write(flat, Ok(written))?;
         }
         Ok(flat)
     }
@@ -139,7 +144,7 @@ impl Checker {
             Answer::Panicked => return Err("the Rust panics".to_string()),
         };
         self.room = self.stale;
-        let lent = BEFORE..BEFORE + flat::LENGTH + body.len() % 3;
+        let lent = BEFORE..BEFORE + flat::LENGTH + body.len() % (MOST_MORE + 1);
         let given = ours::ask(reader, call, body, &mut self.room[lent]);
         if given != code {
             let [code, given] = [code, given].map(|code| ours::told(code, "a record"));
@@ -152,26 +157,31 @@ impl Checker {
         Ok(flat)
     }
 
-    /// Has ours write a record into buffers of several lengths; 22 is expected where there is no
-    /// text.
-    fn write(&mut self, flat: &Flat, written: Option<&[u8]>) -> Result<(), String> {
-        let length = written.map_or(189, <[u8]>::len);
-        for lent in length - 1..=length + 1 {
+    /// Has ours write a record into buffers of several lengths; a refusal is expected where there is
+    /// no text. The record is lent with no byte more, one, and two.
+    fn write(&mut self, flat: &Flat, written: Result<&[u8], u8>) -> Result<(), String> {
+        let length = written.map_or(ours::LONGEST_FIELD + 1, <[u8]>::len);
+        let mut record = [0; flat::LENGTH + MOST_MORE];
+        record[..flat::LENGTH].copy_from_slice(flat);
+        record[flat::LENGTH..].copy_from_slice(&self.stale[..MOST_MORE]);
+        let before = record;
+        for more in 0..=MOST_MORE {
+            let lent = length - 1 + more;
             let (code, text) = match written {
-                None => (ours::code(22, 0), &[][..]),
-                Some(_) if lent < length => (ours::code(24, 0), &[][..]),
-                Some(written) => (length as u32, written),
+                Err(number) => (ours::code(number, 0), &[][..]),
+                Ok(_) if lent < length => (ours::code(24, 0), &[][..]),
+                Ok(written) => (length as u32, written),
             };
             self.tally.buffers += 1;
             self.room = self.stale;
-            let record = *flat;
-            let given = ours::write(&record, &mut self.room[BEFORE..BEFORE + lent]);
+            let lent_record = &record[..flat::LENGTH + more];
+            let given = ours::write(lent_record, &mut self.room[BEFORE..BEFORE + lent]);
             if given != code {
                 let [code, given] = [code, given].map(|code| ours::told(code, "written"));
                 return Err(format!("a buffer of {lent}: expected {code}; ours {given}"));
             }
             self.room_has(text).map_err(|(_, what)| format!("a buffer of {lent}: {what}"))?;
-            if black_box(&record) != flat {
+            if *black_box(&record) != before {
                 return Err("writing changed the record".to_string());
             }
         }
@@ -197,7 +207,7 @@ impl Checker {
         Err((at.checked_sub(BEFORE), what))
     }
 
-    /// A damaged copy of a record: written as the Rust does, or 22.
+    /// A damaged copy of a record: written as the Rust does, or 41 or 22.
     fn damaged(&mut self, flat: &Flat, random: &mut Random) -> Result<(), String> {
         let mut flat = *flat;
         for _ in 0..=random.below(2) {
@@ -207,17 +217,28 @@ impl Checker {
             Some(record) => expected::written(&record)?,
             None => None,
         };
+        let written = match (written, flat[0] < OPTIONS) {
+            (Some(written), _) => Ok(written),
+            (None, true) => Err(22),
+            (None, false) => Err(41),
+        };
         match written {
-            Some(_) => self.tally.damaged += 1,
-            None => self.tally.no_such += 1,
+            Ok(_) => self.tally.damaged += 1,
+            Err(22) => self.tally.no_such += 1,
+            Err(_) => self.tally.no_option += 1,
         }
-        self.write(&flat, written.as_deref())
+        self.write(&flat, written.as_deref().map_err(|number| *number))
             .map_err(|what| format!("{what}\n  the record {}", escaped(&flat)))
     }
 
     /// Calls that no body shows: records of other lengths, options, choices and letters that there
     /// are none of.
     pub fn edges(&mut self) -> Result<(), String> {
+        self.edges_of_readers()?;
+        self.edges_of_records()
+    }
+
+    fn edges_of_readers(&mut self) -> Result<(), String> {
         let body = b"/1\nABCDEFGH";
         for lent in 0..flat::LENGTH {
             for place in [0, 6, 7, 255] {
@@ -228,26 +249,37 @@ impl Checker {
                 })?;
             }
         }
-        for place in 7..=255 {
-            if place > 10 {
-                self.edge(41, |room| ours::read(place, body, &mut room[..flat::LENGTH]))?;
+        for place in CHOICES..=255 {
+            if place >= OPTIONS {
+                self.edge(41, |room| ours::read(place, body, room))?;
             }
-            self.edge(41, |room| ours::parse(place, body, &mut room[..flat::LENGTH]))?;
-            self.edge(41, |room| {
-                ours::parse_with_variant(place, body, b'c', &mut room[..flat::LENGTH])
-            })?;
+            self.edge(41, |room| ours::parse(place, body, room))?;
+            self.edge(41, |room| ours::parse_with_variant(place, body, b'c', room))?;
         }
         for letter in (1..=255u8).filter(|letter| !letter.is_ascii_uppercase()) {
-            for choice in 0..7 {
-                for body in [&body[..], b"", b"\xff", &[b'A'; 2049]] {
-                    self.edge(14, |room| {
-                        ours::parse_with_variant(choice, body, letter, &mut room[..flat::LENGTH])
-                    })?;
+            for choice in 0..CHOICES {
+                for body in [&body[..], b"", b"\xff", &[b'A'; LONGEST_BODY + 1]] {
+                    self.edge(14, |room| ours::parse_with_variant(choice, body, letter, room))?;
                 }
             }
         }
-        for length in (0..ROOM).filter(|length| *length != flat::LENGTH) {
-            self.edge(22, |room| ours::write(&[0; ROOM][..length], room))?;
+        Ok(())
+    }
+
+    /// The records are of one byte alone: of a place that an option has, no reader gives them.
+    fn edges_of_records(&mut self) -> Result<(), String> {
+        for place in 0..=255 {
+            for lent in 0..=ROOM {
+                let record = &[place; ROOM][..lent];
+                let (written, unplaced) = match (lent < flat::LENGTH, place < OPTIONS) {
+                    (true, _) => (42, 42),
+                    (false, false) => (41, 41),
+                    (false, true) => (22, 21),
+                };
+                self.edge(written, |room| ours::write(record, room))?;
+                self.edge(written, |room| ours::add(record, room, 0))?;
+                self.edge(unplaced, |room| ours::add(record, room, ROOM))?;
+            }
         }
         Ok(())
     }
@@ -273,7 +305,7 @@ fn other_letter(random: &mut Random) -> u8 {
 fn damage(flat: &mut Flat, random: &mut Random) {
     const SIGNS: &[u8] = b"\r\n\r\n//012Az ~\0:-\x80\xff";
     let text = flat::text_at(random.below(6));
-    let used = usize::from(flat[text]).clamp(1, 38);
+    let used = usize::from(flat[text]).clamp(1, flat::LONGEST);
     match random.below(8) {
         0 => flat[0] = random.below(13) as u8,
         1 => flat[1] = random.below(3) as u8,

@@ -1,12 +1,13 @@
-//! A record as 237 bytes: the option's place, the presence, the count, then six texts of 39 bytes,
-//! a length and 38 bytes: the account or identifier, the BIC, four names.
+//! A record as bytes: the option's place, the presence, the count, then six texts, each its length
+//! and room for the longest one: the account or identifier, the BIC, four names.
 
 use party_answers::model::{Opt, Record};
+use party_compare::ours;
 
-pub const LENGTH: usize = 237;
+pub const LENGTH: usize = ours::RECORD_LENGTH;
 const FIRST_TEXT: usize = 3;
 const TEXT: usize = 39;
-const LONGEST: usize = TEXT - 1;
+pub const LONGEST: usize = TEXT - 1;
 const MOST_NAMES: usize = 4;
 
 pub type Flat = [u8; LENGTH];
@@ -36,7 +37,7 @@ fn put(flat: &mut Flat, index: usize, text: &[u8]) {
     flat[at + 1..at + 1 + text.len()].copy_from_slice(text);
 }
 
-/// The record of any 237 bytes, from those that it uses; none where it is no record of the model.
+/// The record of any bytes, from those that it uses; none where it is no record of the model.
 ///
 /// A text that the option or the count leaves out is not used. The account of an option that has
 /// one is, and no reader gives one that is not empty with the presence 'no'.

@@ -62,7 +62,7 @@ impl Plan {
             }
             Family::Limits => "random lines around the limits".to_string(),
             Family::Damaged => "good bodies, damaged copies, random lines".to_string(),
-            Family::Refused => "over 2,048 bytes, or with bytes above 127".to_string(),
+            Family::Refused => format!("over {LONGEST_BODY} bytes, or with bytes above 127"),
         }
     }
 
@@ -142,7 +142,7 @@ fn line(random: &mut Random, at: usize) -> String {
     start + &legal(left)
 }
 
-/// Makes the body 2,046 to 2,048 bytes long.
+/// Makes the body as long as the longest, or one or two bytes shorter.
 fn lengthen(random: &mut Random, body: &mut Vec<u8>) {
     let filler: &[u8] = random.pick(&[b"A", b" ", b"\n", b"A\n", b"1/A\n"]);
     let bic: &[u8] = random.pick(&[b"", b"ABCDEFGH", b"\nABCDEFGH\n", b"\nABCDEFGHIJK"]);

@@ -1,3 +1,3 @@
-//! The static library of crate exports, for Rust programs.
+//! Yewdome's static library, for Rust programs.
 
 pub mod ours;

@@ -2,23 +2,28 @@
 
 use party_answers::model::{Call, Reader};
 
+/// A record's bytes, the most of a written field, and the most of a page.
+pub const RECORD_LENGTH: usize = 237;
+pub const LONGEST_FIELD: usize = 188;
+pub const LONGEST_PAGE: usize = 32_768;
+
 // A slice of the library is a pointer and a length.
 unsafe extern "C" {
-    fn party_read(
+    fn yewdome_party_read(
         option: u8,
         body: *const u8,
         body_len: usize,
         record: *mut u8,
         record_len: usize,
     ) -> u32;
-    fn party_parse(
+    fn yewdome_party_parse(
         choice: u8,
         body: *const u8,
         body_len: usize,
         record: *mut u8,
         record_len: usize,
     ) -> u32;
-    fn party_parse_with_variant(
+    fn yewdome_party_parse_with_variant(
         choice: u8,
         body: *const u8,
         body_len: usize,
@@ -26,68 +31,75 @@ unsafe extern "C" {
         record: *mut u8,
         record_len: usize,
     ) -> u32;
-    fn party_write(record: *const u8, record_len: usize, buf: *mut u8, buf_len: usize) -> u32;
-    fn page_read(
+    fn yewdome_party_write(
+        record: *const u8,
+        record_len: usize,
+        buf: *mut u8,
+        buf_len: usize,
+    ) -> u32;
+    fn yewdome_page_read(
         page: *const u8,
         page_len: usize,
         at: usize,
         record: *mut u8,
         record_len: usize,
     ) -> u64;
-    fn page_add(
+    fn yewdome_page_add(
         record: *const u8,
         record_len: usize,
         buf: *mut u8,
         buf_len: usize,
         position: usize,
     ) -> u32;
-    fn page_close(buf: *mut u8, buf_len: usize, position: usize) -> u32;
+    fn yewdome_page_close(buf: *mut u8, buf_len: usize, position: usize) -> u32;
 }
 
-/// `party_read`.
+/// `yewdome_party_read`.
 pub fn read(option: u8, body: &[u8], record: &mut [u8]) -> u32 {
+    let (text, len) = (body.as_ptr(), body.len());
     // SAFETY: both slices are valid for their lengths during the call, and the one that is
     // written is borrowed for it alone. The library keeps no pointer.
-    unsafe { party_read(option, body.as_ptr(), body.len(), record.as_mut_ptr(), record.len()) }
+    unsafe { yewdome_party_read(option, text, len, record.as_mut_ptr(), record.len()) }
 }
 
-/// `party_parse`.
+/// `yewdome_party_parse`.
 pub fn parse(choice: u8, body: &[u8], record: &mut [u8]) -> u32 {
-    // SAFETY: as in `read`.
-    unsafe { party_parse(choice, body.as_ptr(), body.len(), record.as_mut_ptr(), record.len()) }
-}
-
-/// `party_parse_with_variant`; the letter 0 is none.
-pub fn parse_with_variant(choice: u8, body: &[u8], letter: u8, record: &mut [u8]) -> u32 {
     let (text, len) = (body.as_ptr(), body.len());
     // SAFETY: as in `read`.
-    unsafe {
-        party_parse_with_variant(choice, text, len, letter, record.as_mut_ptr(), record.len())
-    }
+    unsafe { yewdome_party_parse(choice, text, len, record.as_mut_ptr(), record.len()) }
 }
 
-/// `party_write`.
+/// `yewdome_party_parse_with_variant`; the letter 0 is none.
+pub fn parse_with_variant(choice: u8, body: &[u8], letter: u8, record: &mut [u8]) -> u32 {
+    let (text, len) = (body.as_ptr(), body.len());
+    let (out, room) = (record.as_mut_ptr(), record.len());
+    // SAFETY: as in `read`.
+    unsafe { yewdome_party_parse_with_variant(choice, text, len, letter, out, room) }
+}
+
+/// `yewdome_party_write`.
 pub fn write(record: &[u8], buf: &mut [u8]) -> u32 {
     // SAFETY: as in `read`.
-    unsafe { party_write(record.as_ptr(), record.len(), buf.as_mut_ptr(), buf.len()) }
+    unsafe { yewdome_party_write(record.as_ptr(), record.len(), buf.as_mut_ptr(), buf.len()) }
 }
 
-/// `page_read`.
+/// `yewdome_page_read`.
 pub fn read_page(page: &[u8], at: usize, record: &mut [u8]) -> u64 {
     // SAFETY: as in `read`.
-    unsafe { page_read(page.as_ptr(), page.len(), at, record.as_mut_ptr(), record.len()) }
+    unsafe { yewdome_page_read(page.as_ptr(), page.len(), at, record.as_mut_ptr(), record.len()) }
 }
 
-/// `page_add`.
+/// `yewdome_page_add`.
 pub fn add(record: &[u8], buf: &mut [u8], position: usize) -> u32 {
+    let (out, len) = (buf.as_mut_ptr(), buf.len());
     // SAFETY: as in `read`.
-    unsafe { page_add(record.as_ptr(), record.len(), buf.as_mut_ptr(), buf.len(), position) }
+    unsafe { yewdome_page_add(record.as_ptr(), record.len(), out, len, position) }
 }
 
-/// `page_close`.
+/// `yewdome_page_close`.
 pub fn close(buf: &mut [u8], position: usize) -> u32 {
     // SAFETY: as in `read`.
-    unsafe { page_close(buf.as_mut_ptr(), buf.len(), position) }
+    unsafe { yewdome_page_close(buf.as_mut_ptr(), buf.len(), position) }
 }
 
 /// The reader's function. The options and the choices are numbered in the order of their enums.

@@ -13,7 +13,7 @@
 //! for `valgrind --tool=callgrind` to count.
 
 use party_answers::model::{Choice, Opt};
-use party_compare::ours;
+use party_compare::ours::{self, LONGEST_FIELD, LONGEST_PAGE, RECORD_LENGTH};
 use std::hint::black_box;
 use std::time::Instant;
 use swift_mt_message::fields::field50::*;
@@ -23,9 +23,6 @@ use swift_mt_message::traits::SwiftField;
 const ROUNDS: usize = 40;
 const CALLS: usize = 10_000;
 const COUNTED: usize = 1_000;
-const RECORD: usize = 237;
-const LONGEST_FIELD: usize = 188;
-const PAGE: usize = 32_768;
 const TAG: &str = ":50K:";
 
 const ACCOUNT_AND_NAMES: &str =
@@ -60,7 +57,7 @@ fn main() {
     choice::<Field50Creditor>(Choice::Creditor, ACCOUNT_AND_NAMES);
     choice::<Field59>(Choice::Beneficiary, ACCOUNT_AND_NAMES);
     choice::<Field59Debtor>(Choice::Debtor, ACCOUNT_AND_NAMES);
-    for fields in [1, 10, 100, (PAGE - 2) / (TAG.len() + ACCOUNT_AND_NAMES.len() + 1)] {
+    for fields in [1, 10, 100, (LONGEST_PAGE - 2) / (TAG.len() + ACCOUNT_AND_NAMES.len() + 1)] {
         page(fields);
     }
 }
@@ -71,7 +68,7 @@ fn option<T: SwiftField>(option: Opt, body: &str) {
     if !is_asked(&format!("{name}, ")) {
         return;
     }
-    let mut record = [0; RECORD];
+    let mut record = [0; RECORD_LENGTH];
     let value = T::parse(body).expect("the Rust reads it");
     assert_eq!(ours::read(option as u8, body.as_bytes(), &mut record), 0, "{name} is read");
     row(
@@ -104,7 +101,7 @@ fn choice<T: SwiftField>(choice: Choice, body: &str) {
     if !is_asked(&format!("`{name}`")) {
         return;
     }
-    let mut record = [0; RECORD];
+    let mut record = [0; RECORD_LENGTH];
     T::parse(body).expect("the Rust reads it");
     assert_eq!(ours::parse(choice as u8, body.as_bytes(), &mut record), 0, "{name} is read");
     row(
@@ -128,9 +125,9 @@ fn page(fields: usize) {
         return;
     }
     let value = Field50K::parse(ACCOUNT_AND_NAMES).expect("the Rust reads it");
-    let mut record = [0; RECORD];
+    let mut record = [0; RECORD_LENGTH];
     ours::read(Opt::K50 as u8, ACCOUNT_AND_NAMES.as_bytes(), &mut record);
-    let mut buffer = vec![0; PAGE];
+    let mut buffer = vec![0; LONGEST_PAGE];
     let text = written(&value, fields);
     let length = filed(&record, &mut buffer, fields);
     assert_eq!(&buffer[..length], text.as_bytes(), "the page is filed");
@@ -151,7 +148,7 @@ fn page(fields: usize) {
 
 /// A page as the Rust writes its fields.
 fn written(value: &Field50K, fields: usize) -> String {
-    let mut page = String::with_capacity(PAGE);
+    let mut page = String::with_capacity(LONGEST_PAGE);
     for _ in 0..fields {
         page.push_str(&value.to_swift_string());
         page.push('\n');

@@ -19,9 +19,10 @@ pub struct Tally {
     pub all_letters: u64,
     /// Records read and written.
     pub records: u64,
-    /// Damaged records, written and refused.
+    /// Damaged records, written and refused with 22 and 41.
     pub damaged: u64,
     pub no_such: u64,
+    pub no_option: u64,
     /// Calls of the writer.
     pub buffers: u64,
     pub edges: u64,
@@ -61,6 +62,7 @@ impl Tally {
         self.records += other.records;
         self.damaged += other.damaged;
         self.no_such += other.no_such;
+        self.no_option += other.no_option;
         self.buffers += other.buffers;
         self.edges += other.edges;
     }
@@ -80,8 +82,9 @@ impl Tally {
         line(&mut text, "records that a reader gave", &self.records.to_string());
         line(&mut text, "damaged records, still records", &self.damaged.to_string());
         line(&mut text, "damaged records, 22 by the rule", &self.no_such.to_string());
+        line(&mut text, "damaged records, 41 by the rule", &self.no_option.to_string());
         line(&mut text, "buffers", &self.buffers.to_string());
-        line(&mut text, "calls outside the tables (14, 22, 41, 42)", &self.edges.to_string());
+        line(&mut text, "other calls (14, 21, 22, 41, 42)", &self.edges.to_string());
         text.push_str("answers by a rule, where the Rust's is not ours or was not asked\n");
         for class in Class::ALL {
             line(&mut text, class.name(), &self.rules[class as usize].to_string());

@@ -6,8 +6,8 @@ use lib.Dec.{eqb}
 use lib.ListN.{getD}
 use native.Mathlib.Omega.{arith}
 use Rattle.errors.specs.Refusals.{Reply, told, must, _then_}
-use Rattle.field_utils.specs.declared.Numbering.{Numbering}
-use Rattle.field_utils.specs.declared.Numbering.the-variants.{Numbered}
+use Rattle.party.specs.declared.Numbering.{Numbering}
+use Rattle.party.specs.declared.Numbering.the-variants.{Numbered}
 use Rattle.field_utils.specs.Names.{parseNumber}
 use Rattle.field_utils.proofs.NameLines.{number-room}
 use borrow.Author.Needs.{needs}

@@ -1,13 +1,15 @@
 -- `file_page::file_all` meets its contract: each turn but the last moves past at least one byte, leaves a page that can be closed, and what is
 -- yet to be filed is what `fileAll` is. Assumes nothing.
 use mathlib.Core.Logic.{⊎-elim}
-use mathlib.Core.Path.{_≡_, refl, sym, _∙_}
-use Prim.Native.Nat.{suc, _≤_, _<_, _-_}
+use mathlib.Core.Path.{_≡_, refl, sym, _∙_, ap, subst}
+use mathlib.Core.Bool.{Bool}
+use mathlib.Core.List.{List}
+use Prim.Native.Nat.{ℕ, suc, _≤_, _<_, _-_}
 use native.Mathlib.Omega.{arith}
 use lib.ListN.{length}
 use denote.Ref.{now}
 use borrow.Author.Needs.{needs}
-use Rattle.filing.specs.Filing.{Closable, fileFrom, fileAll}
+use Rattle.filing.specs.Filing.{toldStepOutcome, isEnded, Closable, openPage, fileFrom, fileAll}
 use Rattle.filing.proofs.Closing.{stays-closable, empty-closable}
 use Rattle.filing.proofs.Whole.{ends, stops, goes-on, from-start}
 use Rattle.file_page.proofs.file_all.Statement.{statement}
@@ -19,48 +21,67 @@ Inv-loop page buf₀ tally₀ at₀ position₀ buf tally at position = (at ≤ 
 abbrev μ-loop : tie.MeasureT-loop
 μ-loop page buf₀ tally₀ at₀ position₀ buf tally at position = length page - at
 
--- the page can be closed after the step
-stays : (c : tie.After-file-next Inv-loop μ-loop) → Closable (c .file-next .last .1 .1 .0) (c .file-next .result .position)
-stays c =
-    let l = c .before .before .loop in
-    stays-closable (l .buf) (l .position) (l .inv .2) (now (c .before .before .before .before .before .before .args .page)) (l .at) (c .file-next .result) (c .file-next .last .1 .1 .0) (c .file-next .ensures .0)
+-- after a step: the page can be closed, and whether the step met the end
+module _ (c : tie.After-position-after Inv-loop μ-loop) where
+  abbrev f : tie.After-file-next Inv-loop μ-loop
+  f = c .before .before .before
+
+  abbrev page : List ℕ
+  page = now (f .before .before .before .before .before .before .args .page)
+
+  abbrev left : List ℕ
+  left = f .file-next .last .1 .1 .0
+
+  stays : Closable left (c .position-after .result)
+  stays =
+      let l = f .before .before .loop in
+      subst (Closable left) (sym (c .position-after .ensures)) (stays-closable (l .buf) (l .position) (l .inv .2) page (l .at) (f .file-next .result) left (f .file-next .ensures .0))
+
+ended : (c : tie.After-is-end Inv-loop μ-loop) {t : Bool} → c .is-end .result ≡ t → isEnded (toldStepOutcome (f (c .before) .file-next .result .outcome)) ≡ t
+ended c e = sym (c .is-end .ensures) ∙ e
 
 loop-holds : tie.Need-loop-holds Inv-loop μ-loop
 loop-holds c =
     let a = c .before .before .before in
     (omega arith, refl, empty-closable (now (a .args .buf)) (a .pre), from-start (now (a .args .page)) (now (a .args .buf)))
 
+-- a turn that is not the last moves on
+moves : (c : tie.Else2 Inv-loop μ-loop) → let g = f (c .before .before .before .before .before) in
+    (g .before .before .loop .at < g .file-next .result .next) × (g .file-next .result .next ≤ length (page (c .before .before .before .before .before)))
+moves c =
+    let o = f (c .before .before .before .before .before) .file-next .ensures .1 in
+    let m : f (c .before .before .before .before .before) .before .before .loop .at < f (c .before .before .before .before .before) .file-next .result .next = omega (arith, o .0, c .if2 .left) in
+    (m, o .1 m)
+
 loop-less : tie.Need-loop-less Inv-loop μ-loop
-loop-less c =
-    let f = c .before .before .before .before .before .before in
-    let o = f .file-next .ensures .1 in
-    let m : f .before .before .loop .at < f .file-next .result .next = omega (arith, o .0, c .if2 .left) in
-    omega (arith, m, o .1 m)
+loop-less c = let m = moves c in omega (arith, m .0, m .1)
 
 loop-again : tie.Need-loop-again Inv-loop μ-loop
 loop-again c =
-    let f = c .before .before .before .before .before .before in
-    let o = f .file-next .ensures .1 in
-    let l = f .before .before .loop in
-    let m : l .at < f .file-next .result .next = omega (arith, o .0, c .if2 .left) in (
-      o .1 m,
+    let i = c .before .before .before .before in
+    let p = i .before in
+    let l = f p .before .before .loop in
+    let m = moves c in (
+      m .1,
       search needs,
-      stays f,
-      sym (goes-on (now (f .before .before .before .before .before .before .args .page)) (l .at) (l .buf) (l .position) (f .file-next .result) (f .file-next .last .1 .1 .0) (f .file-next .ensures .0)
-          (c .before .before .before .if1 .left) m (o .1 m)) ∙ l .inv .3,
+      stays p,
+      ap (fileFrom (suc (length (page p) - f p .file-next .result .next)) (page p) (f p .file-next .result .next) (left p)) (p .position-after .ensures)
+          ∙ sym (goes-on (page p) (l .at) (l .buf) (l .position) (f p .file-next .result) (left p) (f p .file-next .ensures .0) (ended i (c .before .before .before .if1 .left)) (m .0) (m .1))
+          ∙ l .inv .3,
     )
 
 returns : tie.Need-returns Inv-loop μ-loop
 returns c =
-    let f = c .before .before .before .before in
-    let l = f .before .before .loop in
-    let page = now (f .before .before .before .before .before .before .args .page) in
-    let n = length page - l .at in (
-      ⊎-elim (λ w. sym (ends page (l .at) (l .buf) (l .position) (f .file-next .result) (f .file-next .last .1 .1 .0) (f .file-next .ensures .0) n (w .0 .taken)))
-          (λ w. sym (stops page (l .at) (l .buf) (l .position) (f .file-next .result) (f .file-next .last .1 .1 .0) (f .file-next .ensures .0) n (w .0 .left) (w .3 .taken)))
+    let i = c .before .before in
+    let p = i .before in
+    let l = f p .before .before .loop in
+    let n = length (page p) - l .at in (
+      ap (openPage (left p)) (p .position-after .ensures)
+          ∙ ⊎-elim (λ w. sym (ends (page p) (l .at) (l .buf) (l .position) (f p .file-next .result) (left p) (f p .file-next .ensures .0) n (ended i (w .0 .taken))))
+          (λ w. sym (stops (page p) (l .at) (l .buf) (l .position) (f p .file-next .result) (left p) (f p .file-next .ensures .0) n (ended i (w .0 .left)) (w .3 .taken)))
           (c .before .if1 .came)
           ∙ l .inv .3,
-      stays f,
+      stays p,
     )
 
 pub file-all-spec : {M : Type 1} → statement M
@@ -71,6 +92,8 @@ file-all-spec =
     μ-loop
     (λ c κs. search needs)
     loop-holds
+    (λ c κs. search needs)
+    (λ c κs. search needs)
     (λ c κs. search needs)
     (λ c κs. search needs)
     loop-less

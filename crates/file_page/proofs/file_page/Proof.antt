@@ -1,11 +1,11 @@
--- `file_page::file_page` meets its contract: closing is not refused, and gives a position within the buffer. Assumes nothing.
-use mathlib.Core.Path.{_≡_, sym, _∙_, ap, subst}
+-- `file_page::file_page` meets its contract, and writes a part of the buffer. Assumes nothing.
+use mathlib.Core.Path.{_≡_, sym, _∙_, ap}
 use Prim.Native.Nat.{_≤_}
 use lib.ListN.{length}
 use lib.Seq.{length-take-le}
 use denote.Ref.{now}
 use borrow.Author.Needs.{needs}
-use Rattle.pages.specs.Filing.{Filed}
+use Rattle.pages.specs.Adding.{Call}
 use Rattle.pages.specs.Demand3.{closing}
 use Rattle.filing.specs.Filing.{recordsOf}
 use Rattle.filing.proofs.Closing.{closed-within}
@@ -13,18 +13,18 @@ use Rattle.filing.proofs.Whole.{filed-closing}
 use Rattle.file_page.proofs.file_page.Statement.{statement}
 use Rattle.file_page.proofs.file_page.Tie as tie
 
-within : (c : tie.After-close) → c .close .result .position ≤ length (c .close .last .0)
+within : (c : tie.After-known-told) → c .before .end .given .0 .0 ≤ length (c .before .before .before .before .before .close .last .0)
 within c =
-    let f = c .before .before .before .before .file-all in
-    subst (λ (w : Filed). w .position ≤ length (w .buffer)) (sym (c .close .ensures)) (closed-within (f .last .1 .0) (f .result) (f .ensures .1))
+    let k = c .before .before .before .before .before in
+    let f = k .before .before .before .before .file-all in
+    closed-within (f .last .1 .0) (f .result) (f .ensures .1) (k .close .ensures) (c .before .end .given .1)
 
 -- the buffer after closing
-left : (c : tie.After-close) → c .close .last .0
-    ≡ closing (recordsOf (now (c .before .before .before .before .before .before .before .before .args .page))) (now (c .before .before .before .before .before .before .before .before .args .buf)) .buffer
+left : (c : tie.After-close) → let a = c .before .before .before .before .before .before .before .before .args in c .close .last .0 ≡ closing (recordsOf (now (a .page))) (now (a .buf)) .buffer
 left c =
     let f = c .before .before .before .before in
     let a = f .before .before .before .before .args in
-    ap (λ (w : Filed). w .buffer) (c .close .ensures ∙ filed-closing (now (a .page)) (now (a .buf)) (f .file-all .last .1 .0) (f .file-all .result) (f .file-all .ensures .0))
+    ap (λ (w : Call). w .buffer) (c .close .ensures ∙ filed-closing (now (a .page)) (now (a .buf)) (f .file-all .last .1 .0) (f .file-all .result) (f .file-all .ensures .0))
 
 pub file-page-spec : {M : Type 1} → statement M
 file-page-spec =
@@ -32,12 +32,16 @@ file-page-spec =
     (tie.spec
     (λ c κs. search needs)
     (λ c κs. search needs)
-    (λ c. within (c .before .before))
-    (λ c. sym (length-take-le (c .before .before .before .close .result .position) (c .before .before .before .close .last .0) (within (c .before .before .before))))
+    (λ c. search needs)
+    (λ c. search needs)
+    (λ c. search needs)
+    (λ c. left (c .before .before .before .before))
+    (λ c. within c)
+    (λ c. sym (length-take-le (c .before .before .end .given .0 .0) (c .before .before .before .before .before .before .close .last .0) (within (c .before))))
     (λ c κs. search needs)
     (λ c. search needs)
     (λ c κs. search needs)
     (λ c. search needs)
-    (λ c. left (c .before .before .before .before .before .before .before))
+    (λ c. left (c .before .before .before .before .before .before .before .before .before .before))
     (λ c. search needs)
-    (λ c. left (c .before .before .before .before .before)))
+    (λ c. left (c .before .before .before .before .before .before .before .before)))

@@ -5,25 +5,25 @@ use mathlib.Core.Path.{_≡_}
 use mathlib.Core.Bool.{false}
 use mathlib.Core.List.{List}
 use borrow.Author.Needs.{needs}
-use borrow.Author.Tests.{ne-eqb, le-leb, lt-leb}
+use borrow.Author.Tests.{le-leb, lt-leb}
 use lib.Dec.{leb}
 use lib.ListN.{length, getD}
-use Rattle.flat.specs.Flat.{isFlat}
+use Rattle.flat.specs.Flat.{recordSize, isFlat}
 use Rattle.flat.proofs.is_flat.Statement.{statement}
 use Rattle.flat.proofs.is_flat.Tie as tie
 
 module _ (s : List ℕ) where
-  no-size : (length s ≡ 237 → ⊥) → false ≡ isFlat s
+  no-size : length s < recordSize → false ≡ isFlat s
   unfolding isFlat
-  no-size h = rw (ne-eqb (length s) 237 h)
+  no-size h = rw (lt-leb recordSize (length s) h)
 
-  no-place : length s ≡ 237 → 10 < getD s 0 0 → false ≡ isFlat s
+  no-place : recordSize ≤ length s → 10 < getD s 0 0 → false ≡ isFlat s
   unfolding isFlat
-  no-place e h = rw (e, lt-leb (getD s 0 0) 10 h)
+  no-place e h = rw (le-leb recordSize (length s) e, lt-leb (getD s 0 0) 10 h)
 
-  by-presence : length s ≡ 237 → getD s 0 0 ≤ 10 → leb (getD s 1 0) 1 ≡ isFlat s
+  by-presence : recordSize ≤ length s → getD s 0 0 ≤ 10 → leb (getD s 1 0) 1 ≡ isFlat s
   unfolding isFlat
-  by-presence e h = rw (e, le-leb (getD s 0 0) 10 h)
+  by-presence e h = rw (le-leb recordSize (length s) e, le-leb (getD s 0 0) 10 h)
 
 returns : tie.Need-returns
 returns c = no-size _ (c .if1 .taken)

@@ -1,22 +1,23 @@
 -- `flat::load` meets its contract: what is read at each place is what the definition says.
 -- Assumes nothing.
-use mathlib.Core.Path.{_≡_, _∙_, sym}
+use mathlib.Core.Path.{_∙_, sym}
+use Prim.Native.Nat.{_≤_}
 use native.Mathlib.Omega.{arith}
 use borrow.Author.Tests.{not-true, not-false}
 use borrow.Author.Needs.{needs}
 use lib.ListN.{length}
-use Rattle.flat.specs.Flat.{partyFrom}
+use Rattle.flat.specs.Flat.{recordSize, partyFrom}
 use Rattle.flat.proofs.Laws.{flat-size, loaded, loaded-not}
 use Rattle.flat.proofs.load.Statement.{statement}
 use Rattle.flat.proofs.load.Tie as tie
 
--- past the test there are 237 bytes
-size : (c : tie.Else1) → length (c .before .before .before .args .s .now) ≡ 237
+-- past the test there are enough bytes
+size : (c : tie.Else1) → recordSize ≤ length (c .before .before .before .args .s .now)
 size c = flat-size _ (sym (c .before .is-flat .ensures) ∙ not-false _ (c .if1 .left))
 
 returns : tie.Need-returns
 returns c =
-    rw (c .blank .ensures) (sym (loaded-not _ (sym (c .before .before .is-flat .ensures) ∙ not-true _ (c .before .if1 .taken))))
+    c .blank .ensures ∙ sym (loaded-not _ (sym (c .before .before .is-flat .ensures) ∙ not-true _ (c .before .if1 .taken)))
 
 text-at-requires : tie.Need-text-at-requires
 text-at-requires c κs = omega (arith, size c)
@@ -32,6 +33,9 @@ text-at-requires-4 c κs = omega (arith, size (c .before .before .before))
 
 shared-slice-read-option-at : tie.Need-shared-slice-read-option-at
 shared-slice-read-option-at c = omega (arith, size (c .before .before .before .before .before))
+
+cast-option-at : tie.Need-cast-option-at
+cast-option-at c = omega (arith, c .shared-slice-known2 .given 0)
 
 shared-slice-read-t14 : tie.Need-shared-slice-read-t14
 shared-slice-read-t14 c = omega (arith, size (c .before .before .before .before .before .before .before))
@@ -74,6 +78,7 @@ load-spec =
     text-at-requires-3
     text-at-requires-4
     shared-slice-read-option-at
+    cast-option-at
     (λ c κs. search needs)
     shared-slice-read-t14
     text-at-requires-5

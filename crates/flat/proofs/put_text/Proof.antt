@@ -9,16 +9,17 @@ use lib.ListN.{length, set, length-set}
 use lib.Seq.{paste, paste-zero, paste-suc}
 use Rattle.party.proofs.Values.{is-text}
 use Rattle.flat.specs.Flat.{byteOf}
+use Rattle.party.specs.Text.{textMost}
 use Rattle.flat.proofs.Laws.{text-put}
 use Rattle.flat.proofs.put_text.Statement.{statement}
 use Rattle.flat.proofs.put_text.Tie as tie
 
 abbrev Inv-loop : tie.InvT-loop
 Inv-loop out₀ at t len from i₀ out i =
-    (i ≤ 38) × (length out ≡ length out₀) × (out ≡ paste out₀ from (t .bytes) i)
+    (i ≤ textMost) × (length out ≡ length out₀) × (out ≡ paste out₀ from (t .bytes) i)
 
 abbrev μ-loop : tie.MeasureT-loop
-μ-loop out₀ at t len from i₀ out i = 38 - i
+μ-loop out₀ at t len from i₀ out i = textMost - i
 
 loop-holds : tie.Need-loop-holds Inv-loop μ-loop
 loop-holds c =
@@ -36,7 +37,7 @@ loop-again c =
     let a = at .before .before .before .args in
     let d = set (a .out .now) (a .at) (at .before .byte-of .result) in
     let i = at .loop .i in
-    let size : length (a .t1 .bytes) ≡ 38 = is-text (a .t1) _ (at .before .before .before .good .0) .size in
+    let size : length (a .t1 .bytes) ≡ textMost = is-text (a .t1) _ (at .before .before .before .good .0) .size in
     let room : a .at + 1 + i < length d = omega (arith, length-set (a .out .now) (a .at) (at .before .byte-of .result)) in (
       omega arith,
       simp length-set (simp length-set at (at .loop .inv .1)),
@@ -52,7 +53,7 @@ returns : tie.Need-returns Inv-loop μ-loop
 returns c =
     let at = c .before in
     let a = at .before .before .before .args in
-    let all : at .loop .i ≡ 38 = omega arith in
+    let all : at .loop .i ≡ textMost = omega arith in
     at .loop .inv .2 ∙ rw (all, at .before .byte-of .ensures) (text-put (a .out .now) (a .t1 .bytes) (a .at) (byteOf (a .t1 .len)) (at .before .before .before .pre))
 
 pub put-text-spec : {M : Type 1} → statement M

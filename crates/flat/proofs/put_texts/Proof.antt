@@ -7,14 +7,14 @@ use lib.ListN.{length, take}
 use lib.Seq.{paste, paste-zero, take-all}
 use Rattle.party.specs.declared.Text.{Text}
 use Rattle.party.proofs.Values.{is-party}
-use Rattle.flat.specs.Flat.{flatText, flatTexts, textsOf}
+use Rattle.flat.specs.Flat.{flatText, flatTexts, textsOf, textSize}
 use Rattle.flat.proofs.Laws.{paste-more, text-in, sizes, six}
 use Rattle.flat.proofs.put_texts.Statement.{statement}
 use Rattle.flat.proofs.put_texts.Tie as tie
 
 abbrev Inv-loop : tie.InvT-loop
 Inv-loop p out₀ n₀ at₀ out n at =
-    (n ≤ 6) × (at ≡ 3 + 39 * n) × (length out ≡ length out₀) × (out ≡ paste out₀ 3 (flatTexts (textsOf p)) (39 * n))
+    (n ≤ 6) × (at ≡ 3 + textSize * n) × (length out ≡ length out₀) × (out ≡ paste out₀ 3 (flatTexts (textsOf p)) (textSize * n))
 
 abbrev μ-loop : tie.MeasureT-loop
 μ-loop p out₀ n₀ at₀ out n at = 6 - n
@@ -32,10 +32,10 @@ loop-again c =
     let n = at .loop .n in
     let whole = is-party p _ (start .good .0) in
     let inside : n < length (textsOf p) = omega (arith, whole .size) in
-    let next : 39 * (n + 1) ≡ 39 * n + 39 = omega arith in
+    let next : textSize * (n + 1) ≡ textSize * n + textSize = omega arith in
     let text = put .before .before .nth-text .ensures in
-    let same = ap (λ (t : Text). take 39 (flatText t)) text ∙ (take-all 39 _ (omega (arith, sizes p whole n inside)) ∙ sym (text-in (textsOf p) n (sizes p whole) inside)) in
-    let more = paste-more d (flatTexts (textsOf p)) (flatText (put .before .before .nth-text .result)) 3 (39 * n) 39 (omega arith) (omega (arith, six p (whole .size) (sizes p whole))) same in (
+    let same = ap (λ (t : Text). take textSize (flatText t)) text ∙ (take-all textSize _ (omega (arith, sizes p whole n inside)) ∙ sym (text-in (textsOf p) n (sizes p whole) inside)) in
+    let more = paste-more d (flatTexts (textsOf p)) (flatText (put .before .before .nth-text .result)) 3 (textSize * n) textSize (omega arith) (omega (arith, six p (whole .size) (sizes p whole))) same in (
       omega arith,
       omega arith,
       put .put-text .kept .1 .0 ∙ at .loop .inv .2,
@@ -47,7 +47,7 @@ same-length c = c .before .loop .inv .2
 
 returns : tie.Need-returns Inv-loop μ-loop
 returns c =
-    let all : 39 * c .before .loop .n ≡ 234 = omega arith in
+    let all : textSize * c .before .loop .n ≡ 6 * textSize = omega arith in
     rw all at (c .before .loop .inv .3)
 
 pub put-texts-spec : {M : Type 1} → statement M

@@ -6,17 +6,19 @@ use borrow.Author.Needs.{needs}
 use borrow.Author.Tests.{le-leb, lt-leb}
 use lib.ListN.{length, length-set}
 use Rattle.party.proofs.Values.{is-party}
-use Rattle.flat.proofs.Laws.{place-small, stored-whole, stored-none, store-all}
+use Rattle.flat.specs.Flat.{recordSize}
+use Rattle.party.proofs.Options.{place-most}
+use Rattle.flat.proofs.Laws.{stored-whole, stored-none, store-all}
 use Rattle.flat.proofs.store.Statement.{statement}
 use Rattle.flat.proofs.store.Tie as tie
 
 returns : tie.Need-returns
 returns c =
     let d = c .before .before .args .out .now in
-    (sym (lt-leb 237 (length d) (c .if1 .taken)), sym (stored-none (c .before .before .args .p) d (c .if1 .taken)))
+    (sym (lt-leb recordSize (length d) (c .if1 .taken)), sym (stored-none (c .before .before .args .p) d (c .if1 .taken)))
 
 cast-out : tie.Need-cast-out
-cast-out c = omega (arith, c .index-of .ensures, place-small (c .before .before .before .args .p .option))
+cast-out c = omega (arith, c .index-of .ensures, place-most (c .before .before .before .args .p .option))
 
 slice-write-out-2 : tie.Need-slice-write-out-2
 slice-write-out-2 c = simp length-set (omega arith)
@@ -40,7 +42,7 @@ returns-2 c =
     let p = start .args .p in
     let d = start .args .out .now in
     let room = option .before .if1 .left in (
-      sym (le-leb 237 (length d) room),
+      sym (le-leb recordSize (length d) room),
       put .put-texts .ensures
           ∙ rw (option .index-of .ensures, present .bit .ensures, count .byte-of .ensures) (store-all p d (is-party p _ (start .good .0)) room)
           ∙ sym (stored-whole p d room),

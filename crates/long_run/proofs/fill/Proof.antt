@@ -31,6 +31,7 @@ fill-spec =
     (λ c κs. search needs)
     (λ c κs. search needs)
     (λ c κs. search needs)
+    (λ c κs. search needs)
     (λ c. search needs)
     (λ c. omega (arith, below c))
     (λ c. (omega (arith, below c), search needs))

@@ -10,12 +10,12 @@ use borrow.Author.Needs.{needs}
 use borrow.Author.Tests.{leb-true, not-true, not-false}
 use Rattle.party.specs.declared.Party.{Party}
 use Rattle.party.specs.Party.{said}
-use Rattle.writer.specs.Writing.{writtenField, put}
+use Rattle.writer.specs.Writing.{writtenField, fieldMost}
 use Rattle.writer.specs.Given.{isGiven}
-use Rattle.pages.specs.declared.Filed.{Filed as FiledAt}
+use Rattle.writer.proofs.Puts.{puts-as}
 use Rattle.pages.specs.Pages.{pageMost}
-use Rattle.pages.specs.Filing.{isCarried, writable, hasSpace, withLf, toldFiled}
-use Rattle.pages.proofs.Filings.{add-21, add-22, add-23, add-24, add-filed, field-most, room-length, room-field, filed-as}
+use Rattle.pages.specs.Adding.{isCarried, writable, hasSpace, withLf}
+use Rattle.pages.proofs.Addings.{add-21, add-22, add-23, add-24, add-filed, field-most, room-length, room-field, put-filed}
 use Rattle.pages.proofs.add.Statement.{statement}
 use Rattle.pages.proofs.add.Tie as tie
 
@@ -55,14 +55,14 @@ module _ (t : tie.After-put-field) where
   size-is : size ≡ length (writtenField (said p))
   size-is = t .before .before .written-length .ensures
 
-  size-most : size ≤ 188
+  size-most : size ≤ fieldMost
   size-most = omega (arith, size-is, field-most p given)
 
-  room-size : length room ≡ 188
-  room-size = room-length p given (replicate 188 0) room (length-replicate {A = ℕ} 188 0) (t .put-field .ensures .1)
+  room-size : length room ≡ fieldMost
+  room-size = room-length p given (replicate fieldMost 0) room (length-replicate {A = ℕ} fieldMost 0) (t .put-field .ensures .1)
 
   written : take size room ≡ writtenField (said p)
-  written = ap (λ (k : ℕ). take k room) size-is ∙ room-field p given (replicate 188 0) room (length-replicate {A = ℕ} 188 0) (t .put-field .ensures .1)
+  written = ap (λ (k : ℕ). take k room) size-is ∙ room-field p given (replicate fieldMost 0) room (length-replicate {A = ℕ} fieldMost 0) (t .put-field .ensures .1)
 
 -- what the other tests say
 carried-at : (c : tie.After-is-carried) {t : Bool} → c .is-carried .result ≡ t → isCarried (said (p (c .before .before .before))) ≡ t
@@ -82,15 +82,13 @@ space-at e =
 
 returns : tie.Need-returns
 returns c =
-    let a = c .before .before .before .before .before .args in
-    ap (λ (w : FiledAt). toldFiled w (now (a .buf))) (c .refuse-at .ensures)
-    ∙ sym (add-21 (now (a .buf)) (a .at) (said (a .p)) (sym (c .before .before .is-writable .ensures) ∙ not-true _ (c .before .if1 .taken)))
+    let a = c .before .before .before .before .args in
+    sym (add-21 (now (a .buf)) (a .at) (said (a .p)) (sym (c .before .is-writable .ensures) ∙ not-true _ (c .if1 .taken)))
 
 returns-2 : tie.Need-returns-2
 returns-2 c =
-    let a = c .before .before .before .before .before .before .before .args in
-    ap (λ (w : FiledAt). toldFiled w (now (a .buf))) (c .refuse-at2 .ensures)
-    ∙ sym (add-22 (now (a .buf)) (a .at) (said (a .p)) (writable-at (c .before .before .before)) (sym (c .before .before .is-given .ensures) ∙ not-true _ (c .before .if2 .taken)))
+    let a = c .before .before .before .before .before .before .args in
+    sym (add-22 (now (a .buf)) (a .at) (said (a .p)) (writable-at (c .before .before)) (sym (c .before .is-given .ensures) ∙ not-true _ (c .if2 .taken)))
 
 array-share-prefix-room : tie.Need-array-share-prefix-room
 array-share-prefix-room c = omega (arith, size-most (c .before), room-size (c .before))
@@ -103,21 +101,19 @@ is-carried-requires c κs = written (c .before .before)
 
 returns-3 : tie.Need-returns-3
 returns-3 c =
-    let k = c .before .before in
+    let k = c .before in
     let f = k .before .before .before in
-    ap (λ (w : FiledAt). toldFiled w (buffer f)) (c .refuse-at3 .ensures)
-    ∙ sym (add-23 (buffer f) (at f) (said (p f)) (writable-here f) (given f) (carried-at k (not-true _ (c .before .if3 .taken))))
+    sym (add-23 (buffer f) (at f) (said (p f)) (writable-here f) (given f) (carried-at k (not-true _ (c .if3 .taken))))
 
 add-has-space : tie.Need-add-has-space
 add-has-space c = omega (arith, size-most (c .before .before .before .before))
 
 returns-4 : tie.Need-returns-4
 returns-4 c =
-    let s = c .before .before in
+    let s = c .before in
     let k = s .before .before in
     let f = k .before .before .before in
-    ap (λ (w : FiledAt). toldFiled w (buffer f)) (c .refuse-at4 .ensures)
-    ∙ sym (add-24 (buffer f) (at f) (said (p f)) (writable-here f) (given f) (carried-at k (not-false _ (s .before .if3 .left))) (tested s (not-true _ (c .before .if4 .taken))))
+    sym (add-24 (buffer f) (at f) (said (p f)) (writable-here f) (given f) (carried-at k (not-false _ (s .before .if3 .left))) (tested s (not-true _ (c .if4 .taken))))
 
 array-share-prefix-room-2 : tie.Need-array-share-prefix-room-2
 array-share-prefix-room-2 c = let f = c .before .before .before .before .before .before .before in omega (arith, size-most f, room-size f)
@@ -134,13 +130,11 @@ put-line-requires c κs =
 
 returns-5 : tie.Need-returns-5
 returns-5 c =
-    let l = c .before .before .before in
+    let l = c .before .before in
     let s = l .before .before .before .before in
     let k = s .before .before in
     let f = k .before .before .before in
-    let e = written f in
-    ap (λ (w : FiledAt). toldFiled w (l .put-line .last .0)) (c .accept-at .ensures)
-    ∙ filed-as (l .put-line .ensures .ends ∙ ap (λ (x : List ℕ). at f + length (withLf x)) e) (l .put-line .ensures .bytes ∙ ap (λ (x : List ℕ). put (buffer f) (at f) (withLf x)) e)
+    put-filed (puts-as (ap withLf (written f)) (l .put-line .ensures))
     ∙ sym (add-filed (buffer f) (at f) (said (p f)) (writable-here f) (given f) (carried-at k (not-false _ (s .before .if3 .left))) (tested s (not-false _ (l .before .before .before .if4 .left))))
 
 pub add-spec : {M : Type 1} → statement M
@@ -148,10 +142,8 @@ add-spec =
     tie.close
     (tie.spec
     (λ c κs. search needs)
-    (λ c κs. search needs)
     (λ c. search needs)
     returns
-    (λ c κs. search needs)
     (λ c κs. search needs)
     (λ c. search needs)
     returns-2
@@ -161,17 +153,14 @@ add-spec =
     array-share-prefix-room
     slice-aggregate-is-carried
     is-carried-requires
-    (λ c κs. search needs)
     (λ c. search needs)
     returns-3
     add-has-space
-    (λ c κs. search needs)
     (λ c κs. search needs)
     (λ c. search needs)
     returns-4
     array-share-prefix-room-2
     slice-aggregate-put-line
     put-line-requires
-    (λ c κs. search needs)
     (λ c. search needs)
     returns-5)

@@ -10,13 +10,13 @@ use Rattle.swift_utils.proofs.Parts.{part}
 use Rattle.writer.specs.Writing.{pieces}
 use Rattle.writer.specs.ReadBack.{endsCr}
 use Rattle.pages.specs.Pages.{lineAt, opens, endsPage}
-use Rattle.pages.specs.Code.{areCarried}
+use Rattle.pages.specs.Code.{linesCarried}
 use Rattle.pages.proofs.Carried.{carried-last, carried-lf, empty-is}
 use Rattle.pages.proofs.are_carried.Statement.{statement}
 use Rattle.pages.proofs.are_carried.Tie as tie
 
 abbrev Inv-loop : tie.InvT-loop
-Inv-loop body i₀ i = (areCarried (pieces body) ≡ areCarried (pieces (drop i body))) × (i ≤ length body)
+Inv-loop body i₀ i = (linesCarried (pieces body) ≡ linesCarried (pieces (drop i body))) × (i ≤ length body)
 
 abbrev μ-loop : tie.MeasureT-loop
 μ-loop body i₀ i = length body - i
@@ -24,7 +24,7 @@ abbrev μ-loop : tie.MeasureT-loop
 -- the pieces from the start, by the piece that an LF ends
 by-lf : (f : tie.After-find-lf Inv-loop μ-loop) {x y z : Bool} → let b = now (f .before .before .before .args .body) in let lf = f .find-lf .result in
     lf < length b → endsCr (part (f .before .loop .i) lf b) ≡ x → opens (lineAt (drop (lf + 1) b)) ≡ y → endsPage (lineAt (drop (lf + 1) b)) ≡ z
-    → areCarried (pieces b) ≡ (not x && not (y || z) && areCarried (pieces (drop (lf + 1) b)))
+    → linesCarried (pieces b) ≡ (not x && not (y || z) && linesCarried (pieces (drop (lf + 1) b)))
 by-lf f h p q r =
     let b = now (f .before .before .before .args .body) in
     let lf = f .find-lf .result in

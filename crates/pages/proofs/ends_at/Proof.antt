@@ -4,7 +4,7 @@ use native.Mathlib.Numerals.{add-one}
 use native.Mathlib.Omega.{arith}
 use denote.Ref.{now}
 use borrow.Author.Needs.{needs}
-use Rattle.pages.proofs.Places.{ends-none, ends-other, ends-last, ends-lf}
+use Rattle.pages.proofs.Cases.{ends-none, ends-other, ends-last, ends-lf}
 use Rattle.pages.proofs.ends_at.Statement.{statement}
 use Rattle.pages.proofs.ends_at.Tie as tie
 

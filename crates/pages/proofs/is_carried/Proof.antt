@@ -9,8 +9,8 @@ use borrow.Author.Needs.{needs}
 use Rattle.party.specs.Party.{said}
 use Rattle.swift_utils.proofs.Parts.{part-end}
 use Rattle.writer.specs.Writing.{pieces}
-use Rattle.pages.specs.Code.{areCarried}
-use Rattle.pages.proofs.Filings.{carried-identified, carried-pieces, tag-within, field-body}
+use Rattle.pages.specs.Code.{linesCarried}
+use Rattle.pages.proofs.Addings.{carried-identified, carried-pieces, tag-within, field-body}
 use Rattle.pages.proofs.is_carried.Statement.{statement}
 use Rattle.pages.proofs.is_carried.Tie as tie
 
@@ -36,7 +36,7 @@ returns-2 c =
     let s = e .before .before .before in
     let p = s .args .p in
     c .are-carried .ensures
-    ∙ ap (λ (b : List ℕ). areCarried (pieces b)) (part-end (now (s .args .field)) (t .tag-length .result) ∙ ap (λ (k : ℕ). drop k (now (s .args .field))) (t .tag-length .ensures) ∙ field-body p (s .pre))
+    ∙ ap (λ (b : List ℕ). linesCarried (pieces b)) (part-end (now (s .args .field)) (t .tag-length .result) ∙ ap (λ (k : ℕ). drop k (now (s .args .field))) (t .tag-length .ensures) ∙ field-body p (s .pre))
     ∙ sym (carried-pieces (said p) (sym (e .before .is-identified-59f .ensures) ∙ e .if1 .left))
 
 pub is-carried-spec : {M : Type 1} → statement M

@@ -3,7 +3,7 @@ use mathlib.Core.Path.{sym}
 use native.Mathlib.Omega.{arith}
 use denote.Ref.{now}
 use borrow.Author.Needs.{needs}
-use Rattle.pages.proofs.Places.{readable-past, readable-end, readable-zero, readable-lf}
+use Rattle.pages.proofs.Cases.{readable-past, readable-end, readable-zero, readable-lf}
 use Rattle.pages.proofs.is_readable.Statement.{statement}
 use Rattle.pages.proofs.is_readable.Tie as tie
 

@@ -3,7 +3,7 @@ use mathlib.Core.Path.{sym}
 use native.Mathlib.Omega.{arith}
 use denote.Ref.{now}
 use borrow.Author.Needs.{needs}
-use Rattle.pages.proofs.Places.{opens-none, opens-first}
+use Rattle.pages.proofs.Cases.{opens-none, opens-first}
 use Rattle.pages.proofs.opens_at.Statement.{statement}
 use Rattle.pages.proofs.opens_at.Tie as tie
 

@@ -1,62 +1,18 @@
--- `pages::put_line` meets its contract. The loop's invariant: the bytes passed are copied, and no others. Assumes nothing.
-use Prim.Native.Nat.{_+_, _-_, _≤_}
-use mathlib.Core.Path.{_≡_, refl, _∙_}
-use native.Mathlib.Numerals.{add-one}
-use native.Mathlib.Omega.{arith}
+-- `pages::put_line` meets its contract: the text fits, and its LF after it. Assumes nothing.
 use denote.Ref.{now}
-use lib.ListN.{length, getD, length-set}
-use lib.Seq.{paste, paste-zero, paste-suc}
-use Rattle.pages.proofs.Filings.{line-puts}
+use borrow.Author.Needs.{needs}
+use Rattle.pages.proofs.Addings.{line-puts}
 use Rattle.pages.proofs.put_line.Statement.{statement}
 use Rattle.pages.proofs.put_line.Tie as tie
 
-abbrev Inv-loop : tie.InvT-loop
-Inv-loop buf₀ at text i₀ buf i = (i ≤ length text) × (length buf ≡ length buf₀) × (buf ≡ paste buf₀ at text i)
-
-abbrev μ-loop : tie.MeasureT-loop
-μ-loop buf₀ at text i₀ buf i = length text - i
-
-loop-holds : tie.Need-loop-holds Inv-loop μ-loop
-loop-holds c =
-    let a = c .args in
-    (omega arith, refl, paste-zero (now (a .buf)) (a .at) (now (a .text)))
-
-loop-again : tie.Need-loop-again Inv-loop μ-loop
-loop-again c =
-    let k = c .before .before in
-    let a = k .before .args in
-    let s = now (a .text) in
-    let i = k .loop .i in
-    let more = paste-suc (now (a .buf)) (a .at) s i 0 (omega arith) (omega arith) in
-    (omega arith, length-set (k .loop .buf) (a .at + i) (getD s i 0) ∙ k .loop .inv .1, rw (add-one, k .loop .inv .2) more)
-
-same-length : tie.Need-same-length Inv-loop μ-loop
-same-length c =
-    let k = c .before in
-    length-set (k .loop .buf) (k .before .args .at + k .loop .i) 10 ∙ k .loop .inv .1
-
-returns : tie.Need-returns Inv-loop μ-loop
+returns : tie.Need-returns
 returns c =
-    let k = c .before in
-    let a = k .before .args in
-    let e : k .loop .i ≡ length (now (a .text)) = omega arith in
-    line-puts (now (a .buf)) (a .at) (now (a .text)) (k .before .pre) e (k .loop .inv .2)
+    let t = c .before .before in
+    let s = t .before .before .before .before in
+    let a = s .args in
+    line-puts (now (a .buf)) (a .at) (now (a .text)) (s .pre) (t .put-text .ensures .1)
 
 pub put-line-spec : {M : Type 1} → statement M
 put-line-spec =
     tie.close
-    (tie.spec
-    Inv-loop
-    μ-loop
-    loop-holds
-    (λ c. omega arith)
-    (λ c. omega arith)
-    (λ c. omega arith)
-    (λ c. omega arith)
-    (λ c. omega arith)
-    loop-again
-    (λ c. omega arith)
-    (λ c. omega arith)
-    (λ c. omega arith)
-    same-length
-    returns)
+    (tie.spec (λ c κs. search needs) (λ c. search needs) (λ c. search needs) (λ c. search needs) (λ c. search needs) returns)

@@ -1,33 +1,36 @@
 -- `pages::read_field` meets its contract. Assumes nothing.
-use mathlib.Core.Path.{sym, _∙_, ap}
-use mathlib.Core.Bool.{false}
-use mathlib.Core.List.{[]}
+use mathlib.Core.Path.{_≡_, refl, sym, _∙_, ap}
 use lib.ListN.{drop}
 use denote.Ref.{now}
 use borrow.Author.Needs.{needs}
-use Rattle.reader.specs.Reading.{Reading}
 use Rattle.reader.specs.Options.{read}
-use Rattle.pages.specs.declared.PageRead.{PageRead as Read}
-use Rattle.pages.specs.Pages.{PageRead, toldRead}
+use Rattle.pages.specs.declared.ReadOutcome.{ReadOutcome}
+use Rattle.pages.specs.declared.ReadOutcome.the-variants.{Record, Refused}
+use Rattle.pages.specs.Pages.{outcomeOf, toldOutcome, readField}
 use Rattle.pages.specs.Code.{toldTag}
-use Rattle.pages.proofs.Places.{tagged-told}
+use Rattle.errors.specs.declared.Outcome.{Outcome}
+use Rattle.errors.specs.Refusals.{told}
+use Rattle.pages.proofs.Cases.{Tells, tells-refusal, tagged-tells, answer-tells}
 use Rattle.pages.proofs.read_field.Statement.{statement}
 use Rattle.pages.proofs.read_field.Tie as tie
+
+-- what the option's reader said, as the read's outcome
+by-reader : (c : tie.After-read) (x : ReadOutcome) {w : Outcome} → c .read .result .outcome ≡ w → toldOutcome x (c .read .result .party) ≡ outcomeOf (told w) (c .read .result .party)
+    → let a = c .before .before .before .before .before .before .before .args in
+    Tells (record { outcome = x; party = c .read .result .party; next = a .next }) (readField (now (a .text)) (a .next))
+by-reader c x e h =
+    let t = c .before .before .before in
+    let a = t .before .before .before .before .args in
+    let v = t .tag .given .0 in
+    tagged-tells (now (a .text)) (a .next) (ap (toldTag (now (a .text))) (sym (t .tag .given .1)) ∙ t .before .before .parse-tag .ensures)
+    (record { outcome = x; party = c .read .result .party; next = a .next })
+    (answer-tells (v .0) (drop (v .1 .0) (now (a .text))) (a .next) (c .read .result) x (c .read .ensures ∙ ap (read (v .0)) (c .before .behind .ensures)) e h)
 
 returns : tie.Need-returns
 returns c =
     let a = c .before .before .before .before .before .args in
-    tagged-told (now (a .text)) (a .next) (ap (toldTag (now (a .text))) (sym (c .before .enum-told .given .1)) ∙ c .before .before .before .parse-tag .ensures) (c .refuse .result)
-    (ap (λ (w : Read). toldRead w []) (c .refuse .ensures))
-
-returns-2 : tie.Need-returns-2
-returns-2 c =
-    let a = c .before .before .before .before .before .before .before .before .args in
-    let v = c .before .before .before .before .tag .given .0 in
-    let q = c .before .read .ensures ∙ ap (read (v .0)) (c .before .before .behind .ensures) in
-    tagged-told (now (a .text)) (a .next) (ap (toldTag (now (a .text))) (sym (c .before .before .before .before .tag .given .1)) ∙ c .before .before .before .before .before .before .parse-tag .ensures)
-    (record { ended = false; outcome = c .before .read .result .outcome; party = c .before .read .result .party; next = a .next })
-    (ap {B = PageRead} (λ (w : Reading). record { ended = false; reading = w; body = drop (v .1 .0) (now (a .text)); next = a .next }) q)
+    tagged-tells (now (a .text)) (a .next) (ap (toldTag (now (a .text))) (sym (c .before .enum-told .given .1)) ∙ c .before .before .before .parse-tag .ensures) (c .refuse .result)
+    (tells-refusal (c .refuse .ensures))
 
 pub read-field-spec : {M : Type 1} → statement M
 read-field-spec =
@@ -40,4 +43,7 @@ read-field-spec =
     returns
     (λ c κs. search needs)
     (λ c κs. search needs)
-    returns-2)
+    (λ c. search needs)
+    (λ c. search needs)
+    (λ c. by-reader (c .before .before .before) Record (c .enum-told2 .given .1) refl)
+    (λ c. by-reader (c .before .before .before .before) (Refused (c .before .outcome .given .0 .0)) (c .before .outcome .given .1) refl))

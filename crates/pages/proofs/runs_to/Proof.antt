@@ -7,7 +7,7 @@ use lib.ListN.{length, drop}
 use denote.Ref.{now}
 use borrow.Author.Needs.{needs}
 use Rattle.pages.specs.Pages.{runs}
-use Rattle.pages.proofs.Places.{to-end, to-lf, to-more, followed-none, followed-mark}
+use Rattle.pages.proofs.Cases.{to-end, to-lf, to-more, followed-none, followed-line}
 use Rattle.pages.proofs.runs_to.Statement.{statement}
 use Rattle.pages.proofs.runs_to.Tie as tie
 
@@ -40,7 +40,7 @@ returns-3 c =
     let a = f .before .before .before .args in
     let lf = f .find-lf .result in
     to-lf (now (a .page)) (f .before .loop .i) lf (f .find-lf .ensures) (f .before .loop .inv .1) (omega arith)
-    (followed-mark (now (a .page)) (lf + 1) (omega arith) (sym (c .before .opens-at .ensures) ∙ c .if3 .taken) refl)
+    (followed-line (now (a .page)) (lf + 1) (omega arith) (sym (c .before .opens-at .ensures) ∙ c .if3 .taken) refl)
     ∙ sym (f .before .loop .inv .0)
 
 returns-4 : tie.Need-returns-4 Inv-loop μ-loop
@@ -49,7 +49,7 @@ returns-4 c =
     let a = f .before .before .before .args in
     let lf = f .find-lf .result in
     to-lf (now (a .page)) (f .before .loop .i) lf (f .find-lf .ensures) (f .before .loop .inv .1) (omega arith)
-    (followed-mark (now (a .page)) (lf + 1) (omega arith) (sym (c .before .before .before .opens-at .ensures) ∙ c .before .before .if3 .left) (sym (c .before .ends-at .ensures) ∙ c .if4 .taken))
+    (followed-line (now (a .page)) (lf + 1) (omega arith) (sym (c .before .before .before .opens-at .ensures) ∙ c .before .before .if3 .left) (sym (c .before .ends-at .ensures) ∙ c .if4 .taken))
     ∙ sym (f .before .loop .inv .0)
 
 loop-less : tie.Need-loop-less Inv-loop μ-loop
@@ -64,7 +64,7 @@ loop-again c =
     let lf = f .find-lf .result in (
       f .before .loop .inv .0
           ∙ to-more (now (a .page)) (f .before .loop .i) lf (f .find-lf .ensures) (f .before .loop .inv .1) (omega arith)
-          (followed-mark (now (a .page)) (lf + 1) (omega arith) (sym (c .before .before .before .opens-at .ensures) ∙ c .before .before .if3 .left) (sym (c .before .ends-at .ensures) ∙ c .if4 .left)),
+          (followed-line (now (a .page)) (lf + 1) (omega arith) (sym (c .before .before .before .opens-at .ensures) ∙ c .before .before .if3 .left) (sym (c .before .ends-at .ensures) ∙ c .if4 .left)),
       omega arith,
     )
 

@@ -6,17 +6,17 @@ use native.Mathlib.Omega.{arith}
 use borrow.Author.Tests.{ltb-true, ltb-false}
 use lib.ListN.{length, take}
 use Rattle.party.specs.declared.Text.{Text}
-use Rattle.party.specs.Text.{Used, used}
+use Rattle.party.specs.Text.{Used, used, textMost}
 use Rattle.party.proofs.Values.{is-text}
 use Rattle.party.proofs.Laws.{holds, fails, used-of, used-to, agree-more, agree-not, agree-all}
 use Rattle.party.proofs.same_text.Statement.{statement}
 use Rattle.party.proofs.same_text.Tie as tie
 
 abbrev Inv-loop : tie.InvT-loop
-Inv-loop t u len i₀ i = (i ≤ 38) × (i ≤ len) × (take i (t .bytes) ≡ take i (u .bytes))
+Inv-loop t u len i₀ i = (i ≤ textMost) × (i ≤ len) × (take i (t .bytes) ≡ take i (u .bytes))
 
 abbrev μ-loop : tie.MeasureT-loop
-μ-loop t u len i₀ i = 38 - i
+μ-loop t u len i₀ i = textMost - i
 
 module _ (c : tie.At-loop Inv-loop μ-loop) where
   abbrev t : Text
@@ -25,14 +25,14 @@ module _ (c : tie.At-loop Inv-loop μ-loop) where
   abbrev u : Text
   u = c .before .before .args .t2
 
-  t-size : length (t .bytes) ≡ 38
+  t-size : length (t .bytes) ≡ textMost
   t-size = is-text t _ (c .before .before .good .0) .size
 
-  u-size : length (u .bytes) ≡ 38
+  u-size : length (u .bytes) ≡ textMost
   u-size = is-text u _ (c .before .before .good .1 .0) .size
 
   -- where the loop is left, all used bytes are passed
-  ended : c .loop .i ≡ min (t .len) 38 → used t ≡ used u
+  ended : c .loop .i ≡ min (t .len) textMost → used t ≡ used u
   ended h =
       let sizes : length (t .bytes) ≡ length (u .bytes) = t-size ∙ sym u-size in
       used-of t u (c .before .if1 .left)

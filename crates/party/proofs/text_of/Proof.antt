@@ -5,20 +5,20 @@ use mathlib.Core.Path.{_≡_, refl}
 use native.Mathlib.Omega.{arith}
 use borrow.Author.Tests.{ltb-true, ltb-false}
 use lib.ListN.{length, take}
-use Rattle.party.specs.Text.{padded, textOf}
+use Rattle.party.specs.Text.{padded, textOf, textMost}
 use Rattle.party.proofs.Laws.{padded-more, padded-all}
 use Rattle.party.proofs.text_of.Statement.{statement}
 use Rattle.party.proofs.text_of.Tie as tie
 
 abbrev Inv-loop : tie.InvT-loop
-Inv-loop s bytes₀ i₀ bytes i = (i ≤ 38) × (i ≤ length s) × (bytes ≡ padded (take i s))
+Inv-loop s bytes₀ i₀ bytes i = (i ≤ textMost) × (i ≤ length s) × (bytes ≡ padded (take i s))
 
 abbrev μ-loop : tie.MeasureT-loop
-μ-loop s bytes₀ i₀ bytes i = 38 - i
+μ-loop s bytes₀ i₀ bytes i = textMost - i
 
 -- where the loop is left, the text is that of the slice
 ended :
-    (c : tie.At-loop Inv-loop μ-loop) → c .loop .i ≡ min 38 (length (c .before .args .s .now)) →
+    (c : tie.At-loop Inv-loop μ-loop) → c .loop .i ≡ min textMost (length (c .before .args .s .now)) →
     (record { bytes = c .loop .bytes; len = c .loop .i }) ≡ textOf (c .before .args .s .now)
 ended c h = rw (c .loop .inv .2) (padded-all (c .before .args .s .now) (c .loop .i) h)
 

@@ -1,15 +1,13 @@
 -- `reader::read` meets its contract, by the layout. Assumes nothing.
 use mathlib.Core.Path.{_≡_, sym, _∙_, ap}
-use mathlib.Core.List.{List}
-use Prim.Native.Nat.{ℕ}
 use denote.Ref.{now}
 use Rattle.errors.specs.Refusals.{accepted, told}
-use Rattle.party.specs.declared.PartyOption.{PartyOption}
-use Rattle.reader.specs.declared.Layout.{Layout}
+use Rattle.party.specs.declared.Layout.{Layout}
+use Rattle.party.specs.declared.Limits.{Limits}
 use Rattle.reader.specs.Reading.{toldAnswer}
-use Rattle.reader.specs.Options.{layoutOf, foundBy, bodyReply, read}
+use Rattle.reader.specs.Options.{foundBy, bodyReply, read}
 use Rattle.reader.specs.Code.{readingOf}
-use Rattle.reader.proofs.Bodies.{body-refused, body-passed, body-length}
+use Rattle.reader.proofs.Bodies.{body-refused, body-passed}
 use borrow.Author.Needs.{needs}
 use Rattle.reader.proofs.read.Statement.{statement}
 use Rattle.reader.proofs.read.Tie as tie
@@ -19,8 +17,12 @@ passed : (c : tie.After-enum-told) → bodyReply (now (c .before .before .before
 passed c = sym (c .before .before .parse-body .ensures) ∙ ap told (c .enum-told .given .1)
 
 -- what the option finds, by its layout
-by : (o : PartyOption) (body : List ℕ) {k m : Layout} → k ≡ layoutOf o → k ≡ m → bodyReply body ≡ accepted → readingOf o (foundBy m o body) ≡ read o body
-by o body e f q = ap (λ (w : Layout). readingOf o (foundBy w o body)) (sym f ∙ e) ∙ sym (body-passed o body q)
+by : (g : tie.After-limits-of) {k : Layout} → g .limits-of .result .layout ≡ k → let a = g .before .before .before .before .before .args in
+    readingOf (a .option) (foundBy k (a .option) (now (a .body))) ≡ read (a .option) (now (a .body))
+by g e =
+    let a = g .before .before .before .before .before .args in
+    ap (λ (w : Layout). readingOf (a .option) (foundBy w (a .option) (now (a .body)))) (sym e ∙ ap (λ (m : Limits). m .layout) (g .limits-of .ensures))
+    ∙ sym (body-passed (a .option) (now (a .body)) (passed (g .before)))
 
 returns : tie.Need-returns
 returns c =
@@ -28,26 +30,14 @@ returns c =
     let a = p .before .before .args in
     ap toldAnswer (c .refuse .ensures) ∙ sym (body-refused (a .option) (now (a .body)) (c .before .before .outcome .given .0 .0) (sym (p .parse-body .ensures) ∙ ap told (c .before .before .outcome .given .1)))
 
-read-lines-requires : tie.Need-read-lines-requires
-read-lines-requires c κs = body-length (now (c .before .before .before .before .before .before .before .args .body)) (passed (c .before .before .before))
-
 returns-2 : tie.Need-returns-2
-returns-2 c =
-    let g = c .before .before .before in
-    let a = g .before .before .before .before .before .args in
-    c .read-bic-only .ensures ∙ by (a .option) (now (a .body)) (g .layout-of .ensures) (c .before .enum-told2 .given .1) (passed (g .before))
+returns-2 c = c .read-bic-only .ensures ∙ by (c .before .before .before) (c .before .enum-told2 .given .1)
 
 returns-3 : tie.Need-returns-3
-returns-3 c =
-    let g = c .before .before .before in
-    let a = g .before .before .before .before .before .args in
-    c .read-text-only .ensures ∙ by (a .option) (now (a .body)) (g .layout-of .ensures) (c .before .enum-told3 .given .1) (passed (g .before))
+returns-3 c = c .read-text-only .ensures ∙ by (c .before .before .before) (c .before .enum-told3 .given .1)
 
 returns-4 : tie.Need-returns-4
-returns-4 c =
-    let g = c .before .before .before in
-    let a = g .before .before .before .before .before .args in
-    c .read-lines .ensures ∙ by (a .option) (now (a .body)) (g .layout-of .ensures) (c .before .enum-told4 .given .1) (passed (g .before))
+returns-4 c = c .read-lines .ensures ∙ by (c .before .before .before) (c .before .enum-told4 .given .1)
 
 pub read-spec : {M : Type 1} → statement M
 read-spec =
@@ -64,7 +54,7 @@ read-spec =
     (λ c. search needs)
     (λ c κs. search needs)
     (λ c. search needs)
-    read-lines-requires
+    (λ c κs. search needs)
     returns-2
     returns-3
     returns-4)

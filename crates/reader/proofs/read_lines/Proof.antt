@@ -8,14 +8,11 @@ use denote.Ref.{now}
 use lib.ListN.{length, drop}
 use borrow.Author.Tests.{not-true, not-false}
 use Rattle.errors.specs.Refusals.{told}
-use Rattle.party.specs.Limits.{limitsOf}
-use Rattle.swift_utils.specs.Bytes.{between}
 use Rattle.swift_utils.proofs.Parts.{part}
 use Rattle.field_utils.specs.Lines.{lines}
 use Rattle.field_utils.proofs.Places.{Found, found}
-use Rattle.reader.specs.declared.First.{First}
-use Rattle.reader.specs.Options.{firstOf, headBy, afterHead, byLines}
-use Rattle.reader.specs.Code.{toldHead, passedHead, readingOf}
+use Rattle.reader.specs.Options.{isCounted, afterHead, byLines}
+use Rattle.reader.specs.Code.{passedHead, readingOf}
 use Rattle.reader.proofs.Readings.{refusing}
 use Rattle.reader.proofs.Bodies.{lines-count, head-refused, head-there, head-none, told-text, told-none}
 use borrow.Author.Needs.{needs}
@@ -32,20 +29,11 @@ fits c =
 -- how the lines are counted
 counted : (c : tie.After-counts) {t : Bool} → let k = c .before in let v = k .before .found .given .0 in let a = k .before .before .before .before .before .args in
     c .counts .result ≡ t
-    → between (limitsOf (a .option) .least) (limitsOf (a .option) .most) (length (part (v .0) (v .1 .0) (now (a .body)) ∷ lines (drop (v .1 .1 .0 .at) (now (a .body))))) ≡ t
+    → isCounted (a .option) (length (part (v .0) (v .1 .0) (now (a .body)) ∷ lines (drop (v .1 .1 .0 .at) (now (a .body))))) ≡ t
 counted c e =
     let k = c .before in
     let a = k .before .before .before .before .before .args in
-    ap (λ (ls : List (List ℕ)). between (limitsOf (a .option) .least) (limitsOf (a .option) .most) (length ls)) (sym (fits k .line)) ∙ sym (c .counts .ensures) ∙ e
-
--- what was made of the first line
-first : (c : tie.After-parse-head) → let k = c .before .before .before .before .before in let v = k .before .found .given .0 in let a = k .before .before .before .before .before .args in
-    toldHead (part (v .0) (v .1 .0) (now (a .body))) (c .parse-head .result) ≡ headBy (firstOf (a .option)) (a .option) (part (v .0) (v .1 .0) (now (a .body)))
-first c =
-    let k = c .before .before .before .before .before in
-    let v = k .before .found .given .0 in
-    let a = k .before .before .before .before .before .args in
-    c .parse-head .ensures ∙ ap (λ (f : First). headBy f (a .option) (part (v .0) (v .1 .0) (now (a .body)))) (c .before .first-of .ensures)
+    ap (λ (ls : List (List ℕ)). isCounted (a .option) (length ls)) (sym (fits k .line)) ∙ sym (c .counts .ensures) ∙ e
 
 returns : tie.Need-returns
 returns c =
@@ -55,7 +43,7 @@ returns c =
     (ap (λ (ls : List (List ℕ)). byLines (a .option) ls .reply) (found (now (a .body)) 0 (n .next .ensures) (c .before .enum-told .given .1) .0))
 
 counts-requires : tie.Need-counts-requires
-counts-requires c κs = omega (arith, fits c .moved, fits c .within, c .before .before .before .before .before .pre)
+counts-requires c κs = omega (arith, fits c .moved, fits c .within)
 
 returns-2 : tie.Need-returns-2
 returns-2 c =
@@ -78,19 +66,19 @@ part-line-end c = omega (arith, fits (c .before .before) .before, fits (c .befor
 returns-3 : tie.Need-returns-3
 returns-3 c =
     let p = c .before .before .before .before in
-    let n = p .before .before .before .before in
+    let n = p .before .before .before in
     let k = n .before in
     let v = k .before .found .given .0 in
     let a = k .before .before .before .before .before .args in
     refusing (a .option) _ (c .refuse3 .ensures)
     (ap (λ (ls : List (List ℕ)). byLines (a .option) ls .reply) (fits k .line)
-    ∙ head-refused (a .option) (part (v .0) (v .1 .0) (now (a .body))) (lines (drop (v .1 .1 .0 .at) (now (a .body)))) (first p) (counted n (not-false _ (p .before .before .before .if1 .left))) (ap told (c .before .before .outcome .given .1)))
+    ∙ head-refused (a .option) (part (v .0) (v .1 .0) (now (a .body))) (lines (drop (v .1 .1 .0 .at) (now (a .body)))) (p .parse-head .ensures) (counted n (not-false _ (p .before .before .if1 .left))) (ap told (c .before .before .outcome .given .1)))
 
 returns-4 : tie.Need-returns-4
 returns-4 c =
     let e = c .before .before .before in
     let p = e .before .before in
-    let n = p .before .before .before .before in
+    let n = p .before .before .before in
     let k = n .before in
     let v = k .before .found .given .0 in
     let a = k .before .before .before .before .before .args in
@@ -98,14 +86,14 @@ returns-4 c =
     ∙ ap (readingOf (a .option))
     (sym
     (ap (byLines (a .option)) (fits k .line)
-    ∙ head-there (a .option) (part (v .0) (v .1 .0) (now (a .body))) (lines (drop (v .1 .1 .0 .at) (now (a .body)))) (first p) (counted n (not-false _ (p .before .before .before .if1 .left))) (c .before .before .if2 .taken)
+    ∙ head-there (a .option) (part (v .0) (v .1 .0) (now (a .body))) (lines (drop (v .1 .1 .0 .at) (now (a .body)))) (p .parse-head .ensures) (counted n (not-false _ (p .before .before .if1 .left))) (c .before .before .if2 .taken)
     (told-text (part (v .0) (v .1 .0) (now (a .body))) (p .parse-head .result) (c .before .before .if2 .taken) ∙ sym (c .before .behind .ensures)) (ap told (e .enum-told2 .given .1))))
 
 returns-5 : tie.Need-returns-5
 returns-5 c =
     let e = c .before .before .before in
     let p = e .before .before in
-    let n = p .before .before .before .before in
+    let n = p .before .before .before in
     let k = n .before in
     let v = k .before .found .given .0 in
     let a = k .before .before .before .before .before .args in
@@ -114,7 +102,7 @@ returns-5 c =
     (ap (afterHead (a .option) 1 (passedHead false [])) (fits k .line)
     ∙ sym
     (ap (byLines (a .option)) (fits k .line)
-    ∙ head-none (a .option) (part (v .0) (v .1 .0) (now (a .body))) (lines (drop (v .1 .1 .0 .at) (now (a .body)))) (first p) (counted n (not-false _ (p .before .before .before .if1 .left))) (c .before .before .if2 .left)
+    ∙ head-none (a .option) (part (v .0) (v .1 .0) (now (a .body))) (lines (drop (v .1 .1 .0 .at) (now (a .body)))) (p .parse-head .ensures) (counted n (not-false _ (p .before .before .if1 .left))) (c .before .before .if2 .left)
     (told-none (part (v .0) (v .1 .0) (now (a .body))) (p .parse-head .result) (c .before .before .if2 .left)) (ap told (e .enum-told2 .given .1))))
 
 pub read-lines-spec : {M : Type 1} → statement M
@@ -132,7 +120,6 @@ read-lines-spec =
     sub-line
     part-line-start
     part-line-end
-    (λ c κs. search needs)
     (λ c κs. search needs)
     (λ c. search needs)
     (λ c κs. search needs)

@@ -12,8 +12,7 @@ use Rattle.party.specs.Limits.{limitsOf}
 use Rattle.party.specs.Text.{used}
 use Rattle.party.specs.Party.{said, IsParty}
 use Rattle.party.proofs.Values.{is-party}
-use Rattle.field_utils.specs.declared.Numbering.{Numbering}
-use Rattle.field_utils.specs.Names.{numberingOf}
+use Rattle.party.specs.declared.Numbering.{Numbering}
 use Rattle.writer.specs.Code.{isName, allNames}
 use Rattle.writer.proofs.Names.{none, namesIn, few as names-few, said-names, all-next, all-end}
 use borrow.Author.Needs.{needs}
@@ -28,29 +27,28 @@ abbrev μ-loop : tie.MeasureT-loop
 
 module _ (k : tie.At-loop Inv-loop μ-loop) where
   abbrev p : Party
-  p = k .before .before .before .before .before .args .t1
+  p = k .before .before .before .before .args .t1
 
   abbrev f : Numbering
-  f = k .before .before .before .numbering-of .result
+  f = k .before .before .before .limits-of .result .numbering
 
   abbrev longest : ℕ
-  longest = k .before .before .before .before .limits-of .result .name
+  longest = k .before .before .before .limits-of .result .name
 
   abbrev n : ℕ
   n = k .before .before .name-count .result
 
   sizes : IsParty p
-  sizes = is-party p _ (k .before .before .before .before .before .good .0)
+  sizes = is-party p _ (k .before .before .before .before .good .0)
 
   few : n ≤ 4
   few = names-few p sizes (k .before .before .name-count .ensures)
 
   -- the test that the contract names, by what the function knows of the option
-  whole : allNames (numberingOf (p .option)) (limitsOf (p .option) .name) 1 (said p .names) ≡ allNames f longest 1 (namesIn n p)
+  whole : allNames (limitsOf (p .option) .numbering) (limitsOf (p .option) .name) 1 (said p .names) ≡ allNames f longest 1 (namesIn n p)
   whole =
-      ap (allNames (numberingOf (p .option)) (limitsOf (p .option) .name) 1) (said-names p sizes (k .before .before .name-count .ensures))
-      ∙ ap (λ (g : Numbering). allNames g (limitsOf (p .option) .name) 1 (namesIn n p)) (sym (k .before .before .before .numbering-of .ensures))
-      ∙ ap (λ (l : Limits). allNames f (l .name) 1 (namesIn n p)) (sym (k .before .before .before .before .limits-of .ensures))
+      ap (allNames (limitsOf (p .option) .numbering) (limitsOf (p .option) .name) 1) (said-names p sizes (k .before .before .name-count .ensures))
+      ∙ ap (λ (l : Limits). allNames (l .numbering) (l .name) 1 (namesIn n p)) (sym (k .before .before .before .limits-of .ensures))
 
 -- the next name's test, and what is left
 tested :
@@ -96,7 +94,6 @@ all-names-spec =
     (tie.spec
     Inv-loop
     μ-loop
-    (λ c κs. search needs)
     (λ c κs. search needs)
     (λ c κs. search needs)
     (λ c κs. search needs)

@@ -9,7 +9,7 @@ use Rattle.party.specs.declared.Party.{Party}
 use Rattle.party.specs.Limits.{limitsOf}
 use Rattle.party.specs.Party.{said, IsParty}
 use Rattle.party.proofs.Values.{is-party}
-use Rattle.field_utils.specs.Names.{numberingOf, parseCount}
+use Rattle.field_utils.specs.Names.{parseCount}
 use Rattle.writer.specs.Given.{passes, areNames}
 use Rattle.writer.specs.Code.{allNames}
 use Rattle.writer.proofs.Names.{namesIn, count-none, said-names, names-length}
@@ -33,7 +33,7 @@ module _ (k : tie.After-name-count) where
 
 -- past the tests of the count and of the option
 used : (e : tie.Else2) {t : Bool} → let k = e .before .before .before .before in
-    allNames (numberingOf (p k .option)) (limitsOf (p k .option) .name) 1 (said (p k) .names) ≡ t →
+    allNames (limitsOf (p k .option) .numbering) (limitsOf (p k .option) .name) 1 (said (p k) .names) ≡ t →
     areNames (p k .option) (p k .count) (said (p k) .names) ≡ (t && passes (parseCount (limitsOf (p k .option) .names) (length (said (p k) .names))))
 used e all =
     let k = e .before .before .before .before in

@@ -7,7 +7,6 @@ use borrow.Author.Tests.{not-true, not-false}
 use Rattle.party.specs.Limits.{limitsOf}
 use Rattle.party.specs.Text.{used}
 use Rattle.party.specs.Party.{where-limit}
-use Rattle.reader.specs.Options.{firstOf}
 use Rattle.writer.specs.Given.{passes, every, isLine, textReply, isAccount}
 use Rattle.writer.specs.Code.{lineReply}
 use Rattle.writer.proofs.Texts.{used-part, used-within, used-count, line-not, line-is}
@@ -28,12 +27,12 @@ tested e =
 present :
     (u : tie.After-used-length) {t : Bool} → let a = u .before .before .before .before .before .args in isLine (used (a .t)) ≡ t
     → every (isAccount (a .option) (a .present)) (where-limit (limitsOf (a .option) .longest) (used (a .t) ∷ []))
-    ≡ (t && passes (textReply (firstOf (a .option)) (a .option) (used (a .t) .bytes)))
+    ≡ (t && passes (textReply (limitsOf (a .option) .first) (a .option) (used (a .t) .bytes)))
 present u e =
     let a = u .before .before .before .before .before .args in
     tested (u .before .before)
     ∙ ap (λ (b : Bool). isAccount (a .option) b (used (a .t))) (not-false (a .present) (u .before .if2 .left))
-    ∙ ap (λ (b : Bool). b && passes (textReply (firstOf (a .option)) (a .option) (used (a .t) .bytes))) e
+    ∙ ap (λ (b : Bool). b && passes (textReply (limitsOf (a .option) .first) (a .option) (used (a .t) .bytes))) e
 
 returns : tie.Need-returns
 returns c =
@@ -67,7 +66,7 @@ returns-4 c =
     let n = u .used-length .result in
     let is = u .used-length .ensures .is in
     c .is-account-text .ensures
-    ∙ ap (λ (x : List ℕ). lineReply (textReply (firstOf (a .option)) (a .option) x) x) (used-part (a .t) n is)
+    ∙ ap (λ (x : List ℕ). lineReply (textReply (limitsOf (a .option) .first) (a .option) x) x) (used-part (a .t) n is)
     ∙ sym (present u (line-is (a .t) n is (c .before .before .before .if3 .left)))
 
 pub is-account-spec : {M : Type 1} → statement M

@@ -4,7 +4,7 @@ use mathlib.Core.Bool.{Bool, not}
 use denote.Ref.{now}
 use borrow.Author.Tests.{not-true, not-false}
 use Rattle.swift_utils.specs.Bytes.{among}
-use Rattle.reader.specs.declared.First.the-variants.{AnyAccount}
+use Rattle.party.specs.declared.First.the-variants.{AnyAccount}
 use Rattle.reader.specs.Options.{lengthReply}
 use Rattle.writer.specs.Given.{passes, textReply}
 use Rattle.writer.proofs.Records.{line-by, any-account}

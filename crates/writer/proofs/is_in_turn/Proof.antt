@@ -8,8 +8,9 @@ use denote.Ref.{now}
 use lib.Dec.{eqb}
 use lib.ListN.{length, getD}
 use borrow.Author.Tests.{not-true, not-false}
-use Rattle.field_utils.specs.declared.Numbering.{Numbering}
-use Rattle.writer.proofs.Records.{inTurn, turn-kept, turn-written, numbered-room}
+use Rattle.party.specs.declared.Numbering.{Numbering}
+use Rattle.writer.proofs.Records.{inTurn, turn-kept, turn-written}
+use Rattle.writer.proofs.Tests.{numbered-room}
 use borrow.Author.Needs.{needs}
 use Rattle.writer.proofs.is_in_turn.Statement.{statement}
 use Rattle.writer.proofs.is_in_turn.Tie as tie

@@ -8,9 +8,11 @@ use lib.ListN.{length, drop}
 use Rattle.party.specs.declared.Party.{Party}
 use Rattle.party.specs.Party.{IsParty}
 use Rattle.party.proofs.Values.{is-party}
-use Rattle.field_utils.specs.Names.{numberingOf}
 use Rattle.writer.specs.Writing.{nameLines}
-use Rattle.writer.specs.Code.{led, marks}
+use Rattle.writer.specs.Code.{led}
+use Rattle.party.specs.Limits.{limitsOf}
+use Rattle.field_utils.specs.Names.{keptFrom}
+use Rattle.party.specs.declared.Limits.{Limits}
 use Rattle.writer.proofs.Names.{namesIn, few as names-few, marks-most, said-names, left-length, left-end}
 use borrow.Author.Needs.{needs}
 use Rattle.writer.proofs.names_length.Statement.{statement}
@@ -19,7 +21,7 @@ use Rattle.writer.proofs.names_length.Tie as tie
 abbrev Inv-loop : tie.InvT-loop
 Inv-loop later p n mark after₀ total₀ i₀ after total i =
     (i ≤ n) × (total ≤ 41 * i)
-    × (total + length (led after (nameLines (numberingOf (p .option)) (suc i) (drop i (namesIn n p)))) ≡ length (led later (nameLines (numberingOf (p .option)) 1 (namesIn n p))))
+    × (total + length (led after (nameLines (limitsOf (p .option) .numbering) (suc i) (drop i (namesIn n p)))) ≡ length (led later (nameLines (limitsOf (p .option) .numbering) 1 (namesIn n p))))
 
 abbrev μ-loop : tie.MeasureT-loop
 μ-loop later p n mark after₀ total₀ i₀ after total i = n - i
@@ -34,11 +36,11 @@ module _ (k : tie.At-loop Inv-loop μ-loop) where
   few : k .before .before .before .name-count .result ≤ 4
   few = names-few p sizes (k .before .before .before .name-count .ensures)
 
-  marked : k .before .mark-count .result ≡ marks (numberingOf (p .option))
-  marked = k .before .mark-count .ensures ∙ ap marks (k .before .before .numbering-of .ensures)
+  marked : k .before .kept-from .result ≡ keptFrom (limitsOf (p .option) .numbering)
+  marked = k .before .kept-from .ensures ∙ ap keptFrom (ap (λ (l : Limits). l .numbering) (k .before .before .limits-of .ensures))
 
-  narrow : k .before .mark-count .result ≤ 2
-  narrow = rw marked (marks-most (numberingOf (p .option)))
+  narrow : k .before .kept-from .result ≤ 2
+  narrow = rw marked (marks-most (limitsOf (p .option) .numbering))
 
 loop-holds : tie.Need-loop-holds Inv-loop μ-loop
 loop-holds c = (omega arith, omega arith, omega arith)
@@ -63,7 +65,7 @@ loop-again c =
     let k = c .before .before .before .before in
     let n = k .before .before .before .name-count .result in
     let i = k .loop .i in
-    let f = numberingOf (p k .option) in
+    let f = limitsOf (p k .option) .numbering in
     let inside = c .before .before .before .loop-test .taken in
     let turn = left-length (p k) (sizes k) (k .before .before .before .name-count .ensures) f (k .loop .after) i inside in
     (omega arith, omega (arith, narrow k), rw (add-one i) (omega (arith, k .loop .inv .2, turn, marked k, c .before .lf-count .ensures .is, c .used-length .ensures .is)))
@@ -72,7 +74,7 @@ returns : tie.Need-returns Inv-loop μ-loop
 returns c =
     let k = c .before in
     let n = k .before .before .before .name-count .result in
-    let f = numberingOf (p k .option) in
+    let f = limitsOf (p k .option) .numbering in
     let end = ap length (left-end (p k) (sizes k) (k .before .before .before .name-count .ensures) f (k .loop .after) (k .loop .i) (c .loop-test .left)) in
     let names = said-names (p k) (sizes k) (k .before .before .before .name-count .ensures) in
     rw names (record { is = omega (arith, k .loop .inv .2, end); most = omega (arith, few k) })

@@ -13,10 +13,12 @@ use Rattle.party.specs.declared.Party.{Party}
 use Rattle.party.specs.Text.{used}
 use Rattle.party.specs.Party.{IsParty}
 use Rattle.party.proofs.Values.{is-party}
-use Rattle.field_utils.specs.declared.Numbering.{Numbering}
-use Rattle.field_utils.specs.Names.{numberingOf}
+use Rattle.party.specs.declared.Numbering.{Numbering}
 use Rattle.writer.specs.Writing.{numberOf, nameLines}
-use Rattle.writer.specs.Code.{lead, led, marks}
+use Rattle.writer.specs.Code.{lead, led}
+use Rattle.party.specs.Limits.{limitsOf}
+use Rattle.field_utils.specs.Names.{keptFrom}
+use Rattle.party.specs.declared.Limits.{Limits}
 use Rattle.writer.proofs.Names.{none, namesIn, few as names-few, marks-most, number-part, number-length, said-names, left-next, left-end}
 use Rattle.writer.proofs.Puts.{puts-as, Partway, begun, finished, kept, next, next-space}
 use borrow.Author.Needs.{needs}
@@ -26,8 +28,8 @@ use Rattle.writer.proofs.put_names.Tie as tie
 abbrev Inv-loop : tie.InvT-loop
 Inv-loop buf₀ at later p n marks after₀ end₀ i₀ buf after end i =
     (i ≤ n)
-    × Partway buf₀ at (led later (nameLines (numberingOf (p .option)) 1 (namesIn n p))) buf end
-    (led after (nameLines (numberingOf (p .option)) (suc i) (drop i (namesIn n p))))
+    × Partway buf₀ at (led later (nameLines (limitsOf (p .option) .numbering) 1 (namesIn n p))) buf end
+    (led after (nameLines (limitsOf (p .option) .numbering) (suc i) (drop i (namesIn n p))))
 
 abbrev μ-loop : tie.MeasureT-loop
 μ-loop buf₀ at later p n marks after₀ end₀ i₀ buf after end i = n - i
@@ -37,7 +39,7 @@ module _ (k : tie.At-loop Inv-loop μ-loop) where
   p = k .before .before .before .before .before .args .t4
 
   abbrev f : Numbering
-  f = numberingOf (p .option)
+  f = limitsOf (p .option) .numbering
 
   abbrev n : ℕ
   n = k .before .before .before .name-count .result
@@ -48,11 +50,11 @@ module _ (k : tie.At-loop Inv-loop μ-loop) where
   few : n ≤ 4
   few = names-few p sizes (k .before .before .before .name-count .ensures)
 
-  marked : k .before .mark-count .result ≡ marks f
-  marked = k .before .mark-count .ensures ∙ ap marks (k .before .before .numbering-of .ensures)
+  marked : k .before .kept-from .result ≡ keptFrom f
+  marked = k .before .kept-from .ensures ∙ ap keptFrom (ap (λ (l : Limits). l .numbering) (k .before .before .limits-of .ensures))
 
   -- the part of the array is the name's number, or nothing
-  mark : take (k .before .mark-count .result) ((49 + k .loop .i) ∷ 47 ∷ []) ≡ numberOf f (suc (k .loop .i))
+  mark : take (k .before .kept-from .result) ((49 + k .loop .i) ∷ 47 ∷ []) ≡ numberOf f (suc (k .loop .i))
   mark = ap (λ (m : ℕ). take m ((49 + k .loop .i) ∷ 47 ∷ [])) marked ∙ number-part f (k .loop .i)
 
   room : k .before .before .before .before .before .args .at + length (led (k .before .before .before .before .before .args .later) (nameLines f 1 (namesIn n p))) ≤ length (now (k .before .before .before .before .before .args .buf))
@@ -71,13 +73,13 @@ module _ (k : tie.At-loop Inv-loop μ-loop) where
 loop-holds : tie.Need-loop-holds Inv-loop μ-loop
 loop-holds c =
     let s = c .before .before .before .before in
-    (omega arith, begun (now (s .args .buf)) (s .args .at) (led (s .args .later) (nameLines (numberingOf (s .args .t4 .option)) 1 (namesIn (c .before .before .name-count .result) (s .args .t4)))))
+    (omega arith, begun (now (s .args .buf)) (s .args .at) (led (s .args .later) (nameLines (limitsOf (s .args .t4 .option) .numbering) 1 (namesIn (c .before .before .name-count .result) (s .args .t4)))))
 
-cast-t17 : tie.Need-cast-t17 Inv-loop μ-loop
-cast-t17 c = omega (arith, few (c .before))
+cast-t18 : tie.Need-cast-t18 Inv-loop μ-loop
+cast-t18 c = omega (arith, few (c .before))
 
-add-t18 : tie.Need-add-t18 Inv-loop μ-loop
-add-t18 c = omega (arith, few (c .before))
+add-t19 : tie.Need-add-t19 Inv-loop μ-loop
+add-t19 c = omega (arith, few (c .before))
 
 mul-t : tie.Need-mul-t Inv-loop μ-loop
 mul-t c = omega (arith, few (c .before))
@@ -125,8 +127,8 @@ put-names-spec =
     (λ c κs. search needs)
     (λ c κs. search needs)
     loop-holds
-    cast-t17
-    add-t18
+    cast-t18
+    add-t19
     mul-t
     element-copy-out-t
     array-share-prefix-mark

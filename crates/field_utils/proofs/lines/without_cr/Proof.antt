@@ -1,11 +1,13 @@
 -- `lines::without_cr` meets its contract, by the byte before the LF. Assumes nothing.
-use mathlib.Core.Path.{_≡_, sym}
+use mathlib.Core.Path.{_≡_}
+use mathlib.Core.Bool.{true, false}
 use Prim.Native.Nat.{_-_}
 use native.Mathlib.Omega.{arith}
 use denote.Ref.{now}
 use borrow.Author.Needs.{needs}
-use Rattle.field_utils.specs.Lines.{withoutCr}
-use Rattle.field_utils.proofs.Places.{end-cr, end-kept}
+use borrow.Author.Tests.{eq-eqb, ne-eqb}
+use Rattle.field_utils.specs.Cursor.{withoutCr}
+use Rattle.field_utils.proofs.Places.{line-end}
 use Rattle.field_utils.proofs.lines.without_cr.Statement.{statement}
 use Rattle.field_utils.proofs.lines.without_cr.Tie as tie
 
@@ -17,10 +19,10 @@ returns c =
     rw e (omega arith)
 
 returns-2 : tie.Need-returns-2
-returns-2 c = let a = c .before .before .before .args in sym (end-cr (now (a .s)) (a .start) (a .lf) (omega arith) (omega arith) (c .if2 .taken))
+returns-2 c = let a = c .before .before .before .args in omega (arith, line-end (now (a .s)) (a .start) (a .lf) true (omega arith) (omega arith) (eq-eqb _ _ (c .if2 .taken)))
 
 returns-3 : tie.Need-returns-3
-returns-3 c = let a = c .before .before .before .args in sym (end-kept (now (a .s)) (a .start) (a .lf) (omega arith) (omega arith) (c .if2 .left))
+returns-3 c = let a = c .before .before .before .args in omega (arith, line-end (now (a .s)) (a .start) (a .lf) false (omega arith) (omega arith) (ne-eqb _ _ (c .if2 .left)))
 
 pub without-cr-spec : {M : Type 1} → statement M
 without-cr-spec =

@@ -1,0 +1,5 @@
+pub mod LineBounds
+pub mod Answers
+pub mod Pages
+pub mod Theorems
+pub mod Demand3

@@ -1,0 +1,103 @@
+-- What reading a page, adding and closing answer in numbers. Assumes nothing.
+use Prim.Native.Nat.{ℕ, _+_, _*_, _-_, _≤_, min}
+use mathlib.Core.Path.{_≡_, refl, sym, ap, _∙_, subst}
+use mathlib.Core.Bool.{true}
+use mathlib.Core.List.{List}
+use mathlib.Core.Logic.{⊎-elim}
+use native.Mathlib.Omega.{arith}
+use borrow.Author.Tests.{leb-true}
+use lib.ListN.{length}
+use Rattle.errors.specs.Refusals.{Reply, accepted, refused, must, _then_}
+use Rattle.errors.proofs.Replies.{must-held, then-second}
+use Rattle.party.specs.declared.Party.{Party}
+use Rattle.party.specs.Party.{Said, said}
+use Rattle.writer.specs.Writing.{writtenField}
+use Rattle.writer.specs.Given.{isGiven}
+use Rattle.flat.specs.Flat.{unflatten}
+use Rattle.reader.specs.Options.{read}
+use Rattle.pages.specs.declared.PageRead.{PageRead as Read}
+use Rattle.pages.specs.declared.ReadOutcome.{ReadOutcome as OutcomeAt}
+use Rattle.pages.specs.declared.Filed.{Filed as FiledAt}
+use Rattle.pages.specs.Pages.{pageMost, ReadOutcome, aRecord, theEnd, aRefusal, PageRead, outcomeOf, readAt, toldOutcome, toldRead}
+use Rattle.pages.specs.Adding.{isCarried, writable, hasSpace, withLf, endLine, Call, putting, recordSpace, recordReply, add, close, toldFiled, toldCall}
+use Rattle.pages.proofs.Fold.{reply-space}
+use Rattle.pages.proofs.Moves.{stays-or-moves, next-most, every-read}
+use Rattle.yewdome.specs.Interface.{Called, codeOf, lentReply, recordReply as lentRecordReply, readCode, readBytes, readInto, askedRead, pageRead, filedCode, filed, pageAdd}
+use Rattle.yewdome.specs.Code.{Named, Within}
+use Rattle.yewdome.proofs.LineBounds.{must-line, must-then, read-line}
+
+-- ---- adding and closing: a refusal names no line, and a position is within a page
+putting-within : (r : Reply) (buffer : List ℕ) (at : ℕ) (text : List ℕ) → Named r → (r ≡ accepted → at + length text ≤ pageMost) → Within (putting r buffer at text .answer)
+putting-within accepted buffer at text n h = h refl
+putting-within (refused k n) buffer at text m h = m
+
+pub add-within : (buffer : List ℕ) (at : ℕ) (s : Said) → Within (add buffer at s .answer)
+unfolding add recordReply
+add-within buffer at s =
+    let space = recordSpace (length buffer) at s in
+    let later = must (isCarried s) 23 0 then must space 24 0 in
+    putting-within (must (writable buffer at) 21 0 then recordReply (length buffer) at s) buffer at (withLf (writtenField s))
+    (must-then (writable buffer at) 21 0 (must (isGiven s) 22 0 then later) (omega arith) (omega arith)
+    (must-then (isGiven s) 22 0 later (omega arith) (omega arith)
+    (must-then (isCarried s) 23 0 (must space 24 0) (omega arith) (omega arith) (must-line space 24 0 (omega arith) (omega arith)))))
+    (λ e. omega (arith, reply-space (length buffer) at s (then-second (must (writable buffer at) 21 0) _ e)))
+
+pub close-within : (buffer : List ℕ) (at : ℕ) → Within (close buffer at .answer)
+unfolding close
+close-within buffer at =
+    let space = hasSpace (length buffer) (at + 2) in
+    putting-within (must (writable buffer at) 21 0 then must space 24 0) buffer at endLine
+    (must-then (writable buffer at) 21 0 (must space 24 0) (omega arith) (omega arith) (must-line space 24 0 (omega arith) (omega arith)))
+    (λ e. omega (arith, leb-true (at + 2) (min (length buffer) pageMost) (must-held space 24 0 (then-second (must (writable buffer at) 21 0) _ e))))
+
+-- what the code answers is within, and its number is told
+module _ (r : FiledAt) {last : List ℕ} {f : Call} (e : toldCall r last ≡ f) where
+  pub told-within : Within (f .answer) → Within (toldFiled r)
+  told-within h = subst (λ (x : Call). Within (x .answer)) (sym e) h
+
+  pub filed-told : {code : ℕ} → code ≡ filedCode (toldFiled r) → (record { code = code; bytes = last }) ≡ filed f
+  filed-told q = ap {B = Called} (λ (k : ℕ). record { code = k; bytes = last }) q ∙ ap filed e
+
+-- the record that was loaded is the one that was added
+pub adds : (flat buffer : List ℕ) (at : ℕ) {p : Party} → lentRecordReply flat ≡ accepted → p ≡ unflatten flat → filed (add buffer at (said p)) ≡ pageAdd flat buffer at
+adds flat buffer at a l = ap (λ (x : Party). filed (add buffer at (said x))) l ∙ rw a
+
+-- ---- reading
+-- a read's refusal
+abbrev replyOf : ReadOutcome → Reply
+replyOf (aRecord p) = accepted
+replyOf theEnd = accepted
+replyOf (aRefusal k n) = refused k n
+
+outcome-line : (r : Reply) (p : Party) → Named r → Named (replyOf (outcomeOf r p))
+outcome-line accepted p h = tt
+outcome-line (refused k n) p h = h
+
+pub page-line : (page : List ℕ) (at : ℕ) → Named (replyOf (readAt page at .outcome))
+page-line =
+    every-read (λ x. Named (replyOf x)) (λ o body. outcome-line (read o body .reply) (read o body .party) (read-line o body)) (λ k h. (h, omega arith)) tt
+
+module _ (page : List ℕ) (at : ℕ) where
+  pub onward-from : at ≤ readAt page at .next
+  onward-from = ⊎-elim (λ s. omega (arith, s)) (λ m. omega (arith, m .past)) (stays-or-moves page at)
+
+  -- the read of the code
+  module _ (r : Read) (e : toldRead r (readAt page at .body) ≡ readAt page at) where
+    pub answer-line : (x : OutcomeAt) → r .outcome ≡ x → Named (replyOf (toldOutcome x (r .party)))
+    answer-line x q = rw q at (subst (λ (y : PageRead). Named (replyOf (y .outcome))) (sym e) (page-line page at))
+
+    pub answer-next : (at ≤ r .next) × (r .next ≤ at + pageMost)
+    answer-next = subst (λ (y : PageRead). (at ≤ y .next) × (y .next ≤ at + pageMost)) (sym e) (onward-from, next-most page at)
+
+    pub reads : (bytes : List ℕ) {x : OutcomeAt} → lentReply (length bytes) true ≡ accepted → r .outcome ≡ x → let o = toldOutcome x (r .party) in
+        (record { code = readCode o (r .next - at); bytes = readBytes o bytes }) ≡ pageRead page at bytes
+    reads bytes {x = x} p q =
+        let o = toldOutcome x (r .party) in
+        let tells : (record { code = readCode o (r .next - at); bytes = readBytes o bytes }) ≡ readInto (toldRead r (readAt page at .body)) at bytes = rw q in
+        let passed : readInto (readAt page at) at bytes ≡ pageRead page at bytes = rw p in
+        tells ∙ (ap (λ (y : PageRead). readInto y at bytes) e ∙ passed)
+
+  -- 42
+  pub short : (bytes : List ℕ) (t : Reply) {n : ℕ} → n ≡ codeOf t → (n ≡ 0 → ⊥) → (record { code = n * 4294967296; bytes = bytes }) ≡ readInto (askedRead t (readAt page at) at) at bytes
+  short bytes accepted e h = absurd (h e)
+  short bytes (refused k n) e h = let z : codeOf (refused k n) * 4294967296 ≡ codeOf (refused k n) * 4294967296 + (at - at) = omega arith in ap {B = Called} (λ (m : ℕ). record { code = m; bytes = bytes }) (ap (λ (m : ℕ). m * 4294967296) e ∙ z)

@@ -1,0 +1,244 @@
+-- What a caller in another language gets: a number that tells the answer, and a record that loads as the one that was read. Assumes nothing.
+use Prim.Native.Nat.{ℕ, zero, suc, _+_, _*_, _-_, _/_, _%_, _<_, _≤_}
+use mathlib.Core.Path.{_≡_, refl, sym, ap, _∙_, subst}
+use mathlib.Core.Bool.{Bool, true}
+use mathlib.Core.List.{List, [], _∷_, _++_, map}
+use native.Mathlib.Nat.{add-zero, add-comm, div-eq-of-lt, mod-eq-of-lt, mul-add-div-right, add-mul-mod-self-right}
+use native.Mathlib.Omega.{arith}
+use borrow.Author.Tests.{leb-true, le-leb}
+use lib.Dec.{ltb, leb}
+use lib.ListN.{length, getD, take, drop, replicate, length-append, length-take, length-map, length-replicate}
+use lib.Seq.{getD-take}
+use Rattle.errors.specs.Refusals.{Reply, accepted, refused, must, _then_}
+use Rattle.errors.proofs.Replies.{must-held, then-first}
+use Rattle.party.specs.declared.PartyOption.{PartyOption}
+use Rattle.party.specs.declared.Text.{Text}
+use Rattle.party.specs.declared.Party.{Party}
+use Rattle.party.specs.Limits.{limitsOf, optionAt}
+use Rattle.party.specs.Text.{textMost, padded, textOf, fourTexts, Used}
+use Rattle.party.specs.Party.{blank, where-limit, namesOf, said}
+use Rattle.flat.specs.Flat.{recordSize, textsOf, flatten, stored, unflatten}
+use Rattle.flat.proofs.Laws.{none, Sizes, stored-whole}
+use Rattle.flat.proofs.Theorems.{loads-back}
+use Rattle.reader.specs.Reading.{Reading, giving, partyOf, Found}
+use Rattle.reader.specs.Options.{foundBy, bodyReply, read}
+use Rattle.writer.specs.Writing.{Writing}
+use Rattle.writer.specs.Given.{isGiven, written}
+use Rattle.writer.proofs.Facts.{facts, is-given, names-are}
+use Rattle.writer.proofs.Back.{accepted-is}
+use Rattle.pages.specs.Pages.{pageMost, ReadOutcome, aRecord, theEnd, aRefusal, outcomeOf, readAt, bodyPlace}
+use Rattle.pages.proofs.Moves.{every-read}
+use Rattle.pages.proofs.Bodies.{body-there, body-most}
+use Rattle.choices.specs.declared.Choice.{Choice}
+use Rattle.choices.specs.Choices.{parse, parseWithVariant}
+use Rattle.choices.proofs.Every.{every-parse, every-variant}
+use Rattle.yewdome.specs.Interface.{Called, codeOf, lentReply, recordReply, asked, storing, given, partyRead, choiceAt, partyParse, partyParseWithVariant, lengthOr, wrote, partyWrite, readCode, pageRead, pageBody}
+use Rattle.yewdome.specs.Code.{Named}
+use Rattle.yewdome.proofs.LineBounds.{by-test, must-line, must-then, read-line}
+use Rattle.yewdome.proofs.Answers.{parse-line, variant-line, write-within}
+
+-- ---- a reader's texts
+-- 38 bytes, of which at most 38 are used
+record Good (t : Text) : Type 0 where
+  size : length (t .bytes) ≡ textMost
+  len : t .len ≤ textMost
+
+good : (l : List ℕ) → Good (textOf l)
+unfolding textOf padded
+good l = record {
+  size = omega (arith, length-append (take textMost l) (replicate (textMost - length (take textMost l)) 0), length-replicate {A = ℕ} (textMost - length (take textMost l)) 0, length-take textMost l);
+  len = omega (arith, length-take textMost l);
+}
+
+abbrev blanks : List Text
+blanks = textOf [] ∷ textOf [] ∷ textOf [] ∷ textOf [] ∷ []
+
+good-at : (names : List (List ℕ)) (i : ℕ) → i < 4 → Good (getD (map textOf names ++ blanks) i none)
+good-at [] zero h = good []
+good-at [] (suc zero) h = good []
+good-at [] (suc (suc zero)) h = good []
+good-at [] (suc (suc (suc zero))) h = good []
+good-at [] (suc (suc (suc (suc i)))) h = absurd (omega arith)
+good-at (l ∷ names) zero h = good l
+good-at (l ∷ names) (suc i) h = good-at names i (omega arith)
+
+-- ---- records of such texts load as they were stored, whatever follows them
+abbrev pub Loads : Party → Type 0
+Loads p = (rest : List ℕ) → unflatten (flatten p ++ rest) ≡ p
+
+record Made (p : Party) : Type 0 where
+  account : Good (p .account)
+  bic : Good (p .bic)
+  four : length (p .«name_and_address») ≡ 4
+  name : (i : ℕ) → i < 4 → Good (getD (p .«name_and_address») i none)
+
+made-loads : (p : Party) → Made p → p .count ≤ 4 → Loads p
+made-loads p m h rest =
+    loads-back p rest (m .four) texts
+    (record { account = omega (arith, m .account .len); bic = omega (arith, m .bic .len); count = omega arith; name = λ i l. omega (arith, m .name i l .len) })
+  where
+    texts : Sizes (textsOf p)
+    texts zero l = m .account .size
+    texts (suc zero) l = m .bic .size
+    texts (suc (suc i)) l = m .name i (omega (arith, m .four)) .size
+
+found-made : (o : PartyOption) (f : Found) → Made (partyOf o f)
+unfolding partyOf fourTexts
+found-made o f = record {
+  account = good (f .account);
+  bic = good (f .bic);
+  four = simp (length-take, length-append) (omega arith);
+  name = λ i h. rw (getD-take 4 (map textOf (f .names) ++ blanks) i none h) (good-at (f .names) i h);
+}
+
+blank-loads : Loads blank
+blank-loads = made-loads blank (record { account = good []; bic = good []; four = refl; name = good-at [] }) (omega arith)
+
+-- ---- the count of an accepted body's record
+where-length : (limit : ℕ) (us : List Used) → length (where-limit limit us) ≤ length us
+where-length limit us = by-test (λ (vs : List Used). length vs ≤ length us) us [] (ltb 0 limit) (omega arith) (omega arith)
+
+given-count : (p : Party) → isGiven (said p) ≡ true → length (p .«name_and_address») ≡ 4 → p .count ≤ 4
+unfolding said
+given-count p e four =
+    let counted = names-are (p .option) (p .count) (said p .names) (facts (said p) e .names) .counted in
+    let most = where-length (limitsOf (p .option) .names) (namesOf (p .count) p) in
+    let names : length (namesOf (p .count) p) ≤ 4 = simp (length-map, length-take) (omega arith) in
+    omega arith
+
+-- ---- every reading
+pub read-loads : (o : PartyOption) (body : List ℕ) → Loads (read o body .party)
+unfolding read
+read-loads o body = go (bodyReply body then f .reply) refl
+  where
+    f : Found
+    f = foundBy (limitsOf o .layout) o body
+
+    whole : {r : Reply} → (bodyReply body then f .reply) ≡ r → read o body ≡ giving r (partyOf o f)
+    whole e = ap (λ (r : Reply). giving r (partyOf o f)) e
+
+    go : (r : Reply) → (bodyReply body then f .reply) ≡ r → Loads (read o body .party)
+    go accepted e =
+        let a = accepted-is o body (ap (λ (x : Reading). x .reply) (whole e)) in
+        let party : read o body .party ≡ partyOf o f = ap (λ (x : Reading). x .party) (whole e) in
+        let m = found-made o f in
+        let n = given-count (partyOf o f) (ap (λ (x : Party). isGiven (said x)) (sym party) ∙ (ap isGiven (a .says) ∙ is-given _ (a .good .facts))) (m .four) in
+        subst Loads (sym party) (made-loads (partyOf o f) m n)
+    go (refused k n) e = subst Loads (sym (ap (λ (x : Reading). x .party) (whole e))) blank-loads
+
+pub parse-loads : (choice : Choice) (body : List ℕ) → Loads (parse choice body .party)
+parse-loads = every-parse (λ r. Loads (r .party)) read-loads (λ k h. blank-loads)
+
+pub variant-loads : (choice : Choice) (body : List ℕ) (letter : ℕ) → Loads (parseWithVariant choice body letter .party)
+variant-loads = every-variant (λ r. Loads (r .party)) read-loads (λ k h. blank-loads)
+
+-- ---- a number below 65,536 is no refusal's
+pub no-refusal : (r : Reply) → Named r → codeOf r < 65536 → r ≡ accepted
+no-refusal accepted n h = refl
+no-refusal (refused k l) n h = absurd (omega (arith, n .0, h))
+
+pub lent-named : (len : ℕ) (known : Bool) → Named (lentReply len known)
+lent-named len known = must-then (leb recordSize len) 42 0 (must known 41 0) (omega arith) (omega arith) (must-line known 41 0 (omega arith) (omega arith))
+
+pub asked-passed : (r : Reply) (c : Called) (bytes : List ℕ) → Named r → asked r c bytes .code < 65536 → r ≡ accepted
+asked-passed accepted c bytes n h = refl
+asked-passed (refused k l) c bytes n h = no-refusal (refused k l) n h
+
+pub lent-size : (len : ℕ) (known : Bool) → lentReply len known ≡ accepted → recordSize ≤ len
+lent-size len known e = leb-true recordSize len (must-held (leb recordSize len) 42 0 (then-first _ (must known 41 0) e))
+
+-- ---- what a call leaves
+pub stored-loads : (p : Party) (bytes : List ℕ) → Loads p → recordSize ≤ length bytes → unflatten (stored p bytes) ≡ p
+stored-loads p bytes l h = ap unflatten (stored-whole p bytes h) ∙ l (drop recordSize bytes)
+
+loads : (known : Bool) (r : Reading) (bytes : List ℕ) → Named (r .reply) → Loads (r .party) → given known r bytes .code ≡ 0 → unflatten (given known r bytes .bytes) ≡ r .party
+loads known r bytes n l e =
+    let t = lentReply (length bytes) known in
+    let c = storing (r .reply) (r .party) bytes in
+    let a : t ≡ accepted = asked-passed t c bytes (lent-named (length bytes) known) (omega (arith, e)) in
+    let gave : given known r bytes ≡ c = rw a in
+    let b : r .reply ≡ accepted = no-refusal (r .reply) n (omega (arith, e, ap (λ (x : Called). x .code) gave)) in
+    let is : c .bytes ≡ stored (r .party) bytes = rw b in
+    ap (λ (x : Called). unflatten (x .bytes)) gave ∙ (ap unflatten is ∙ stored-loads (r .party) bytes l (lent-size (length bytes) known a))
+
+-- where a call's number is 0, the bytes load as the record that was read
+pub party-read-loads : (option : ℕ) (body bytes : List ℕ) → partyRead option body bytes .code ≡ 0 → unflatten (partyRead option body bytes .bytes) ≡ read (optionAt option) body .party
+party-read-loads option body bytes = loads (leb option 10) (read (optionAt option) body) bytes (read-line (optionAt option) body) (read-loads (optionAt option) body)
+
+pub party-parse-loads : (choice : ℕ) (body bytes : List ℕ) → partyParse choice body bytes .code ≡ 0 → unflatten (partyParse choice body bytes .bytes) ≡ parse (choiceAt choice) body .party
+party-parse-loads choice body bytes = loads (leb choice 6) (parse (choiceAt choice) body) bytes (parse-line (choiceAt choice) body) (parse-loads (choiceAt choice) body)
+
+pub party-variant-loads : (choice : ℕ) (body : List ℕ) (letter : ℕ) (bytes : List ℕ) → partyParseWithVariant choice body letter bytes .code ≡ 0
+    → unflatten (partyParseWithVariant choice body letter bytes .bytes) ≡ parseWithVariant (choiceAt choice) body letter .party
+party-variant-loads choice body letter bytes =
+    loads (leb choice 6) (parseWithVariant (choiceAt choice) body letter) bytes (variant-line (choiceAt choice) body letter) (variant-loads (choiceAt choice) body letter)
+
+-- ---- what a page's read leaves
+abbrev OutcomeLoads : ReadOutcome → Type 0
+OutcomeLoads (aRecord p) = Loads p
+OutcomeLoads theEnd = Unit {0}
+OutcomeLoads (aRefusal k n) = Unit {0}
+
+outcome-loads : (r : Reply) (p : Party) → Loads p → OutcomeLoads (outcomeOf r p)
+outcome-loads accepted p l = l
+outcome-loads (refused k n) p l = tt
+
+-- where a read gives a record and there is room for it, the bytes load as that record
+pub page-loads : (page : List ℕ) (at : ℕ) (bytes : List ℕ) (p : Party) → recordSize ≤ length bytes → readAt page at .outcome ≡ aRecord p → unflatten (pageRead page at bytes .bytes) ≡ p
+page-loads page at bytes p h e =
+    let l : Loads p = subst OutcomeLoads e (every-read OutcomeLoads (λ o body. outcome-loads (read o body .reply) (read o body .party) (read-loads o body)) (λ k i. tt) tt page at) in
+    let is : pageRead page at bytes .bytes ≡ stored p bytes = rw (le-leb recordSize (length bytes) h, e) in
+    ap unflatten is ∙ stored-loads p bytes l h
+
+-- ---- what was written
+-- a number below 65,536 says that the lent record passes, and that its field was written
+pub record Writes (flat buffer : List ℕ) : Type 0 where
+  pub passes : recordReply flat ≡ accepted
+  pub accepts : written (said (unflatten flat)) buffer .reply ≡ accepted
+
+pub write-accepts : (flat buffer : List ℕ) → partyWrite flat buffer .code < 65536 → Writes flat buffer
+write-accepts flat buffer h = record { passes = a; accepts = wrote-it (w .reply) (write-within (unflatten flat) buffer .0) (rw a at h) }
+  where
+    w : Writing
+    w = written (said (unflatten flat)) buffer
+
+    a : recordReply flat ≡ accepted
+    a = asked-passed (recordReply flat) (wrote w) buffer (lent-named (length flat) (leb (getD flat 0 0) 10)) h
+
+    wrote-it : (r : Reply) → Named r → lengthOr r (w .len) < 65536 → r ≡ accepted
+    wrote-it accepted n h = refl
+    wrote-it (refused k l) n h = no-refusal (refused k l) n h
+
+-- ---- numbers
+-- a number below w beside a multiple of w: both are told
+high : (w k n : ℕ) → n < w → (k * w + n) / w ≡ k
+high w k n h = mul-add-div-right (omega arith) k n ∙ (ap (λ (m : ℕ). k + m) (div-eq-of-lt h) ∙ add-zero k)
+
+low : (w k n : ℕ) → n < w → (k * w + n) % w ≡ n
+low w k n h = ap (λ (m : ℕ). m % w) (add-comm (k * w) n) ∙ (add-mul-mod-self-right n k w ∙ mod-eq-of-lt h)
+
+-- a refusal's number and line are told by its code: the line is below 65,536
+pub code-number : (k n : ℕ) → n < 65536 → codeOf (refused k n) / 65536 ≡ k
+code-number k n h = high 65536 k n h
+
+pub code-line : (k n : ℕ) → n < 65536 → codeOf (refused k n) % 65536 ≡ n
+code-line k n h = low 65536 k n h
+
+-- a read's refusal and how far it moved are told by its number: it moves past at most 32,768 bytes (`next-most`)
+pub read-code : (k n moved : ℕ) → moved ≤ pageMost → readCode (aRefusal k n) moved / 4294967296 ≡ codeOf (refused k n)
+read-code k n moved h = high 4294967296 (codeOf (refused k n)) moved (omega (arith, h))
+
+pub read-moved : (o : ReadOutcome) (moved : ℕ) → moved ≤ pageMost → readCode o moved % 65536 ≡ moved
+read-moved (aRecord p) moved h = mod-eq-of-lt (omega (arith, h))
+read-moved theEnd moved h = low 65536 1 moved (omega (arith, h))
+read-moved (aRefusal k n) moved h =
+    let e : readCode (aRefusal k n) moved ≡ codeOf (refused k n) * 65536 * 65536 + moved = omega arith in
+    ap (λ (m : ℕ). m % 65536) e ∙ low 65536 (codeOf (refused k n) * 65536) moved (omega (arith, h))
+
+-- a body's place and its length are told by their number, and the bytes there are the body that the read hands back
+pub page-body : (page : List ℕ) (at : ℕ) → let n = pageBody page at in take (n % 4294967296) (drop (n / 4294967296) page) ≡ readAt page at .body
+page-body page at =
+    let place = bodyPlace page at in
+    let small : place .len < 4294967296 = omega (arith, body-most page at) in
+    ap (λ (k : ℕ). take k (drop (pageBody page at / 4294967296) page)) (low 4294967296 (place .start) (place .len) small)
+    ∙ (ap (λ (k : ℕ). take (place .len) (drop k page)) (high 4294967296 (place .start) (place .len) small) ∙ body-there page at .bytes)

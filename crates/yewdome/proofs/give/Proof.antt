@@ -1,0 +1,47 @@
+-- `yewdome::give` meets its contract, by the test that it ends at. Assumes nothing.
+use borrow.Author.Needs.{needs}
+use lib.ListN.{length}
+use Rattle.reader.specs.Reading.{toldAnswer}
+use Rattle.yewdome.specs.Interface.{lentReply, storing}
+use Rattle.yewdome.proofs.Answers.{refuses, passes, stores}
+use Rattle.yewdome.proofs.give.Statement.{statement}
+use Rattle.yewdome.proofs.give.Tie as tie
+
+returns : tie.Need-returns
+returns c =
+    let a = c .before .before .before .args in
+    refuses (lentReply (length (a .out .now)) (a .known)) (c .before .lent .ensures) (c .if1 .taken) (storing (toldAnswer (a .answer) .reply) (a .answer .party) (a .out .now)) (a .out .now)
+
+code-requires : tie.Need-code-requires
+code-requires c κs = rw (c .before .outcome .given .1) at (c .before .before .before .before .before .before .pre)
+
+returns-2 : tie.Need-returns-2
+returns-2 c =
+    let told-it = c .before .before in
+    let tested = told-it .before .before in
+    let a = tested .before .before .before .args in
+    rw (c .code .ensures)
+    (stores (a .known) (a .answer) (a .out .now) (passes (length (a .out .now)) (a .known) (tested .before .lent .ensures) (tested .if1 .left)) (told-it .outcome .given .1))
+
+returns-3 : tie.Need-returns-3
+returns-3 c =
+    let put = c .before .before in
+    let told-it = put .before .before .before in
+    let tested = told-it .before .before in
+    let a = tested .before .before .before .args in
+    rw (put .store .ensures .1)
+    (stores (a .known) (a .answer) (a .out .now) (passes (length (a .out .now)) (a .known) (tested .before .lent .ensures) (tested .if1 .left)) (told-it .enum-told .given .1))
+
+pub give-spec : {M : Type 1} → statement M
+give-spec =
+    tie.close
+    (tie.spec
+    (λ c κs. search needs)
+    returns
+    (λ c. search needs)
+    code-requires
+    returns-2
+    (λ c. search needs)
+    (λ c κs. search needs)
+    (λ c. search needs)
+    returns-3)

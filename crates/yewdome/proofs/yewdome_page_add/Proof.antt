@@ -1,0 +1,47 @@
+-- `yewdome::yewdome_page_add` meets its contract: what adding gave is told. Assumes nothing.
+use mathlib.Core.Path.{_∙_}
+use borrow.Author.Needs.{needs}
+use lib.Dec.{leb}
+use lib.ListN.{length, getD}
+use Rattle.party.specs.Party.{said}
+use Rattle.flat.specs.Flat.{unflatten}
+use Rattle.pages.specs.Adding.{add}
+use Rattle.yewdome.specs.Interface.{recordReply, filed}
+use Rattle.yewdome.proofs.Answers.{refuses, passes}
+use Rattle.yewdome.proofs.Pages.{add-within, told-within, filed-told, adds}
+use Rattle.yewdome.proofs.yewdome_page_add.Statement.{statement}
+use Rattle.yewdome.proofs.yewdome_page_add.Tie as tie
+
+returns : tie.Need-returns
+returns c =
+    let t = c .before in
+    let a = t .before .before .before .args in
+    refuses (recordReply (a .«record» .now)) (t .lent-record .ensures) (c .if1 .taken) (filed (add (a .buf .now) (a .position) (said (unflatten (a .«record» .now))))) (a .buf .now)
+
+filed-requires : tie.Need-filed-requires
+filed-requires c κs =
+    let f = c .before .before in
+    let l = f .before .before in
+    let a = l .before .before .before .before .before .args in
+    told-within (f .add .result) (f .add .ensures) (add-within (a .buf .now) (a .position) (said (l .load .result)))
+
+returns-2 : tie.Need-returns-2
+returns-2 c =
+    let f = c .before .before .before in
+    let l = f .before .before in
+    let t = l .before in
+    let a = t .before .before .before .before .args in
+    let s = a .«record» .now in
+    filed-told (f .add .result) (f .add .ensures) (c .filed .ensures) ∙ adds s (a .buf .now) (a .position) (passes (length s) (leb (getD s 0 0) 10) (t .before .lent-record .ensures) (t .if1 .left)) (l .load .ensures)
+
+pub yewdome-page-add-spec : {M : Type 1} → statement M
+yewdome-page-add-spec =
+    tie.close
+    (tie.spec
+    (λ c κs. search needs)
+    returns
+    (λ c κs. search needs)
+    (λ c κs. search needs)
+    filed-requires
+    (λ c. search needs)
+    returns-2)

@@ -1,0 +1,136 @@
+-- What the functions for other languages answer, which document 01 leaves to us: a number, with the lent bytes as the call left them.
+use Prim.Native.Nat.{ℕ, _+_, _*_, _-_}
+use mathlib.Core.Bool.{Bool, true}
+use mathlib.Core.List.{List, [], _∷_}
+use lib.Dec.{leb}
+use lib.ListN.{length, getD}
+use Rattle.errors.specs.Refusals.{Reply, accepted, refused, must, _then_}
+use Rattle.party.specs.declared.Party.{Party}
+use Rattle.party.specs.Limits.{optionAt}
+use Rattle.party.specs.Party.{said}
+use Rattle.flat.specs.Flat.{recordSize, stored, unflatten}
+use Rattle.reader.specs.Reading.{Reading}
+use Rattle.reader.specs.Options.{read}
+use Rattle.choices.specs.declared.Choice.{Choice}
+use Rattle.choices.specs.declared.Choice.the-variants.{Field50InstructingParty, Field50OrderingCustomerFGH, Field50OrderingCustomerAFK, Field50OrderingCustomerNCF, Field50Creditor, Field59, Field59Debtor}
+use Rattle.choices.specs.Choices.{parse, parseWithVariant}
+use Rattle.writer.specs.Writing.{Writing}
+use Rattle.writer.specs.Given.{written}
+use Rattle.pages.specs.Pages.{ReadOutcome, aRecord, theEnd, aRefusal, PageRead, bodiless, outcomeOf, readAt, bodyPlace}
+use Rattle.pages.specs.Adding.{Filed, positionAfter, refusal, Call, add, close}
+
+-- what a call gives: its number, and the lent bytes after it
+pub record Called : Type 0 where
+  pub code : ℕ
+  pub bytes : List ℕ
+
+-- a refusal's number × 65,536, and its line, which is below 65,536; 0 where accepted
+abbrev pub codeOf : Reply → ℕ
+codeOf accepted = 0
+codeOf (refused k n) = k * 65536 + n
+
+-- ---- a lent record
+-- the interface's own numbers, which document 01 has not and which are tested before its own: 42 where a lent record has under 237 bytes,
+-- 41 where there is no such option or choice
+abbrev pub lentReply : ℕ → Bool → Reply
+lentReply len known = must (leb recordSize len) 42 0 then must known 41 0
+
+-- a record lent to be written or added: its first byte is the option's place, 0 to 10
+abbrev pub recordReply : List ℕ → Reply
+recordReply bytes = lentReply (length bytes) (leb (getD bytes 0 0) 10)
+
+-- a call that passes these tests answers; one that does not changes no byte
+abbrev pub asked : Reply → Called → List ℕ → Called
+asked accepted c bytes = c
+asked (refused k n) c bytes = record { code = codeOf (refused k n); bytes = bytes }
+
+-- ---- reading
+-- a record is stored; the end of a page and a refusal change no byte
+abbrev pub readBytes : ReadOutcome → List ℕ → List ℕ
+readBytes (aRecord p) bytes = stored p bytes
+readBytes theEnd bytes = bytes
+readBytes (aRefusal k n) bytes = bytes
+
+-- what a reader gives, in these terms
+abbrev pub storing : Reply → Party → List ℕ → Called
+storing r p bytes = record { code = codeOf r; bytes = readBytes (outcomeOf r p) bytes }
+
+-- a reading into a lent record, by an option or choice that is known or not
+abbrev pub given : Bool → Reading → List ℕ → Called
+given known r bytes = asked (lentReply (length bytes) known) (storing (r .reply) (r .party) bytes) bytes
+
+-- `yewdome_party_read`: the option by its place in the table, 0 to 10
+abbrev pub partyRead : ℕ → List ℕ → List ℕ → Called
+partyRead option body bytes = given (leb option 10) (read (optionAt option) body) bytes
+
+-- the choices in document 01's order
+abbrev pub choices : List Choice
+choices =
+    Field50InstructingParty ∷ Field50OrderingCustomerFGH ∷ Field50OrderingCustomerAFK ∷ Field50OrderingCustomerNCF ∷ Field50Creditor ∷ Field59 ∷ Field59Debtor ∷ []
+
+-- the choice at a place, 0 to 6; the first where there is none
+abbrev pub choiceAt : ℕ → Choice
+choiceAt place = getD choices place Field50InstructingParty
+
+-- `yewdome_party_parse`
+abbrev pub partyParse : ℕ → List ℕ → List ℕ → Called
+partyParse choice body bytes = given (leb choice 6) (parse (choiceAt choice) body) bytes
+
+-- `yewdome_party_parse_with_variant`
+abbrev pub partyParseWithVariant : ℕ → List ℕ → ℕ → List ℕ → Called
+partyParseWithVariant choice body letter bytes = given (leb choice 6) (parseWithVariant (choiceAt choice) body letter) bytes
+
+-- ---- writing
+-- a field written: the length written, or the refusal
+abbrev pub lengthOr : Reply → ℕ → ℕ
+lengthOr accepted len = len
+lengthOr (refused k n) len = codeOf (refused k n)
+
+-- what writing gives, in these terms
+abbrev pub wrote : Writing → Called
+wrote w = record { code = lengthOr (w .reply) (w .len); bytes = w .buffer }
+
+-- `yewdome_party_write`
+abbrev pub partyWrite : List ℕ → List ℕ → Called
+partyWrite bytes buffer = asked (recordReply bytes) (wrote (written (said (unflatten bytes)) buffer)) buffer
+
+-- ---- pages
+-- a read of a page as a number: a refusal's × 4,294,967,296, or 65,536 at the end, and how many bytes it moved past
+abbrev pub readCode : ReadOutcome → ℕ → ℕ
+readCode (aRecord p) moved = moved
+readCode theEnd moved = 65536 + moved
+readCode (aRefusal k n) moved = codeOf (refused k n) * 4294967296 + moved
+
+-- a read at a position, in these terms
+abbrev pub readInto : PageRead → ℕ → List ℕ → Called
+readInto r at bytes = record { code = readCode (r .outcome) (r .next - at); bytes = readBytes (r .outcome) bytes }
+
+-- a read that passes the tests of the lent record; one that does not moves past no byte
+abbrev pub askedRead : Reply → PageRead → ℕ → PageRead
+askedRead accepted r at = r
+askedRead (refused k n) r at = bodiless (aRefusal k n) at
+
+-- `yewdome_page_read`
+abbrev pub pageRead : List ℕ → ℕ → List ℕ → Called
+pageRead page at bytes = readInto (askedRead (lentReply (length bytes) true) (readAt page at) at) at bytes
+
+-- `yewdome_page_body`: the body's place in the page × 4,294,967,296, and its length
+abbrev pub pageBody : List ℕ → ℕ → ℕ
+pageBody page at = bodyPlace page at .start * 4294967296 + bodyPlace page at .len
+
+-- adding and closing answer the position after, or the refusal
+abbrev pub filedCode : Filed → ℕ
+filedCode (positionAfter n) = n
+filedCode (refusal k n) = codeOf (refused k n)
+
+-- what they give, in these terms
+abbrev pub filed : Call → Called
+filed c = record { code = filedCode (c .answer); bytes = c .buffer }
+
+-- `yewdome_page_add`
+abbrev pub pageAdd : List ℕ → List ℕ → ℕ → Called
+pageAdd bytes buffer at = asked (recordReply bytes) (filed (add buffer at (said (unflatten bytes)))) buffer
+
+-- `yewdome_page_close`
+abbrev pub pageClose : List ℕ → ℕ → Called
+pageClose buffer at = filed (close buffer at)

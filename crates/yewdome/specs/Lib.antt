@@ -1,0 +1,3 @@
+pub mod Interface
+pub mod Demand3
+pub mod Code
