@@ -15,11 +15,11 @@ use Rattle.party.specs.declared.Limits.{Limits}
 use Rattle.party.specs.declared.Text.{Text}
 use Rattle.party.specs.Limits.{limitsOf}
 use Rattle.party.specs.Text.{fourTexts}
+use Rattle.party.specs.declared.Numbering.{Numbering}
+use Rattle.party.specs.declared.Numbering.the-variants.{Unnumbered, Numbered, InTurn}
 use Rattle.swift_utils.specs.Bytes.{all, letter, digit, alphanumeric, signs, legal}
 use Rattle.swift_utils.specs.Checks.{parseSwiftChars}
 use Rattle.swift_utils.proofs.Checks.{chars}
-use Rattle.party.specs.declared.Numbering.{Numbering}
-use Rattle.party.specs.declared.Numbering.the-variants.{Unnumbered, Numbered, InTurn}
 use Rattle.field_utils.specs.Identifier.{isNumbered}
 use Rattle.field_utils.specs.Names.{skipOf, parseNumber, parseLine, parseLines, parseCount, parseNameAndAddress, kept, namesOr, readNames, keptFrom}
 use Rattle.field_utils.specs.Code.{parseShape, parseRest, givenNames}

@@ -8,10 +8,10 @@ use Rattle.party.specs.declared.PartyOption.{PartyOption}
 use Rattle.party.specs.declared.Text.{Text}
 use Rattle.party.specs.Limits.{limitsOf}
 use Rattle.party.specs.Text.{fourTexts}
-use Rattle.swift_utils.specs.Bytes.{between}
-use Rattle.swift_utils.specs.Checks.{parseSwiftChars}
 use Rattle.party.specs.declared.Numbering.{Numbering}
 use Rattle.party.specs.declared.Numbering.the-variants.{Unnumbered, Numbered, InTurn}
+use Rattle.swift_utils.specs.Bytes.{between}
+use Rattle.swift_utils.specs.Checks.{parseSwiftChars}
 use Rattle.field_utils.specs.declared.Names.{Names}
 use Rattle.field_utils.specs.Identifier.{isNumbered}
 
@@ -47,7 +47,7 @@ parseCount most count = must (between 1 most count) 7 0
 unfoldable pub parseNameAndAddress : PartyOption → ℕ → List (List ℕ) → Reply
 parseNameAndAddress o n ls = parseLines (limitsOf o .numbering) (limitsOf o .name) n 1 ls then parseCount (limitsOf o .names) (length ls)
 
--- how many of them are not kept: 50F's digits are not, 59F's are
+-- how many of a line's first bytes are not kept: 50F's digit and slash are not, 59F's are
 abbrev pub keptFrom : Numbering → ℕ
 keptFrom Unnumbered = 0
 keptFrom Numbered = 2

@@ -11,13 +11,13 @@ use Rattle.errors.proofs.Replies.{must-held, then-first, then-second}
 use Rattle.party.specs.declared.Party.{Party}
 use Rattle.party.specs.Party.{said}
 use Rattle.writer.specs.Writing.{writtenField, put}
+use Rattle.writer.proofs.Puts.{put-length}
 use Rattle.pages.specs.Pages.{pageMost, ReadOutcome, aRecord, theEnd, aRefusal, readAt}
 use Rattle.pages.specs.declared.Filed.{Filed as FiledAt}
 use Rattle.pages.specs.declared.Filed.the-variants.{Position}
 use Rattle.pages.specs.Adding.{writable, hasSpace, withLf, endLine, positionAfter, Call, putting, recordReply, add, close, toldFiled, toldCall}
 use Rattle.pages.proofs.Addings.{close-filed}
 use Rattle.pages.proofs.Theorems.{position≢refusal}
-use Rattle.writer.proofs.Puts.{put-length}
 use Rattle.pages.proofs.Fold.{add-is, reply-space, writable-after}
 use Rattle.filing.specs.declared.Step.{Step as StepAt}
 use Rattle.filing.specs.Filing.{Step, adding, fileRead, fileNext, toldStepOutcome, toldStep, lastAdded, Closable}

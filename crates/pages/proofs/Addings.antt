@@ -18,11 +18,11 @@ use Rattle.writer.specs.Writing.{tagOf, writtenBody, writtenField, pieces, put,
 use Rattle.writer.specs.Given.{isGiven}
 use Rattle.writer.specs.Code.{Puts}
 use Rattle.writer.specs.ReadBack.{identified59F}
+use Rattle.writer.proofs.Theorems.{given-exact, written-most}
+use Rattle.writer.proofs.Puts.{put-length, put-take, puts-byte, space, both, placed-here}
 use Rattle.pages.specs.Adding.{isCarried, writable, hasSpace, withLf, endLine, positionAfter, refusal, Call, putting, recordSpace, recordReply, add, close}
 use Rattle.pages.specs.Code.{linesCarried}
 use Rattle.pages.proofs.Carried.{carried-is}
-use Rattle.writer.proofs.Theorems.{given-exact, written-most}
-use Rattle.writer.proofs.Puts.{put-length, put-take, puts-byte, space, both, placed-here}
 
 -- ---- adding
 module _ (buffer : List ℕ) (at : ℕ) (s : Said) where

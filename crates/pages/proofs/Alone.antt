@@ -16,8 +16,9 @@ use Rattle.party.specs.declared.Party.{Party}
 use Rattle.party.specs.Decides.{Decides}
 use Rattle.party.specs.Text.{Used}
 use Rattle.party.specs.Party.{Said, said, Same}
-use Rattle.swift_utils.specs.Bytes.{digit}
 use Rattle.party.specs.declared.Numbering.the-variants.{InTurn}
+use Rattle.party.proofs.Options.{by-option}
+use Rattle.swift_utils.specs.Bytes.{digit}
 use Rattle.field_utils.specs.Lines.{starts, lines}
 use Rattle.field_utils.specs.Identifier.{isNumbered}
 use Rattle.reader.specs.Options.{read, foundBy}
@@ -37,7 +38,6 @@ use Rattle.writer.proofs.Theorems.{necessary, reading-back, written-most}
 use Rattle.pages.specs.Pages.{pageMost, endsPage, isBoundary, tagged, PageRead, readTagged, readField, readAt}
 use Rattle.pages.specs.Adding.{anyBoundary, laterBoundary, isCarried, withLf, endLine}
 use Rattle.pages.specs.WholePage.{kept, Gives, pageOf, ReadsAs, Alone}
-use Rattle.party.proofs.Options.{by-option}
 use Rattle.pages.proofs.Lines.{pieces-of}
 use Rattle.pages.proofs.Runs.{upToBoundary, none-cut}
 use Rattle.pages.proofs.Structure.{read-at, read-cut, page-followed, structure}

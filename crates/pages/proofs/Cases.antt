@@ -8,26 +8,26 @@ use lib.Dec.{leb, eqb}
 use lib.ListN.{length, take, drop, getD, length-drop, drop-of-length-le}
 use lib.Seq.{drop-cons, drop-drop}
 use borrow.Author.Tests.{eqb-true, eq-eqb, ne-eqb, le-leb, lt-leb}
-use Rattle.field_utils.specs.Lines.{upto, starts}
-use Rattle.field_utils.proofs.Places.{upto-length}
-use Rattle.writer.specs.ReadBack.{isEmpty}
-use Rattle.swift_utils.proofs.Parts.{part}
 use Rattle.errors.specs.declared.ParseError.{ParseError}
 use Rattle.errors.specs.declared.Outcome.{Outcome}
 use Rattle.errors.specs.Refusals.{Reply, accepted, refused, told, _then_, refusalOf}
 use Rattle.party.specs.declared.PartyOption.{PartyOption}
 use Rattle.party.specs.declared.Party.{Party}
 use Rattle.party.specs.Party.{blank}
+use Rattle.party.specs.Limits.{options, limitsOf}
+use Rattle.swift_utils.proofs.Parts.{part}
+use Rattle.field_utils.specs.Lines.{upto, starts}
+use Rattle.field_utils.proofs.Places.{upto-length}
 use Rattle.reader.specs.declared.Answer.{Answer as ReaderAnswer}
 use Rattle.reader.specs.Reading.{Reading, giving, toldAnswer, partyOf}
 use Rattle.reader.specs.Options.{foundBy, bodyReply, read}
+use Rattle.writer.specs.ReadBack.{isEmpty}
 use Rattle.pages.specs.declared.PageRead.{PageRead as Answer}
 use Rattle.pages.specs.declared.ReadOutcome.{ReadOutcome as OutcomeAt}
 use Rattle.pages.specs.declared.ReadOutcome.the-variants.{End, Refused}
 use Rattle.pages.specs.declared.ReadCase.{ReadCase}
 use Rattle.pages.specs.declared.ReadCase.the-variants.{TooLong, NoStart, AtLength, Opening, Ending, Stray}
 use Rattle.pages.specs.Pages.{pageMost, lineAt, opens, endsPage, runs, onward, pastLine, Tagged, tagged, tagIn, ReadOutcome, theEnd, aRefusal, PageRead, bodiless, outcomeOf, readTagged, readField, readable, lineCase, restCase, readCase, readBy, readAt, toldOutcome, toldRead, partyBeside, isOpening}
-use Rattle.party.specs.Limits.{options, limitsOf}
 use Rattle.pages.proofs.Runs.{followed, runs-end, runs-lf, runs-more}
 
 -- ---- the first line of a text

@@ -9,6 +9,8 @@ use Rattle.errors.proofs.Replies.{refused≢accepted}
 use Rattle.party.specs.declared.PartyOption.{PartyOption}
 use Rattle.party.specs.declared.Party.{Party}
 use Rattle.party.specs.Party.{Said, said, Same}
+use Rattle.party.specs.Limits.{options}
+use Rattle.party.proofs.Options.{by-option}
 use Rattle.field_utils.specs.Lines.{starts}
 use Rattle.writer.specs.Writing.{tagOf, joined, writtenBody, writtenField, pieces}
 use Rattle.writer.specs.Given.{Given}
@@ -17,10 +19,8 @@ use Rattle.writer.proofs.Tests.{both-left, both-right, not-both}
 use Rattle.writer.proofs.Relined.{Line}
 use Rattle.writer.proofs.Theorems.{reading-back}
 use Rattle.pages.specs.Pages.{opens, begins, Tagged, tagged, tagIn, PageRead, outcomeOf, readTagged, readField}
-use Rattle.party.specs.Limits.{options}
 use Rattle.pages.specs.Adding.{anyBoundary, laterBoundary, isCarried}
 use Rattle.pages.specs.WholePage.{kept, new, IsRecord, Gives}
-use Rattle.party.proofs.Options.{by-option}
 use Rattle.pages.proofs.Lines.{pieces-of}
 use Rattle.pages.proofs.Structure.{Lined, Sound, field-next}
 

@@ -8,12 +8,12 @@ use lib.Dec.{leb, eqb}
 use lib.ListN.{length, drop, length-append, List·getD-append}
 use lib.Seq.{drop-append-seam, getD-append-seam}
 use borrow.Author.Tests.{le-leb}
+use Rattle.party.specs.Limits.{options}
 use Rattle.field_utils.specs.Lines.{upto, starts}
 use Rattle.writer.specs.Writing.{joined}
 use Rattle.writer.specs.ReadBack.{isEmpty}
 use Rattle.writer.proofs.Relined.{All, Line}
 use Rattle.pages.specs.Pages.{pageMost, lineAt, opens, endsPage, Tagged, untagged, tagged, tagIn, theEnd, PageRead, bodiless, readTagged, readField, startsLine, readable, lineCase, restCase, readCase, readBy, readAt}
-use Rattle.party.specs.Limits.{options}
 use Rattle.pages.specs.declared.ReadCase.{ReadCase}
 use Rattle.pages.specs.declared.ReadCase.the-variants.{Opening}
 use Rattle.pages.specs.Adding.{anyBoundary, withLf, endLine}

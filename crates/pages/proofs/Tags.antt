@@ -12,14 +12,14 @@ use borrow.Author.Tests.{eqb-true, ne-eqb}
 use Rattle.party.specs.declared.PartyOption.{PartyOption}
 use Rattle.party.specs.declared.PartyOption.the-variants.{Field50NoOption}
 use Rattle.party.specs.Limits.{limitsOf, optionAt}
+use Rattle.party.specs.Limits.{options}
+use Rattle.party.proofs.Options.{by-option}
 use Rattle.writer.specs.Writing.{tagOf}
 use Rattle.writer.proofs.Tests.{both-right}
 use Rattle.pages.specs.declared.Tag.the-variants.{Unknown, Known}
 use Rattle.pages.specs.declared.Tag.{Tag}
 use Rattle.pages.specs.Pages.{begins, untagged, tagged, tagIn}
-use Rattle.party.specs.Limits.{options}
 use Rattle.pages.specs.Code.{toldTag, hasTag, knownIn}
-use Rattle.party.proofs.Options.{by-option}
 
 -- ---- the form of a tag: `:5`, a digit, a letter or none, `:`
 abbrev digitOf : PartyOption → ℕ

@@ -17,6 +17,7 @@ use Rattle.writer.proofs.Tests.{both}
 use Rattle.writer.proofs.Relined.{All}
 use Rattle.writer.proofs.Back.{not-identified}
 use Rattle.writer.proofs.Theorems.{given-exact, necessary, written-less}
+use Rattle.writer.proofs.Puts.{put-nil, put-length, put-take, put-drop, put-put}
 use Rattle.pages.specs.Pages.{pageMost}
 use Rattle.pages.specs.Adding.{isCarried, writable, hasSpace, withLf, endLine, positionAfter, refusal, Call, putting, recordSpace, recordReply, close}
 use Rattle.pages.specs.WholePage.{lastGiven, Run, run, Model, Field, kept, new, pageOf, ReadsAs, fieldsOf, Overwrites}
@@ -24,7 +25,6 @@ use Rattle.pages.specs.Demand3.{adds, acceptedAdds, turn, closing, page,
 use Rattle.pages.proofs.Structure.{Sound, structure}
 use Rattle.pages.proofs.Records.{carried-back, new-sound, kept-sound}
 use Rattle.pages.proofs.Alone.{alone-exact}
-use Rattle.writer.proofs.Puts.{put-nil, put-length, put-take, put-drop, put-put}
 use Rattle.pages.proofs.Fold.{textsOf, Fit, RunIs, add-is, ran, run-append}
 
 pub position≢refusal : {m k n : ℕ} → positionAfter m ≡ refusal k n → ⊥

@@ -23,13 +23,13 @@ ghost use mathlib.Core.Bool.{false, true};
 ghost use Prim.Native.Nat.{suc, _+_, _-_, _≤_, _<_, min};
 ghost use lib.ListN.{length, take, drop};
 ghost use Rattle.party.specs.Party.{blank as blankParty, said};
-ghost use Rattle.pages.specs.declared.Tag.the-variants.{Known};
-ghost use Rattle.pages.specs.declared.ReadOutcome.the-variants.{End, Refused};
-ghost use Rattle.pages.specs.Pages.{pageMost, lineAt, opens, endsPage, runs, tagIn, readField, readable, readCase, readAt, toldRead, partyBeside, isOpening, noBody, bodyIn, bodyPlace};
 ghost use Rattle.party.specs.Limits.{options};
 ghost use Rattle.writer.specs.Writing.{pieces, writtenField};
 ghost use Rattle.writer.specs.Code.{Puts};
 ghost use Rattle.writer.specs.ReadBack.{endsCr, identified59F};
+ghost use Rattle.pages.specs.declared.Tag.the-variants.{Known};
+ghost use Rattle.pages.specs.declared.ReadOutcome.the-variants.{End, Refused};
+ghost use Rattle.pages.specs.Pages.{pageMost, lineAt, opens, endsPage, runs, tagIn, readField, readable, readCase, readAt, toldRead, partyBeside, isOpening, noBody, bodyIn, bodyPlace};
 ghost use Rattle.pages.specs.Adding.{isCarried, writable, hasSpace, withLf, add as addTo, close as closeAt, toldCall};
 ghost use Rattle.pages.specs.Code.{linesCarried, toldTag, hasTag, knownIn};
 

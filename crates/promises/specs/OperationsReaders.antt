@@ -13,6 +13,8 @@ use Rattle.party.specs.declared.PartyOption.{PartyOption}
 use Rattle.party.specs.declared.PartyOption.the-variants.{Field50NoOption, Field50A, Field50F, Field50K, Field50C, Field50L, Field50G, Field50H, Field59NoOption, Field59A, Field59F}
 use Rattle.party.specs.Text.{padded, textOf, fourTexts}
 use Rattle.party.specs.Party.{blank}
+use Rattle.party.specs.declared.First.the-variants.{ShortAccount, AnyAccount}
+use Rattle.party.specs.Limits.{limitsOf}
 use Rattle.swift_utils.specs.Bytes.{bytes, all, letter, digit, alphanumeric, signs, legal}
 use Rattle.swift_utils.specs.Checks.{parseSwiftChars, parseAccount, bicLength, parseBic}
 use Rattle.field_utils.specs.Lines.{upto, onto, starts, lines}
@@ -20,7 +22,6 @@ use Rattle.field_utils.specs.Trim.{white, trimmedStart, keep, trimmedEnd, trimm
 use Rattle.field_utils.specs.Identifier.{isNumbered, secondSlash, identifierReply, parsePartyIdentifier}
 use Rattle.field_utils.specs.Names.{parseLine, parseLines, parseNameAndAddress}
 use Rattle.reader.specs.declared.Answer.{Answer}
-use Rattle.party.specs.declared.First.the-variants.{ShortAccount, AnyAccount}
 use Rattle.reader.specs.Reading.{partyOf, toldAnswer}
 use Rattle.reader.specs.Options.{lengthReply, accountHead, shortAccountHead, afterHead, ascii, bodyReply, read}
 use Rattle.choices.specs.declared.Choice.the-variants.{Field50InstructingParty, Field50OrderingCustomerFGH, Field50OrderingCustomerAFK, Field50OrderingCustomerNCF, Field50Creditor, Field59, Field59Debtor}
@@ -28,7 +29,6 @@ use Rattle.choices.specs.declared.Test.the-variants.{LaterNumbered, AnyNumbered
 use Rattle.choices.specs.Detection.{anyNumbered, firstLine, lastLine, bicLike, testLine, holds}
 use Rattle.choices.specs.Choices.{refusing, firstThat, parse, pickOf, parseWithVariant}
 use Rattle.promises.specs.RuledOut.{bodyOf, As}
-use Rattle.party.specs.Limits.{limitsOf}
 
 -- what `refuse` gives, as its contract has it
 abbrev refusedWith : ParseError → Answer

@@ -13,9 +13,9 @@ use Rattle.field_utils.specs.Lines.{upto, onto, starts, lines}
 use Rattle.field_utils.specs.Names.{parseLine, parseLines, parseNameAndAddress}
 use Rattle.reader.specs.Reading.{partyOf}
 use Rattle.reader.specs.Options.{accountHead, afterHead, read}
+use Rattle.writer.specs.Writing.{tagOf}
 use Rattle.pages.specs.Pages.{pageMost, lineAt, endsPage, runs, begins, tagIn, aRecord, theEnd, aRefusal, PageRead, bodiless, readField, readable, restCase, readCase, readBy, readAt}
 use Rattle.promises.specs.Starred.{gives}
-use Rattle.writer.specs.Writing.{tagOf}
 
 -- so many reads, each at the next position that the last gave
 abbrev pub reads : ℕ → List ℕ → ℕ → List PageRead

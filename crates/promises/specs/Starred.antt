@@ -16,14 +16,14 @@ use Rattle.field_utils.specs.Identifier.{isNumbered, secondSlash, identifierRep
 use Rattle.field_utils.specs.Names.{parseLine, parseLines, parseNameAndAddress}
 use Rattle.reader.specs.Reading.{Reading, partyOf}
 use Rattle.reader.specs.Options.{accountHead, shortAccountHead, afterHead, read}
+use Rattle.choices.specs.declared.Choice.the-variants.{Field50OrderingCustomerAFK, Field50OrderingCustomerNCF}
+use Rattle.choices.specs.Detection.{anyNumbered, firstLine, lastLine, bicLike}
+use Rattle.choices.specs.Choices.{refusing, firstThat, parse}
 use Rattle.writer.specs.Writing.{nameLines, writtenLines, joined, writtenBody, writtenField, pieces, tagOf}
 use Rattle.writer.specs.Given.{isLine, areNames, isGiven}
 use Rattle.writer.specs.ReadBack.{endsCr, lastEmpty, earlierCr, identified59F, isReadBack}
 use Rattle.pages.specs.Pages.{endsPage}
 use Rattle.pages.specs.Adding.{anyBoundary, laterBoundary, isCarried, recordReply}
-use Rattle.choices.specs.declared.Choice.the-variants.{Field50OrderingCustomerAFK, Field50OrderingCustomerNCF}
-use Rattle.choices.specs.Detection.{anyNumbered, firstLine, lastLine, bicLike}
-use Rattle.choices.specs.Choices.{refusing, firstThat, parse}
 
 -- what the definitions give, and what document 01 says of it: a reading, a written field, or the refusal of a page
 pub data Case : Type 0 where

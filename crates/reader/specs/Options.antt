@@ -7,15 +7,15 @@ use lib.ListN.{length, drop}
 use Rattle.errors.specs.Refusals.{Reply, accepted, refused, must, _then_}
 use Rattle.party.specs.declared.PartyOption.{PartyOption}
 use Rattle.party.specs.Limits.{limitsOf}
+use Rattle.party.specs.declared.First.{First}
+use Rattle.party.specs.declared.First.the-variants.{NoAccount, Identified, Account, ShortAccount, SlashAccount, AnyAccount, WholeLine}
+use Rattle.party.specs.declared.Layout.{Layout}
+use Rattle.party.specs.declared.Layout.the-variants.{BicOnly, TextOnly, ByLines}
 use Rattle.swift_utils.specs.Bytes.{all, among}
 use Rattle.swift_utils.specs.Checks.{parseLength, parseAccount, parseBic}
 use Rattle.field_utils.specs.Lines.{lines, starts}
 use Rattle.field_utils.specs.Identifier.{Identifier, absent, given, parsePartyIdentifier}
 use Rattle.field_utils.specs.Names.{kept, parseNameAndAddress}
-use Rattle.party.specs.declared.First.{First}
-use Rattle.party.specs.declared.First.the-variants.{NoAccount, Identified, Account, ShortAccount, SlashAccount, AnyAccount, WholeLine}
-use Rattle.party.specs.declared.Layout.{Layout}
-use Rattle.party.specs.declared.Layout.the-variants.{BicOnly, TextOnly, ByLines}
 use Rattle.reader.specs.Reading.{Reading, giving, Found, partyOf}
 
 -- what is found of an account or identifier in the first line: whether it is there, its text, and what the checks say of it

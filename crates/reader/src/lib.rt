@@ -26,13 +26,13 @@ ghost use mathlib.Core.Bool.{true, false};
 ghost use Prim.Native.Nat.{suc, _<_};
 ghost use lib.ListN.{length, drop};
 ghost use Rattle.errors.specs.declared.Outcome.the-variants.{Accepted, Refused};
+ghost use Rattle.errors.specs.Refusals.{told};
 ghost use Rattle.party.specs.Limits.{limitsOf};
 ghost use Rattle.party.specs.Party.{blank as blankParty};
+ghost use Rattle.party.specs.declared.First.the-variants.{Identified, Account, ShortAccount, SlashAccount, AnyAccount};
 ghost use Rattle.swift_utils.specs.Bytes.{all};
 ghost use Rattle.field_utils.specs.Lines.{lines};
 ghost use Rattle.reader.specs.Reading.{toldAnswer, partyOf};
-ghost use Rattle.party.specs.declared.First.the-variants.{Identified, Account, ShortAccount, SlashAccount, AnyAccount};
-ghost use Rattle.errors.specs.Refusals.{told};
 ghost use Rattle.reader.specs.Options.{isCounted, lengthReply, accountReply, slashHead, headBy, withNames, withBic, afterHead, byLines, bicOnly, textOnly, ascii, bodyReply, read as readOf};
 ghost use Rattle.reader.specs.Code.{toldHead, passedHead, nameless, readingOf};
 

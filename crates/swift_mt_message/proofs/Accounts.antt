@@ -13,9 +13,9 @@ use Rattle.errors.proofs.Replies.{refused≢accepted, must-held, then-first, th
 use Rattle.party.specs.declared.PartyOption.{PartyOption}
 use Rattle.party.specs.declared.PartyOption.the-variants.{Field50F, Field50G, Field50H}
 use Rattle.party.specs.declared.Party.{Party}
+use Rattle.party.specs.declared.Numbering.the-variants.{Unnumbered}
 use Rattle.swift_utils.specs.Bytes.{between, all, legal}
 use Rattle.swift_utils.specs.Checks.{parseSwiftChars, parseAccount}
-use Rattle.party.specs.declared.Numbering.the-variants.{Unnumbered}
 use Rattle.field_utils.specs.Lines.{lines, starts}
 use Rattle.field_utils.specs.Names.{parseLine, parseLines, parseCount, parseNameAndAddress}
 use Rattle.reader.specs.Reading.{Reading, giving, Found, partyOf}

@@ -12,8 +12,8 @@ use Rattle.errors.specs.Refusals.{Reply, accepted, refused, must, _then_}
 use Rattle.party.specs.declared.PartyOption.{PartyOption}
 use Rattle.party.specs.declared.Party.{Party}
 use Rattle.party.specs.Limits.{limitsOf}
-use Rattle.swift_utils.specs.Checks.{parseAccount}
 use Rattle.party.specs.declared.Numbering.the-variants.{Unnumbered}
+use Rattle.swift_utils.specs.Checks.{parseAccount}
 use Rattle.field_utils.specs.Lines.{lines}
 use Rattle.field_utils.specs.Names.{kept}
 use Rattle.reader.specs.Reading.{Reading, giving, Found, partyOf}

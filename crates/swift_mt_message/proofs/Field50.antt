@@ -12,19 +12,19 @@ use Rattle.errors.specs.Refusals.{Reply, accepted, must, _then_}
 use Rattle.errors.proofs.Replies.{must-held, then-assoc}
 use Rattle.party.specs.declared.PartyOption.the-variants.{Field50NoOption, Field50A, Field50F, Field50K, Field50C, Field50L, Field50G, Field50H}
 use Rattle.party.specs.declared.Party.{Party}
+use Rattle.party.specs.declared.Numbering.the-variants.{Unnumbered}
 use Rattle.swift_utils.specs.Bytes.{among, between, all, legal}
 use Rattle.swift_utils.specs.Checks.{parseSwiftChars, parseAccount}
-use Rattle.party.specs.declared.Numbering.the-variants.{Unnumbered}
 use Rattle.field_utils.specs.Lines.{starts}
 use Rattle.field_utils.specs.Names.{parseNameAndAddress}
 use Rattle.field_utils.proofs.Identifiers.{identifier-absent, identifier-given, starts-long}
 use Rattle.reader.specs.Reading.{Reading, giving, partyOf}
 use Rattle.reader.specs.Options.{noHead, head, identifierHead, accountReply, slashHead, withNames, afterHead, after, isCounted, byLines, bicOnly, textOnly, bodyReply, read}
 use Rattle.reader.specs.Code.{readingOf}
-use Rattle.choices.specs.Detection.{firstLine}
-use Rattle.choices.specs.Choices.{refusing}
 use Rattle.reader.proofs.Bodies.{body-passed}
 use Rattle.reader.proofs.Heads.{account-none, account-some}
+use Rattle.choices.specs.Detection.{firstLine}
+use Rattle.choices.specs.Choices.{refusing}
 use Rattle.swift_mt_message.specs.Std.{Str, slash, newline, Result, Ok, _and-then_, err-if, is-empty, slice-from, starts-with}
 use Rattle.swift_mt_message.specs.Std as S
 use Rattle.swift_mt_message.specs.SwiftUtils.{parse-swift-chars}

@@ -9,11 +9,11 @@ use lib.ListN.{length, drop, getD, length-map}
 use borrow.Author.Tests.{le-leb, leb-true, eqb-true, eqb-false, eq-eqb, ne-eqb, le-ltb}
 use Rattle.errors.specs.Refusals.{Reply, must, _then_}
 use Rattle.errors.proofs.Replies.{must-held, then-assoc}
-use Rattle.swift_utils.specs.Bytes.{between, digit}
 use Rattle.party.specs.declared.PartyOption.{PartyOption}
 use Rattle.party.specs.Limits.{limitsOf}
 use Rattle.party.specs.declared.Numbering.{Numbering}
 use Rattle.party.specs.declared.Numbering.the-variants.{Unnumbered, Numbered, InTurn}
+use Rattle.swift_utils.specs.Bytes.{between, digit}
 use Rattle.field_utils.specs.Identifier.{isNumbered}
 use Rattle.field_utils.specs.Names.{parseLine, parseLines, parseCount, parseNameAndAddress, kept}
 use Rattle.writer.proofs.Tests.{numbered-room}

@@ -11,9 +11,9 @@ use lib.Seq.{take-add, length-take-le, drop-append-seam}
 use borrow.Author.Tests.{le-leb, leb-true, leb-false, lt-ltb, le-ltb, eq-eqb}
 use Rattle.swift_utils.specs.Bytes.{all, among, between, bytes, letter, digit, alphanumeric, signs, legal}
 use Rattle.field_utils.specs.Lines.{upto, starts}
+use Rattle.field_utils.specs.Trim.{white, trimmedStart, keep, trimmedEnd, trimmed}
 use Rattle.field_utils.proofs.Places.{Upto, here, past, by-upto}
 use Rattle.field_utils.proofs.Places as places
-use Rattle.field_utils.specs.Trim.{white, trimmedStart, keep, trimmedEnd, trimmed}
 use Rattle.swift_mt_message.specs.Std.{Str, Ok, minus, is-empty, slice-from, slice-to, slice, contains, starts-with, find, is-alphabetic, is-digit, is-alphanumeric, is-whitespace, trim-start, trim-end, trim}
 use Rattle.swift_mt_message.specs.Std as S
 use Rattle.swift_mt_message.specs.SwiftUtils.{swift-special}

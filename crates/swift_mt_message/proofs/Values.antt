@@ -18,10 +18,10 @@ use Rattle.party.specs.declared.Party.{Party}
 use Rattle.party.specs.Limits.{limitsOf}
 use Rattle.party.specs.Text.{textMost, padded, textOf, fourTexts, Used, used}
 use Rattle.party.specs.Party.{where-limit, said}
-use Rattle.party.proofs.Options.{by-option}
-use Rattle.party.proofs.Theorems.{used-text}
 use Rattle.party.specs.declared.Numbering.{Numbering}
 use Rattle.party.specs.declared.Numbering.the-variants.{Unnumbered, Numbered, InTurn}
+use Rattle.party.proofs.Options.{by-option}
+use Rattle.party.proofs.Theorems.{used-text}
 use Rattle.field_utils.specs.Lines.{lines}
 use Rattle.field_utils.specs.Names.{skipOf}
 use Rattle.reader.specs.Reading.{Reading, giving, partyOf}

@@ -13,11 +13,11 @@ use Rattle.party.specs.declared.Party.{Party}
 use Rattle.party.specs.Limits.{limitsOf}
 use Rattle.party.specs.Text.{Used}
 use Rattle.party.specs.Party.{said, Said}
-use Rattle.swift_utils.specs.Bytes.{bytes}
 use Rattle.party.specs.declared.Numbering.{Numbering}
 use Rattle.party.specs.declared.Numbering.the-variants.{Unnumbered, Numbered, InTurn}
-use Rattle.reader.specs.Reading.{partyOf}
 use Rattle.party.proofs.Options.{by-option}
+use Rattle.swift_utils.specs.Bytes.{bytes}
+use Rattle.reader.specs.Reading.{partyOf}
 use Rattle.writer.specs.Writing.{tagOf, numberOf, nameLines, writtenLines, joined, writtenBody, writtenField}
 use Rattle.writer.specs.Given.{Given, isPresence, areNames}
 use Rattle.writer.proofs.Sayings.{saidWith, said-with, bytesOf, said-party}

@@ -7,9 +7,9 @@ use native.Mathlib.Omega.{arith}
 use lib.Dec.{leb, eqb}
 use lib.ListN.{length, getD}
 use borrow.Author.Tests.{leb-true, lt-leb, ne-eqb}
-use Rattle.swift_utils.proofs.Parts.{part, part-cons, part-none}
 use Rattle.swift_utils.specs.Bytes.{all, letter, digit, legal, alphanumeric, among, signs}
 use Rattle.swift_utils.specs.Classes.{classOf, atLeast, plain}
+use Rattle.swift_utils.proofs.Parts.{part, part-cons, part-none}
 
 -- of two ranges of which one must hold, each gives the least of the two lows
 ranges : (l m u v b : ℕ) → l ≤ u → ((leb l b && leb b m) || (leb u b && leb b v)) ≡ true → l ≤ b

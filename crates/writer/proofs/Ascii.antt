@@ -10,12 +10,12 @@ use borrow.Author.Tests.{ltb-true, leb-true, le-leb, eqb-true}
 use Rattle.errors.specs.Refusals.{accepted, must, _then_}
 use Rattle.errors.proofs.Replies.{must-held, then-first, then-second}
 use Rattle.party.specs.declared.PartyOption.{PartyOption}
+use Rattle.party.specs.declared.First.{First}
+use Rattle.party.specs.declared.First.the-variants.{NoAccount, Identified, Account, ShortAccount, SlashAccount, AnyAccount, WholeLine}
 use Rattle.swift_utils.specs.Bytes.{all, among, between, letter, digit, alphanumeric, signs, legal}
 use Rattle.swift_utils.specs.Checks.{parseSwiftChars, parseAccount, bicLength, parseBic}
 use Rattle.field_utils.specs.Lines.{upto}
 use Rattle.field_utils.specs.Identifier.{secondSlash, identifierReply}
-use Rattle.party.specs.declared.First.{First}
-use Rattle.party.specs.declared.First.the-variants.{NoAccount, Identified, Account, ShortAccount, SlashAccount, AnyAccount, WholeLine}
 use Rattle.reader.specs.Options.{lengthReply, ascii}
 use Rattle.writer.specs.Given.{textReply}
 use Rattle.writer.proofs.Tests.{both-left, both-right, both}

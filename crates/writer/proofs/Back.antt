@@ -15,14 +15,14 @@ use Rattle.party.specs.declared.Party.{Party}
 use Rattle.party.specs.Limits.{limitsOf, placeOf}
 use Rattle.party.specs.Text.{Used}
 use Rattle.party.specs.Party.{Said, said}
+use Rattle.party.specs.declared.Layout.{Layout}
+use Rattle.party.specs.declared.Layout.the-variants.{BicOnly, TextOnly, ByLines}
 use Rattle.swift_utils.specs.Bytes.{all, between}
 use Rattle.swift_utils.specs.Checks.{parseAccount, bicLength, parseBic}
 use Rattle.swift_utils.proofs.Checks.{bicLength-least}
 use Rattle.field_utils.specs.Lines.{starts, lines}
 use Rattle.field_utils.specs.Cursor.{withoutCr}
 use Rattle.field_utils.specs.Identifier.{isNumbered}
-use Rattle.party.specs.declared.Layout.{Layout}
-use Rattle.party.specs.declared.Layout.the-variants.{BicOnly, TextOnly, ByLines}
 use Rattle.reader.specs.Reading.{Found, giving, partyOf}
 use Rattle.reader.specs.Options.{accountReply, ascii, bodyReply, byLines, foundBy, read, bodyMost}
 use Rattle.reader.specs.Code.{passedHead}

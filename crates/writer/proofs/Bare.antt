@@ -14,14 +14,14 @@ use Rattle.party.specs.declared.PartyOption.the-variants.{Field50NoOption, Fiel
 use Rattle.party.specs.Limits.{limitsOf}
 use Rattle.party.specs.Text.{Used}
 use Rattle.party.specs.Party.{Said}
-use Rattle.swift_utils.specs.Bytes.{all, among, between, letter, digit, alphanumeric}
-use Rattle.swift_utils.specs.Checks.{bicLength, parseBic}
-use Rattle.field_utils.specs.Lines.{starts}
-use Rattle.field_utils.specs.Identifier.{isNumbered}
 use Rattle.party.specs.declared.Numbering.the-variants.{Unnumbered}
 use Rattle.party.specs.declared.First.the-variants.{Identified, Account, ShortAccount}
 use Rattle.party.specs.declared.Layout.{Layout}
 use Rattle.party.specs.declared.Layout.the-variants.{BicOnly, TextOnly, ByLines}
+use Rattle.swift_utils.specs.Bytes.{all, among, between, letter, digit, alphanumeric}
+use Rattle.swift_utils.specs.Checks.{bicLength, parseBic}
+use Rattle.field_utils.specs.Lines.{starts}
+use Rattle.field_utils.specs.Identifier.{isNumbered}
 use Rattle.reader.specs.Reading.{Found}
 use Rattle.reader.specs.Options.{isCounted, noHead, headBy, accountReply, byLines, bicOnly, textOnly}
 use Rattle.reader.specs.Code.{passedHead}

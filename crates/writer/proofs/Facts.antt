@@ -11,11 +11,11 @@ use Rattle.party.specs.declared.PartyOption.{PartyOption}
 use Rattle.party.specs.Limits.{limitsOf}
 use Rattle.party.specs.Text.{Used}
 use Rattle.party.specs.Party.{Said}
+use Rattle.party.proofs.Options.{by-option}
 use Rattle.swift_utils.specs.Checks.{parseBic}
 use Rattle.field_utils.specs.Names.{parseNameAndAddress}
 use Rattle.writer.specs.Writing.{nameLines}
 use Rattle.writer.specs.Given.{passes, every, isLine, textReply, isAccount, isPresence, isBic, areNames, isTaken, isGiven}
-use Rattle.party.proofs.Options.{by-option}
 use Rattle.writer.proofs.Tests.{both-left, both-right, both, is-not, passed, passing}
 use Rattle.writer.proofs.NamePasses.{NamesPass, names-held, names-pass}
 

@@ -11,13 +11,13 @@ use Rattle.errors.specs.Refusals.{Reply, accepted, must, _then_}
 use Rattle.errors.proofs.Replies.{must-held, then-first, then-second, must-passes, then-passes}
 use Rattle.party.specs.declared.PartyOption.{PartyOption}
 use Rattle.party.specs.Limits.{limitsOf}
+use Rattle.party.specs.declared.First.{First}
+use Rattle.party.specs.declared.First.the-variants.{NoAccount, Identified, Account, ShortAccount, SlashAccount, AnyAccount, WholeLine}
 use Rattle.swift_utils.specs.Bytes.{all, between, alphanumeric}
 use Rattle.swift_utils.specs.Checks.{parseAccount}
 use Rattle.field_utils.specs.Lines.{upto, starts}
 use Rattle.field_utils.specs.Identifier.{secondSlash, identifierReply}
 use Rattle.field_utils.proofs.Identifiers.{identifier-absent, identifier-given}
-use Rattle.party.specs.declared.First.{First}
-use Rattle.party.specs.declared.First.the-variants.{NoAccount, Identified, Account, ShortAccount, SlashAccount, AnyAccount, WholeLine}
 use Rattle.reader.specs.Options.{Head, noHead, head, identifierHead, accountReply, lengthReply, headBy, ascii}
 use Rattle.reader.specs.Code.{passedHead}
 use Rattle.reader.proofs.Heads.{short-long, short-fits, account-none, account-some, slash-there}

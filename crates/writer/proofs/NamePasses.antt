@@ -12,10 +12,10 @@ use Rattle.errors.proofs.Replies.{must-held, then-first, then-second, must-pass
 use Rattle.party.specs.declared.PartyOption.{PartyOption}
 use Rattle.party.specs.Limits.{limitsOf}
 use Rattle.party.specs.Text.{Used}
-use Rattle.swift_utils.specs.Bytes.{all, between, digit, legal}
-use Rattle.swift_utils.specs.Checks.{parseSwiftChars}
 use Rattle.party.specs.declared.Numbering.{Numbering}
 use Rattle.party.specs.declared.Numbering.the-variants.{Unnumbered, Numbered, InTurn}
+use Rattle.swift_utils.specs.Bytes.{all, between, digit, legal}
+use Rattle.swift_utils.specs.Checks.{parseSwiftChars}
 use Rattle.field_utils.specs.Identifier.{isNumbered}
 use Rattle.field_utils.specs.Names.{skipOf, parseNumber, parseLine, parseLines, parseNameAndAddress, kept}
 use Rattle.writer.specs.Writing.{numberOf, nameLines}

@@ -14,12 +14,12 @@ use Rattle.party.specs.declared.Party.{Party}
 use Rattle.party.specs.Limits.{limitsOf}
 use Rattle.party.specs.Text.{Used, used}
 use Rattle.party.specs.Party.{said, IsParty, namesOf}
-use Rattle.party.proofs.Laws.{map-take, take-min}
 use Rattle.party.specs.declared.Numbering.{Numbering}
 use Rattle.party.specs.declared.Numbering.the-variants.{Unnumbered, Numbered, InTurn}
+use Rattle.party.proofs.Laws.{map-take, take-min}
+use Rattle.field_utils.specs.Names.{keptFrom}
 use Rattle.writer.specs.Writing.{numberOf, nameLines}
 use Rattle.writer.specs.Code.{lead, led, nameCount, isName, allNames}
-use Rattle.field_utils.specs.Names.{keptFrom}
 
 -- the text that stands for one past the end
 abbrev pub none : Text

@@ -14,14 +14,15 @@ use Rattle.party.specs.declared.PartyOption.the-variants.{Field50NoOption, Fiel
 use Rattle.party.specs.Limits.{limitsOf}
 use Rattle.party.specs.Text.{Used}
 use Rattle.party.specs.Party.{Said}
-use Rattle.swift_utils.specs.Bytes.{all, among, letter, digit, alphanumeric}
-use Rattle.swift_utils.specs.Checks.{bicLength, parseBic}
-use Rattle.field_utils.specs.Lines.{onto, starts, lines}
-use Rattle.field_utils.specs.Names.{parseNameAndAddress, kept}
 use Rattle.party.specs.declared.First.{First}
 use Rattle.party.specs.declared.First.the-variants.{NoAccount, Identified, Account, ShortAccount, SlashAccount, AnyAccount, WholeLine}
 use Rattle.party.specs.declared.Layout.{Layout}
 use Rattle.party.specs.declared.Layout.the-variants.{BicOnly, TextOnly, ByLines}
+use Rattle.party.proofs.Options.{by-option}
+use Rattle.swift_utils.specs.Bytes.{all, among, letter, digit, alphanumeric}
+use Rattle.swift_utils.specs.Checks.{bicLength, parseBic}
+use Rattle.field_utils.specs.Lines.{onto, starts, lines}
+use Rattle.field_utils.specs.Names.{parseNameAndAddress, kept}
 use Rattle.reader.specs.Reading.{Found}
 use Rattle.reader.specs.Options.{isCounted, Head, noHead, headBy, accountReply, withNames, withBic, afterHead, fromHead, byLines, bicOnly, textOnly, foundBy, ascii}
 use Rattle.reader.specs.Code.{passedHead}
@@ -29,7 +30,6 @@ use Rattle.reader.proofs.Bodies.{head-there, head-none}
 use Rattle.reader.proofs.Readings.{rest-bic, rest-names}
 use Rattle.writer.specs.Writing.{slashOf, nameLines}
 use Rattle.writer.specs.Given.{passes, every, isLine, textReply, isAccount, isPresence, isBic, areNames, isTaken}
-use Rattle.party.proofs.Options.{by-option}
 use Rattle.writer.proofs.Tests.{both-left, both-right, both, passing, rest-not, none-more, first-not}
 use Rattle.writer.proofs.Relined.{All, Line, weight, lines-are}
 use Rattle.writer.proofs.Sayings.{usedOf, Short, Fitting, saying, line-is, lines-is}

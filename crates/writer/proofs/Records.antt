@@ -14,15 +14,15 @@ use Rattle.party.specs.declared.Party.{Party}
 use Rattle.party.specs.Limits.{limitsOf}
 use Rattle.party.specs.Text.{Used, used}
 use Rattle.party.specs.Party.{Said, said, where-limit}
+use Rattle.party.specs.declared.Numbering.{Numbering}
+use Rattle.party.specs.declared.Numbering.the-variants.{Unnumbered, Numbered, InTurn}
+use Rattle.party.specs.declared.First.the-variants.{Account, ShortAccount, AnyAccount}
 use Rattle.swift_utils.specs.Bytes.{all, among, digit, legal}
 use Rattle.swift_utils.specs.Checks.{parseSwiftChars, parseAccount}
 use Rattle.swift_utils.specs.Classes.{plain}
-use Rattle.party.specs.declared.Numbering.{Numbering}
-use Rattle.party.specs.declared.Numbering.the-variants.{Unnumbered, Numbered, InTurn}
 use Rattle.field_utils.specs.Identifier.{isNumbered}
 use Rattle.field_utils.specs.Names.{skipOf, parseNumber, parseLine, parseLines, parseCount, parseNameAndAddress}
 use Rattle.field_utils.proofs.NameLines.{and-first, number-room, number-legal}
-use Rattle.party.specs.declared.First.the-variants.{Account, ShortAccount, AnyAccount}
 use Rattle.reader.specs.Options.{accountReply, lengthReply, ascii}
 use Rattle.writer.specs.Writing.{numberOf, nameLines, writtenField, put, fits, placed}
 use Rattle.writer.specs.Given.{passes, every, isLine, textReply, isAccount, isPresence, isBic, areNames, isTaken, isGiven, written}

@@ -12,8 +12,8 @@ use Rattle.party.specs.declared.PartyOption.the-variants.{Field59F}
 use Rattle.party.specs.Limits.{limitsOf, placeOf}
 use Rattle.party.specs.Text.{Used}
 use Rattle.party.specs.Party.{where-limit, Said}
-use Rattle.party.proofs.Options.{place-one, by-option}
 use Rattle.party.specs.declared.Numbering.{Numbering}
+use Rattle.party.proofs.Options.{place-one, by-option}
 use Rattle.field_utils.specs.Names.{skipOf}
 use Rattle.writer.specs.Writing.{tagOf, slashOf, gapOf, nameLines, headLines, writtenLines, joined, writtenBody, writtenField, fieldMost}
 use Rattle.writer.specs.Given.{every, isAccount, isBic, areNames}

@@ -7,11 +7,11 @@ use lib.Dec.{eqb}
 use lib.ListN.{length}
 use borrow.Author.Tests.{eqb-false, ne-eqb}
 use Rattle.errors.specs.Refusals.{Reply, accepted, refused}
+use Rattle.party.specs.declared.Numbering.the-variants.{Numbered}
 use Rattle.swift_utils.specs.Bytes.{among}
-use Rattle.writer.specs.Given.{passes}
 use Rattle.field_utils.specs.Identifier.{isNumbered}
 use Rattle.field_utils.proofs.NameLines.{number-room}
-use Rattle.party.specs.declared.Numbering.the-variants.{Numbered}
+use Rattle.writer.specs.Given.{passes}
 
 pub both-left : (p q : Bool) → (p && q) ≡ true → p ≡ true
 both-left true q e = refl

@@ -8,11 +8,11 @@ use Rattle.errors.specs.Refusals.{accepted}
 use Rattle.party.specs.declared.Party.{Party}
 use Rattle.party.specs.Decides.{Decides}
 use Rattle.party.specs.Party.{Said, said, Same}
+use Rattle.party.specs.Limits.{limitsOf}
 use Rattle.reader.specs.Options.{foundBy, read}
 use Rattle.writer.specs.Writing.{writtenBody, writtenField, fieldMost}
 use Rattle.writer.specs.Given.{Given, isGiven}
 use Rattle.writer.specs.ReadBack.{identified59F, isReadBack, ReadsBack}
-use Rattle.party.specs.Limits.{limitsOf}
 use Rattle.writer.proofs.Relined.{weight}
 use Rattle.writer.proofs.Sayings.{said-with, saying}
 use Rattle.writer.proofs.Facts.{Facts, is-given}

@@ -13,10 +13,10 @@ use Rattle.party.specs.declared.PartyOption.{PartyOption}
 use Rattle.party.specs.Limits.{limitsOf}
 use Rattle.party.specs.Text.{Used}
 use Rattle.party.specs.Party.{where-limit, Said}
-use Rattle.swift_utils.specs.Bytes.{all, digit, legal}
-use Rattle.swift_utils.specs.Checks.{bicLength, parseBic}
 use Rattle.party.specs.declared.Numbering.{Numbering}
 use Rattle.party.specs.declared.Numbering.the-variants.{Unnumbered, Numbered, InTurn}
+use Rattle.swift_utils.specs.Bytes.{all, digit, legal}
+use Rattle.swift_utils.specs.Checks.{bicLength, parseBic}
 use Rattle.field_utils.specs.Identifier.{isNumbered}
 use Rattle.field_utils.specs.Names.{kept}
 use Rattle.reader.specs.Options.{ascii}

@@ -11,8 +11,8 @@ use Rattle.party.specs.declared.Party.{Party}
 use Rattle.party.specs.Limits.{limitsOf}
 use Rattle.party.specs.Text.{Used}
 use Rattle.party.specs.Party.{said}
-use Rattle.swift_utils.specs.Bytes.{among}
 use Rattle.party.specs.declared.Numbering.{Numbering}
+use Rattle.swift_utils.specs.Bytes.{among}
 use Rattle.field_utils.specs.Lines.{starts}
 use Rattle.field_utils.specs.Names.{skipOf, keptFrom, parseLine}
 use Rattle.writer.specs.Writing.{slashOf, numberOf, nameLines, put}

@@ -11,13 +11,13 @@ use Rattle.party.specs.declared.Party.{Party}
 use Rattle.party.specs.Limits.{limitsOf}
 use Rattle.party.specs.Text.{Used}
 use Rattle.party.specs.Party.{Said, Same}
+use Rattle.party.specs.declared.First.{First}
+use Rattle.party.specs.declared.First.the-variants.{NoAccount, Identified, Account, ShortAccount, SlashAccount, AnyAccount, WholeLine}
 use Rattle.swift_utils.specs.Bytes.{all, among}
 use Rattle.swift_utils.specs.Checks.{parseBic}
 use Rattle.field_utils.specs.Lines.{starts}
 use Rattle.field_utils.specs.Identifier.{identifierReply}
 use Rattle.field_utils.specs.Names.{parseNameAndAddress}
-use Rattle.party.specs.declared.First.{First}
-use Rattle.party.specs.declared.First.the-variants.{NoAccount, Identified, Account, ShortAccount, SlashAccount, AnyAccount, WholeLine}
 use Rattle.reader.specs.Options.{accountReply, lengthReply, ascii, read}
 use Rattle.writer.specs.Writing.{Writing, writing, writtenField, nameLines, fits}
 

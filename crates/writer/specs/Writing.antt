@@ -9,12 +9,12 @@ use Rattle.errors.specs.Refusals.{Reply, accepted, refused, told}
 use Rattle.party.specs.declared.PartyOption.{PartyOption}
 use Rattle.party.specs.Text.{Used}
 use Rattle.party.specs.Party.{Said}
-use Rattle.swift_utils.specs.Bytes.{bytes}
 use Rattle.party.specs.declared.Numbering.{Numbering}
 use Rattle.party.specs.declared.Numbering.the-variants.{Unnumbered, Numbered, InTurn}
+use Rattle.party.specs.Limits.{limitsOf}
+use Rattle.swift_utils.specs.Bytes.{bytes}
 use Rattle.field_utils.specs.Lines.{onto}
 use Rattle.writer.specs.declared.Written.{Written}
-use Rattle.party.specs.Limits.{limitsOf}
 
 -- a tag's capital, which is optional: 0 stands for none
 abbrev pub capital : ℕ → List ℕ

@@ -11,7 +11,6 @@ use Rattle.errors.specs.Refusals.{Reply, accepted, refused, must, _then_, told}
 use Rattle.errors.proofs.Replies.{must-held, then-first}
 use Rattle.party.specs.declared.Party.{Party}
 use Rattle.party.specs.Party.{said}
-use Rattle.flat.specs.Flat.{recordSize, unflatten}
 use Rattle.reader.specs.declared.Answer.{Answer}
 use Rattle.reader.specs.Reading.{toldAnswer}
 use Rattle.choices.specs.declared.Choice.{Choice}
@@ -21,6 +20,7 @@ use Rattle.writer.specs.declared.Written.{Written}
 use Rattle.writer.specs.Writing.{fieldMost, Writing, writing, writtenField, fits, toldWritten}
 use Rattle.writer.specs.Given.{isGiven, writeReply, written}
 use Rattle.writer.proofs.Theorems.{given-exact, written-most}
+use Rattle.flat.specs.Flat.{recordSize, unflatten}
 use Rattle.yewdome.specs.Interface.{Called, codeOf, lentReply, recordReply, asked, storing, given, lengthOr, wrote, partyWrite}
 use Rattle.yewdome.specs.Code.{Named}
 use Rattle.yewdome.proofs.LineBounds.{must-line, must-then, read-line}

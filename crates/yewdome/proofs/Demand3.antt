@@ -12,8 +12,6 @@ use Rattle.errors.proofs.Replies.{refused≢accepted}
 use Rattle.party.specs.declared.Party.{Party}
 use Rattle.party.specs.Party.{blank, said}
 use Rattle.field_utils.specs.Names.{parseLines, parseNameAndAddress}
-use Rattle.flat.specs.Flat.{recordSize, isFlat, unflatten}
-use Rattle.flat.proofs.Laws.{loaded-not}
 use Rattle.writer.specs.Writing.{writtenField, nameLines}
 use Rattle.writer.specs.Given.{areNames, isGiven}
 use Rattle.pages.specs.Pages.{ReadOutcome, aRecord, theEnd, aRefusal, PageRead, readField, readAt}
@@ -23,6 +21,8 @@ use Rattle.pages.specs.WholePage.{lastGiven as lastOf, Run as PartyRun, run as 
 use Rattle.pages.specs.Demand3.{closing as closingOf}
 use Rattle.pages.proofs.Moves.{next-most}
 use Rattle.pages.proofs.Theorems.{whole-page}
+use Rattle.flat.specs.Flat.{recordSize, isFlat, unflatten}
+use Rattle.flat.proofs.Laws.{loaded-not}
 use Rattle.yewdome.specs.Interface.{Called, codeOf, recordReply as lentRecord, readCode, readInto, pageRead, filedCode, filed, pageAdd, pageClose}
 use Rattle.yewdome.specs.Code.{Named, Within}
 use Rattle.yewdome.specs.Demand3.{isPosition, lastGiven, Run, run, adds, acceptedOf, records, closing, page, movedBy, Gives, Reads, ExportedPage}

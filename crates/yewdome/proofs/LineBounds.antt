@@ -11,17 +11,17 @@ use Rattle.errors.specs.Refusals.{Reply, accepted, refused, must, _then_}
 use Rattle.party.specs.declared.PartyOption.{PartyOption}
 use Rattle.party.specs.declared.Party.{Party}
 use Rattle.party.specs.Limits.{limitsOf}
-use Rattle.swift_utils.specs.Bytes.{all, among, between, letter, alphanumeric, legal}
-use Rattle.swift_utils.specs.Checks.{parseSwiftChars, parseAccount, bicLength, parseBic}
 use Rattle.party.specs.declared.Numbering.{Numbering}
 use Rattle.party.specs.declared.Numbering.the-variants.{Unnumbered, Numbered, InTurn}
-use Rattle.field_utils.specs.Lines.{lines, upto, starts}
-use Rattle.field_utils.specs.Identifier.{Identifier, isNumbered, absent, given, secondSlash, identifierReply, parsePartyIdentifier}
-use Rattle.field_utils.specs.Names.{skipOf, parseCount, parseNumber, parseLine, parseLines, parseNameAndAddress}
 use Rattle.party.specs.declared.First.{First}
 use Rattle.party.specs.declared.First.the-variants.{NoAccount, Identified, Account, ShortAccount, SlashAccount, AnyAccount, WholeLine}
 use Rattle.party.specs.declared.Layout.{Layout}
 use Rattle.party.specs.declared.Layout.the-variants.{BicOnly, TextOnly, ByLines}
+use Rattle.swift_utils.specs.Bytes.{all, among, between, letter, alphanumeric, legal}
+use Rattle.swift_utils.specs.Checks.{parseSwiftChars, parseAccount, bicLength, parseBic}
+use Rattle.field_utils.specs.Lines.{lines, upto, starts}
+use Rattle.field_utils.specs.Identifier.{Identifier, isNumbered, absent, given, secondSlash, identifierReply, parsePartyIdentifier}
+use Rattle.field_utils.specs.Names.{skipOf, parseCount, parseNumber, parseLine, parseLines, parseNameAndAddress}
 use Rattle.reader.specs.Reading.{giving, partyOf, Found}
 use Rattle.reader.specs.Options.{Head, noHead, head, accountReply, identifierHead, accountHead, shortAccountHead, headBy, withNames, withBic, afterHead, after, fromHead, isCounted, byLines, foundBy, ascii, bodyMost, bodyReply, read}
 use Rattle.reader.proofs.LineCounts.{lines-most}

@@ -11,10 +11,9 @@ use Rattle.errors.specs.Refusals.{Reply, accepted, refused, must, _then_}
 use Rattle.errors.proofs.Replies.{must-held, then-second}
 use Rattle.party.specs.declared.Party.{Party}
 use Rattle.party.specs.Party.{Said, said}
+use Rattle.reader.specs.Options.{read}
 use Rattle.writer.specs.Writing.{writtenField}
 use Rattle.writer.specs.Given.{isGiven}
-use Rattle.flat.specs.Flat.{unflatten}
-use Rattle.reader.specs.Options.{read}
 use Rattle.pages.specs.declared.PageRead.{PageRead as Read}
 use Rattle.pages.specs.declared.ReadOutcome.{ReadOutcome as OutcomeAt}
 use Rattle.pages.specs.declared.Filed.{Filed as FiledAt}
@@ -22,6 +21,7 @@ use Rattle.pages.specs.Pages.{pageMost, ReadOutcome, aRecord, theEnd, aRefusal,
 use Rattle.pages.specs.Adding.{isCarried, writable, hasSpace, withLf, endLine, Call, putting, recordSpace, recordReply, add, close, toldFiled, toldCall}
 use Rattle.pages.proofs.Fold.{reply-space}
 use Rattle.pages.proofs.Moves.{stays-or-moves, next-most, every-read}
+use Rattle.flat.specs.Flat.{unflatten}
 use Rattle.yewdome.specs.Interface.{Called, codeOf, lentReply, recordReply as lentRecordReply, readCode, readBytes, readInto, askedRead, pageRead, filedCode, filed, pageAdd}
 use Rattle.yewdome.specs.Code.{Named, Within}
 use Rattle.yewdome.proofs.LineBounds.{must-line, must-then, read-line}

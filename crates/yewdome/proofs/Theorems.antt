@@ -17,11 +17,11 @@ use Rattle.party.specs.declared.Party.{Party}
 use Rattle.party.specs.Limits.{limitsOf, optionAt}
 use Rattle.party.specs.Text.{textMost, padded, textOf, fourTexts, Used}
 use Rattle.party.specs.Party.{blank, where-limit, namesOf, said}
-use Rattle.flat.specs.Flat.{recordSize, textsOf, flatten, stored, unflatten}
-use Rattle.flat.proofs.Laws.{none, Sizes, stored-whole}
-use Rattle.flat.proofs.Theorems.{loads-back}
 use Rattle.reader.specs.Reading.{Reading, giving, partyOf, Found}
 use Rattle.reader.specs.Options.{foundBy, bodyReply, read}
+use Rattle.choices.specs.declared.Choice.{Choice}
+use Rattle.choices.specs.Choices.{parse, parseWithVariant}
+use Rattle.choices.proofs.Every.{every-parse, every-variant}
 use Rattle.writer.specs.Writing.{Writing}
 use Rattle.writer.specs.Given.{isGiven, written}
 use Rattle.writer.proofs.Facts.{facts, is-given, names-are}
@@ -29,9 +29,9 @@ use Rattle.writer.proofs.Back.{accepted-is}
 use Rattle.pages.specs.Pages.{pageMost, ReadOutcome, aRecord, theEnd, aRefusal, outcomeOf, readAt, bodyPlace}
 use Rattle.pages.proofs.Moves.{every-read}
 use Rattle.pages.proofs.Bodies.{body-there, body-most}
-use Rattle.choices.specs.declared.Choice.{Choice}
-use Rattle.choices.specs.Choices.{parse, parseWithVariant}
-use Rattle.choices.proofs.Every.{every-parse, every-variant}
+use Rattle.flat.specs.Flat.{recordSize, textsOf, flatten, stored, unflatten}
+use Rattle.flat.proofs.Laws.{none, Sizes, stored-whole}
+use Rattle.flat.proofs.Theorems.{loads-back}
 use Rattle.yewdome.specs.Interface.{Called, codeOf, lentReply, recordReply, asked, storing, given, partyRead, choiceAt, partyParse, partyParseWithVariant, lengthOr, wrote, partyWrite, readCode, pageRead, pageBody}
 use Rattle.yewdome.specs.Code.{Named}
 use Rattle.yewdome.proofs.LineBounds.{by-test, must-line, must-then, read-line}

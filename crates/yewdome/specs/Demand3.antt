@@ -11,9 +11,9 @@ use lib.Dec.{ltb}
 use lib.ListN.{length, take}
 use Rattle.party.specs.declared.Party.{Party}
 use Rattle.party.specs.Party.{Same}
-use Rattle.flat.specs.Flat.{recordSize, unflatten}
 use Rattle.pages.specs.Pages.{pageMost, readField}
 use Rattle.pages.specs.WholePage.{Field, kept, new, pageOf, fieldsOf, Overwrites}
+use Rattle.flat.specs.Flat.{recordSize, unflatten}
 use Rattle.yewdome.specs.Interface.{Called, readInto, pageRead, pageAdd, pageClose}
 
 -- ---- adding and closing

@@ -8,7 +8,6 @@ use Rattle.errors.specs.Refusals.{Reply, accepted, refused, must, _then_}
 use Rattle.party.specs.declared.Party.{Party}
 use Rattle.party.specs.Limits.{optionAt}
 use Rattle.party.specs.Party.{said}
-use Rattle.flat.specs.Flat.{recordSize, stored, unflatten}
 use Rattle.reader.specs.Reading.{Reading}
 use Rattle.reader.specs.Options.{read}
 use Rattle.choices.specs.declared.Choice.{Choice}
@@ -18,6 +17,7 @@ use Rattle.writer.specs.Writing.{Writing}
 use Rattle.writer.specs.Given.{written}
 use Rattle.pages.specs.Pages.{ReadOutcome, aRecord, theEnd, aRefusal, PageRead, bodiless, outcomeOf, readAt, bodyPlace}
 use Rattle.pages.specs.Adding.{Filed, positionAfter, refusal, Call, add, close}
+use Rattle.flat.specs.Flat.{recordSize, stored, unflatten}
 
 -- what a call gives: its number, and the lent bytes after it
 pub record Called : Type 0 where

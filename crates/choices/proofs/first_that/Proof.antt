@@ -8,8 +8,8 @@ use lib.ListN.{length, drop, getD, drop-of-length-le}
 use borrow.Author.Tests.{not-true, not-false}
 use borrow.Author.Needs.{needs}
 use Rattle.errors.specs.Refusals.{told}
-use Rattle.reader.specs.Reading.{Reading, toldAnswer}
 use Rattle.field_utils.specs.Lines.{lines}
+use Rattle.reader.specs.Reading.{Reading, toldAnswer}
 use Rattle.choices.specs.declared.Trial.{Trial}
 use Rattle.choices.specs.Choices.{trialsOf, triedText, wanted, firstThat}
 use Rattle.choices.proofs.Trials.{three, place-at, first-won, first-lost, first-unwanted, first-wanted, first-none}

@@ -16,11 +16,11 @@ use Rattle.party.specs.declared.PartyOption.{PartyOption}
 use Rattle.party.specs.declared.Limits.{Limits}
 use Rattle.party.specs.declared.Text.{Text}
 use Rattle.party.specs.Text.{padded, textOf, fourTexts}
+use Rattle.party.specs.declared.Numbering.{Numbering}
 use Rattle.swift_utils.specs.Bytes.{all, legal}
 use Rattle.swift_utils.proofs.Classes.{class-legal, all-fails, all-passes, all-done}
 use Rattle.swift_utils.proofs.Table.{by-entry}
 use Rattle.swift_utils.proofs.Parts.{part, part-end}
-use Rattle.party.specs.declared.Numbering.{Numbering}
 use Rattle.field_utils.specs.Lines.{lines}
 use Rattle.field_utils.specs.Names.{parseLine, parseCount, NamesRead, readNames, toldNames}
 use Rattle.field_utils.specs.Code.{parseShape, parseRest, givenNames}

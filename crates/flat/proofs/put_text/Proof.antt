@@ -7,9 +7,9 @@ use native.Mathlib.Omega.{arith}
 use borrow.Author.Needs.{needs}
 use lib.ListN.{length, set, length-set}
 use lib.Seq.{paste, paste-zero, paste-suc}
+use Rattle.party.specs.Text.{textMost}
 use Rattle.party.proofs.Values.{is-text}
 use Rattle.flat.specs.Flat.{byteOf}
-use Rattle.party.specs.Text.{textMost}
 use Rattle.flat.proofs.Laws.{text-put}
 use Rattle.flat.proofs.put_text.Statement.{statement}
 use Rattle.flat.proofs.put_text.Tie as tie

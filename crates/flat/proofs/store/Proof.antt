@@ -6,8 +6,8 @@ use borrow.Author.Needs.{needs}
 use borrow.Author.Tests.{le-leb, lt-leb}
 use lib.ListN.{length, length-set}
 use Rattle.party.proofs.Values.{is-party}
-use Rattle.flat.specs.Flat.{recordSize}
 use Rattle.party.proofs.Options.{place-most}
+use Rattle.flat.specs.Flat.{recordSize}
 use Rattle.flat.proofs.Laws.{stored-whole, stored-none, store-all}
 use Rattle.flat.proofs.store.Statement.{statement}
 use Rattle.flat.proofs.store.Tie as tie

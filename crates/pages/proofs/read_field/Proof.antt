@@ -3,13 +3,13 @@ use mathlib.Core.Path.{_≡_, refl, sym, _∙_, ap}
 use lib.ListN.{drop}
 use denote.Ref.{now}
 use borrow.Author.Needs.{needs}
+use Rattle.errors.specs.declared.Outcome.{Outcome}
+use Rattle.errors.specs.Refusals.{told}
 use Rattle.reader.specs.Options.{read}
 use Rattle.pages.specs.declared.ReadOutcome.{ReadOutcome}
 use Rattle.pages.specs.declared.ReadOutcome.the-variants.{Record, Refused}
 use Rattle.pages.specs.Pages.{outcomeOf, toldOutcome, readField}
 use Rattle.pages.specs.Code.{toldTag}
-use Rattle.errors.specs.declared.Outcome.{Outcome}
-use Rattle.errors.specs.Refusals.{told}
 use Rattle.pages.proofs.Cases.{Tells, tells-refusal, tagged-tells, answer-tells}
 use Rattle.pages.proofs.read_field.Statement.{statement}
 use Rattle.pages.proofs.read_field.Tie as tie

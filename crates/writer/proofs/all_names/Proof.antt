@@ -11,8 +11,8 @@ use Rattle.party.specs.declared.Party.{Party}
 use Rattle.party.specs.Limits.{limitsOf}
 use Rattle.party.specs.Text.{used}
 use Rattle.party.specs.Party.{said, IsParty}
-use Rattle.party.proofs.Values.{is-party}
 use Rattle.party.specs.declared.Numbering.{Numbering}
+use Rattle.party.proofs.Values.{is-party}
 use Rattle.writer.specs.Code.{isName, allNames}
 use Rattle.writer.proofs.Names.{none, namesIn, few as names-few, said-names, all-next, all-end}
 use borrow.Author.Needs.{needs}

@@ -3,8 +3,8 @@ use mathlib.Core.Path.{_≡_, sym, _∙_, ap}
 use mathlib.Core.Bool.{Bool, not}
 use denote.Ref.{now}
 use borrow.Author.Tests.{not-true, not-false}
-use Rattle.swift_utils.specs.Bytes.{among}
 use Rattle.party.specs.declared.First.the-variants.{AnyAccount}
+use Rattle.swift_utils.specs.Bytes.{among}
 use Rattle.reader.specs.Options.{lengthReply}
 use Rattle.writer.specs.Given.{passes, textReply}
 use Rattle.writer.proofs.Records.{line-by, any-account}

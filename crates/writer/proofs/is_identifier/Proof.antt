@@ -4,9 +4,9 @@ use mathlib.Core.Bool.{Bool, not}
 use denote.Ref.{now}
 use borrow.Author.Tests.{not-true, not-false}
 use Rattle.party.specs.declared.Limits.{Limits}
+use Rattle.party.specs.declared.First.the-variants.{Identified}
 use Rattle.swift_utils.specs.Bytes.{among}
 use Rattle.field_utils.specs.Identifier.{identifierReply}
-use Rattle.party.specs.declared.First.the-variants.{Identified}
 use Rattle.writer.specs.Given.{passes, textReply}
 use Rattle.writer.proofs.Records.{line-by}
 use borrow.Author.Needs.{needs}

@@ -7,12 +7,12 @@ use native.Mathlib.Omega.{arith}
 use lib.ListN.{length, drop}
 use Rattle.party.specs.declared.Party.{Party}
 use Rattle.party.specs.Party.{IsParty}
+use Rattle.party.specs.Limits.{limitsOf}
+use Rattle.party.specs.declared.Limits.{Limits}
 use Rattle.party.proofs.Values.{is-party}
+use Rattle.field_utils.specs.Names.{keptFrom}
 use Rattle.writer.specs.Writing.{nameLines}
 use Rattle.writer.specs.Code.{led}
-use Rattle.party.specs.Limits.{limitsOf}
-use Rattle.field_utils.specs.Names.{keptFrom}
-use Rattle.party.specs.declared.Limits.{Limits}
 use Rattle.writer.proofs.Names.{namesIn, few as names-few, marks-most, said-names, left-length, left-end}
 use borrow.Author.Needs.{needs}
 use Rattle.writer.proofs.names_length.Statement.{statement}

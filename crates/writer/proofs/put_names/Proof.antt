@@ -12,13 +12,13 @@ use lib.Seq.{length-take-le}
 use Rattle.party.specs.declared.Party.{Party}
 use Rattle.party.specs.Text.{used}
 use Rattle.party.specs.Party.{IsParty}
-use Rattle.party.proofs.Values.{is-party}
 use Rattle.party.specs.declared.Numbering.{Numbering}
+use Rattle.party.specs.Limits.{limitsOf}
+use Rattle.party.specs.declared.Limits.{Limits}
+use Rattle.party.proofs.Values.{is-party}
+use Rattle.field_utils.specs.Names.{keptFrom}
 use Rattle.writer.specs.Writing.{numberOf, nameLines}
 use Rattle.writer.specs.Code.{lead, led}
-use Rattle.party.specs.Limits.{limitsOf}
-use Rattle.field_utils.specs.Names.{keptFrom}
-use Rattle.party.specs.declared.Limits.{Limits}
 use Rattle.writer.proofs.Names.{none, namesIn, few as names-few, marks-most, number-part, number-length, said-names, left-next, left-end}
 use Rattle.writer.proofs.Puts.{puts-as, Partway, begun, finished, kept, next, next-space}
 use borrow.Author.Needs.{needs}

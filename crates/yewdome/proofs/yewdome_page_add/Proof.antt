@@ -4,8 +4,8 @@ use borrow.Author.Needs.{needs}
 use lib.Dec.{leb}
 use lib.ListN.{length, getD}
 use Rattle.party.specs.Party.{said}
-use Rattle.flat.specs.Flat.{unflatten}
 use Rattle.pages.specs.Adding.{add}
+use Rattle.flat.specs.Flat.{unflatten}
 use Rattle.yewdome.specs.Interface.{recordReply, filed}
 use Rattle.yewdome.proofs.Answers.{refuses, passes}
 use Rattle.yewdome.proofs.Pages.{add-within, told-within, filed-told, adds}

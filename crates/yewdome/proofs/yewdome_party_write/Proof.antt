@@ -9,9 +9,9 @@ use Rattle.errors.specs.declared.Outcome.{Outcome}
 use Rattle.errors.specs.declared.Outcome.the-variants.{Accepted, Refused}
 use Rattle.errors.specs.Refusals.{told}
 use Rattle.party.specs.Party.{said}
-use Rattle.flat.specs.Flat.{unflatten}
 use Rattle.writer.specs.Writing.{fieldMost}
 use Rattle.writer.specs.Given.{written}
+use Rattle.flat.specs.Flat.{unflatten}
 use Rattle.yewdome.specs.Interface.{recordReply, lengthOr, wrote, partyWrite}
 use Rattle.yewdome.specs.Code.{Named}
 use Rattle.yewdome.proofs.Answers.{refuses, passes, writes, wrote-within}
