@@ -11,7 +11,7 @@ use Rattle.party.specs.Limits.{limitsOf}
 use Rattle.swift_utils.specs.Bytes.{all}
 use Rattle.field_utils.specs.Lines.{lines}
 use Rattle.reader.specs.Reading.{Reading}
-use Rattle.reader.specs.Options.{ascii, read}
+use Rattle.reader.specs.Options.{ascii, bodyMost, read}
 use Rattle.choices.specs.declared.Choice.{Choice}
 use Rattle.choices.specs.Choices.{trialsOf, triedText, wanted, refusing, orElse, firstThat, afterCheck, parse, isLetter, optionsOf, pickOf, parseWithVariant}
 
@@ -32,7 +32,7 @@ module _
 
     pub every-parse : (choice : Choice) (body : List ℕ) → P (parse choice body)
     unfolding parse
-    every-parse choice body = go (leb (length body) 2048) (all ascii body)
+    every-parse choice body = go (leb (length body) bodyMost) (all ascii body)
       where
         go : (a b : Bool) → P (afterCheck (must a 12 0 then must b 13 0) (firstThat (wanted (lines body) (trialsOf choice)) (triedText choice body)))
         go true true = first (wanted (lines body) (trialsOf choice)) (triedText choice body)
