@@ -3,3 +3,4 @@ pub mod Trims
 pub mod Identifiers
 pub mod NameLines
 pub mod NameTexts
+pub mod Tests

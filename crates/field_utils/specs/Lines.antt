@@ -19,6 +19,11 @@ unfoldable pub starts : ℕ → List ℕ → Bool
 starts b [] = false
 starts b (a ∷ l) = eqb a b
 
+-- a line is empty
+abbrev pub isEmpty : List ℕ → Bool
+isEmpty [] = true
+isEmpty (b ∷ l) = false
+
 -- The lines of Rust's `lines`: each ends at LF, with one CR just before that LF dropped; text after the last LF is a line if not
 -- empty. Other CRs stay.
 unfoldable pub lines : List ℕ → List (List ℕ)

@@ -7,16 +7,16 @@ use filing::StepOutcome;
 use filing::file_next;
 use libc::STDIN_FILENO;
 use libc::STDOUT_FILENO;
-use pages::Filed;
-use pages::PAGE_MOST;
-use pages::close;
+use page_reader::PAGE_MOST;
+use page_writer::Filed;
+use page_writer::close;
 use tally::Tally;
 use tally::say;
 ghost use mathlib.Core.Path.{_≡_};
 ghost use Prim.Native.Nat.{_≤_};
 ghost use lib.ListN.{length};
-ghost use Rattle.pages.specs.Demand3.{closing};
-ghost use Rattle.filing.specs.Filing.{toldStepOutcome, lastAdded, isEnded, Closable, openPage, fileAll, recordsOf};
+ghost use Rattle.page_writer.specs.Demand3.{closing};
+ghost use Rattle.filing.specs.Filing.{toldStepOutcome, lastAdded, isEnded, openPage, fileAll, recordsOf};
 
 // The position after a step: that after the record it added, if it added one.
 fn position_after(outcome: StepOutcome, position: usize) -> usize
@@ -43,9 +43,7 @@ fn is_end(outcome: StepOutcome) -> bool
 // Files from the page on the one in the buffer, up to the end or a read that does not move on, which is 17: no end line. Gives the position
 // to close at.
 fn file_all(page: &[u8], buf: &mut [u8]) -> usize
-    requires { ⌜ 2 ≤ length (now buf) ⌝ }
     ensures { λ r. ⌜ openPage (now (buf .exit)) r ≡ fileAll (now (page .entry)) (now (buf .entry)) ⌝ }
-    ensures closable { λ r. ⌜ Closable (now (buf .exit)) r ⌝ }
 {
     let mut tally = Tally::new();
     let mut at = 0;
@@ -68,7 +66,7 @@ fn file_all(page: &[u8], buf: &mut [u8]) -> usize
 }
 
 // Files the page on a new one, and writes that: it is what `whole-page` speaks of, for the records that the page's reads give. Closing is not
-// refused, since the page can be closed where filing left it.
+// refused in a buffer of at least 2 bytes, as `whole-page` says too.
 fn file_page(page: &[u8], buf: &mut [u8])
     requires { ⌜ 2 ≤ length (now buf) ⌝ }
     ensures { λ r. ⌜ now (buf .exit) ≡ closing (recordsOf (now (page .entry))) (now (buf .entry)) .buffer ⌝ }

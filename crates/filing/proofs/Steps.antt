@@ -6,13 +6,13 @@ use Prim.Native.Nat.{ℕ, _≤_, _<_}
 use native.Mathlib.Omega.{arith}
 use lib.ListN.{length}
 use Rattle.party.specs.Party.{said}
-use Rattle.pages.specs.declared.PageRead.{PageRead as Answer}
-use Rattle.pages.specs.declared.ReadOutcome.{ReadOutcome as OutcomeAt}
-use Rattle.pages.specs.declared.ReadOutcome.the-variants.{Record}
-use Rattle.pages.specs.Pages.{PageRead, readAt, toldOutcome, toldRead}
-use Rattle.pages.specs.declared.Filed.{Filed as FiledAt}
-use Rattle.pages.specs.Adding.{Call, add, toldFiled, toldCall}
-use Rattle.pages.proofs.Moves.{stays-or-moves}
+use Rattle.page_reader.specs.declared.PageRead.{PageRead as Answer}
+use Rattle.page_reader.specs.declared.ReadOutcome.{ReadOutcome as OutcomeAt}
+use Rattle.page_reader.specs.declared.ReadOutcome.the-variants.{Record}
+use Rattle.page_reader.specs.Pages.{PageRead, readAt, toldOutcome, toldRead}
+use Rattle.page_reader.proofs.Moves.{stays-or-moves}
+use Rattle.page_writer.specs.declared.Filed.{Filed as FiledAt}
+use Rattle.page_writer.specs.Adding.{Call, add, toldFiled, toldCall}
 use Rattle.filing.specs.Filing.{Step, adding, fileRead, fileNext}
 
 module _ (page : List ℕ) (at : ℕ) (buffer : List ℕ) (position : ℕ) (r : Answer) (e : toldRead r (readAt page at .body) ≡ readAt page at) where

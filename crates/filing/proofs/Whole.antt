@@ -10,18 +10,19 @@ use lib.ListN.{length}
 use borrow.Author.Tests.{eqb-false, eq-eqb, ne-eqb}
 use Rattle.party.specs.declared.Party.{Party}
 use Rattle.party.specs.Party.{said}
-use Rattle.writer.proofs.Tests.{either-right}
-use Rattle.pages.specs.Pages.{ReadOutcome, aRecord, theEnd, aRefusal, PageRead, readAt}
-use Rattle.pages.specs.Adding.{Filed, positionAfter, refusal, add, close}
-use Rattle.pages.specs.WholePage.{lastGiven, Run, run}
-use Rattle.pages.specs.Demand3.{closing}
-use Rattle.pages.proofs.Moves.{stays-or-moves}
+use Rattle.field_utils.proofs.Tests.{either-right}
+use Rattle.page_reader.specs.Pages.{ReadOutcome, aRecord, theEnd, aRefusal, PageRead, readAt}
+use Rattle.page_reader.proofs.Moves.{stays-or-moves}
+use Rattle.page_writer.specs.Adding.{Filed, positionAfter, refusal, add, close}
+use Rattle.page_writer.specs.Fold.{run}
+use Rattle.page_writer.specs.WholePage.{OpenPage, lastGiven, addStep}
+use Rattle.page_writer.specs.Demand3.{adds, closing}
 use Rattle.filing.specs.declared.Step.{Step as StepAt}
-use Rattle.filing.specs.Filing.{Step, adding, fileRead, fileNext, toldStepOutcome, toldStep, lastAdded, isEnded, isEnd, OpenPage, openPage, isLast, fileFrom, fileAll, recordOf, recordsFrom, recordsOf}
+use Rattle.filing.specs.Filing.{Step, adding, fileRead, fileNext, toldStepOutcome, toldStep, lastAdded, isEnded, isEnd, openPage, isLast, fileFrom, fileAll, recordOf, recordsFrom, recordsOf}
 
--- what a run leaves
-abbrev pub left : Run → OpenPage
-left r = openPage (r .buffer) (r .position)
+-- what a run of adds leaves
+abbrev pub left : List Party → List ℕ → ℕ → OpenPage
+left ps buffer position = run addStep (openPage buffer position) ps .state
 
 -- a step whose record an add answered
 add-ended : (f : Filed) → isEnded (adding f) ≡ false
@@ -45,9 +46,9 @@ module _ (next : ℕ) (buffer : List ℕ) (position : ℕ) where
   read-ended (aRefusal k n) = refl
 
   read-run : (x : ReadOutcome) (later : List Party) → let s = fileRead x next buffer position in
-      left (run later (s .buffer) (lastAdded (s .outcome) position)) ≡ left (run (recordOf x later) buffer position)
+      left later (s .buffer) (lastAdded (s .outcome) position) ≡ left (recordOf x later) buffer position
   unfolding run
-  read-run (aRecord p) later = let c = add buffer position (said p) in ap (λ (k : ℕ). left (run later (c .buffer) k)) (add-last (c .answer) position)
+  read-run (aRecord p) later = let c = add buffer position (said p) in ap (left later (c .buffer)) (add-last (c .answer) position)
   read-run theEnd later = refl
   read-run (aRefusal k n) later = refl
 
@@ -69,7 +70,7 @@ module _ (page : List ℕ) (at : ℕ) (buffer : List ℕ) (position : ℕ) where
   unfolding fileNext
   step-ended = read-ended (r .next) buffer position (r .outcome)
 
-  step-run : (later : List Party) → left (run later (s .buffer) after) ≡ left (run (recordOf (r .outcome) later) buffer position)
+  step-run : (later : List Party) → left later (s .buffer) after ≡ left (recordOf (r .outcome) later) buffer position
   unfolding fileNext
   step-run later = read-run (r .next) buffer position (r .outcome) later
 
@@ -131,7 +132,7 @@ module _ (page : List ℕ) (at : ℕ) (buffer : List ℕ) (position : ℕ) (r : 
       ∙ from-enough (length page - at) (suc (length page - r .next)) page (r .next) now reached (omega (arith, h, k)) (omega arith)
 
 -- filing leaves what the run of those adds leaves
-from-run : (n : ℕ) (page : List ℕ) (at : ℕ) (buffer : List ℕ) (position : ℕ) → fileFrom n page at buffer position ≡ left (run (recordsFrom n page at) buffer position)
+from-run : (n : ℕ) (page : List ℕ) (at : ℕ) (buffer : List ℕ) (position : ℕ) → fileFrom n page at buffer position ≡ left (recordsFrom n page at) buffer position
 unfolding fileFrom recordsFrom run
 from-run zero page at buffer position = refl
 from-run (suc n) page at buffer position = go (isLast (isEnd (r .outcome)) (r .next) at) refl (from-run n page (t .next) (t .buffer) to)
@@ -149,8 +150,8 @@ from-run (suc n) page at buffer position = go (isLast (isEnd (r .outcome)) (r .n
     same-last = rw (step-ended page at buffer position, step-next page at buffer position)
 
     go : (l : Bool) → isLast (isEnd (r .outcome)) (r .next) at ≡ l
-        → fileFrom n page (t .next) (t .buffer) to ≡ left (run (recordsFrom n page (t .next)) (t .buffer) to)
-        → fileFrom (suc n) page at buffer position ≡ left (run (recordsFrom (suc n) page at) buffer position)
+        → fileFrom n page (t .next) (t .buffer) to ≡ left (recordsFrom n page (t .next)) (t .buffer) to
+        → fileFrom (suc n) page at buffer position ≡ left (recordsFrom (suc n) page at) buffer position
     go true e later = from-last page at buffer position n (same-last ∙ e) ∙ step-run page at buffer position [] ∙ rw (e, recordsFrom)
     go false e later =
         from-next page at buffer position n (same-last ∙ e) ∙ later ∙ step-run page at buffer position (recordsFrom n page (t .next))
@@ -161,7 +162,7 @@ pub from-start : (page buffer : List ℕ) → fileFrom (suc (length page - 0)) p
 from-start page buffer = from-enough (suc (length page - 0)) (suc (length page)) page 0 buffer 0 (omega arith) (omega arith)
 
 -- a page is filed as the adds of `whole-page` are: the list is what the page's reads give, and the page is empty at first
-pub filed-run : (page buffer : List ℕ) → fileAll page buffer ≡ left (run (recordsOf page) buffer 0)
+pub filed-run : (page buffer : List ℕ) → fileAll page buffer ≡ adds (recordsOf page) buffer .state
 filed-run page buffer = from-run (suc (length page)) page 0 buffer 0
 
 -- and closed as it closes

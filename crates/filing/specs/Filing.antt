@@ -1,7 +1,6 @@
 -- One read of a page, and the record that it gives added to another. Document 01 has the read and the add ('Pages (added)'); that one
 -- follows the other, up to the end, is ours.
-use Prim.Native.Nat.{ℕ, zero, suc, _+_}
-use mathlib.Core.Path.{_≡_}
+use Prim.Native.Nat.{ℕ, zero, suc}
 use mathlib.Core.Bool.{Bool, true, false, _||_}
 use mathlib.Core.List.{List, [], _∷_}
 use lib.Dec.{eqb}
@@ -9,8 +8,9 @@ use lib.ListN.{length}
 use Rattle.errors.specs.Refusals.{refusalOf}
 use Rattle.party.specs.declared.Party.{Party}
 use Rattle.party.specs.Party.{said}
-use Rattle.pages.specs.Pages.{ReadOutcome, aRecord, theEnd, aRefusal, readAt}
-use Rattle.pages.specs.Adding.{Filed, positionAfter, refusal, add, close}
+use Rattle.page_reader.specs.Pages.{ReadOutcome, aRecord, theEnd, aRefusal, readAt}
+use Rattle.page_writer.specs.Adding.{Filed, positionAfter, refusal, add}
+use Rattle.page_writer.specs.WholePage.{OpenPage}
 use Rattle.filing.specs.declared.Step.{Step as StepAt}
 use Rattle.filing.specs.declared.StepOutcome.{StepOutcome as OutcomeAt}
 use Rattle.filing.specs.declared.StepOutcome.the-variants.{End, Refused, Added}
@@ -72,16 +72,7 @@ isEnd (aRecord p) = false
 isEnd theEnd = true
 isEnd (aRefusal k n) = false
 
--- the page in a buffer can be closed at a position
-abbrev pub Closable : List ℕ → ℕ → Type 0
-Closable buffer at = close buffer at .answer ≡ positionAfter (at + 2)
-
--- a page that is not closed: its buffer, and the position after it
-pub record OpenPage : Type 0 where
-  pub buffer : List ℕ
-  pub position : ℕ
-
--- the two as one value
+-- a buffer and a position, as an open page
 abbrev pub openPage : List ℕ → ℕ → OpenPage
 openPage buffer position = record { buffer = buffer; position = position }
 

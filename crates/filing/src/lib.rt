@@ -1,9 +1,9 @@
 // Filing from one page to another, which is ours: no Rust file has it.
 use errors::ParseError;
-use pages::Filed;
-use pages::ReadOutcome;
-use pages::add;
-use pages::read_at;
+use page_reader::ReadOutcome;
+use page_reader::read_at;
+use page_writer::Filed;
+use page_writer::add;
 ghost use mathlib.Core.Path.{_≡_};
 ghost use Prim.Native.Nat.{_≤_, _<_};
 ghost use lib.ListN.{length};

@@ -4,7 +4,7 @@ use crate::records::option_of;
 use crate::records::record;
 use errors::Outcome;
 use errors::ParseError;
-use pages::read_at;
+use page_reader::read_at;
 use party::limits_of;
 use reader::Answer;
 use reader::read;

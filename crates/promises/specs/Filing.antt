@@ -13,13 +13,15 @@ use Rattle.swift_utils.specs.Bytes.{bytes, letter, digit, alphanumeric, signs, 
 use Rattle.swift_utils.specs.Checks.{parseSwiftChars, parseAccount}
 use Rattle.field_utils.specs.Lines.{upto, onto, starts}
 use Rattle.field_utils.specs.Names.{parseLine, parseLines, parseNameAndAddress}
+use Rattle.field_utils.specs.Tags.{tagOf}
 use Rattle.reader.specs.Reading.{partyOf}
-use Rattle.writer.specs.Writing.{nameLines, writtenLines, joined, writtenBody, writtenField, pieces, tagOf}
+use Rattle.writer.specs.Writing.{nameLines, writtenLines, joined, writtenBody, writtenField, pieces}
 use Rattle.writer.specs.Given.{isLine, areNames, isGiven}
 use Rattle.writer.specs.ReadBack.{endsCr, lastEmpty, earlierCr, identified59F, isReadBack}
-use Rattle.pages.specs.Pages.{endsPage}
-use Rattle.pages.specs.Adding.{anyBoundary, laterBoundary, isCarried, writable, positionAfter, refusal, recordReply, add, close}
-use Rattle.pages.specs.WholePage.{run}
+use Rattle.page_reader.specs.Pages.{endsPage}
+use Rattle.page_writer.specs.Adding.{anyBoundary, laterBoundary, isCarried, writable, positionAfter, refusal, asked, recordReply, add, close}
+use Rattle.page_writer.specs.Fold.{run}
+use Rattle.page_writer.specs.Demand3.{adds}
 use Rattle.promises.specs.Starred.{gives}
 
 -- a 50K of these names
@@ -28,7 +30,7 @@ of names = gives Field50K false [] [] names .party
 
 pub record FilingRuledOut : Type 0 where
   -- an adder that leaves the page as it came, that files the first record over and over, or that refuses all
-  pub both-filed : run (of (bytes "A" ∷ []) ∷ of (bytes "B" ∷ []) ∷ []) (replicate 20 0) 0 .buffer ≡ bytes ":50K:A\n:50K:B\n" ++ replicate 6 0
+  pub both-filed : adds (of (bytes "A" ∷ []) ∷ of (bytes "B" ∷ []) ∷ []) (replicate 20 0) .state .buffer ≡ bytes ":50K:A\n:50K:B\n" ++ replicate 6 0
   -- 24 with bytes free: 9 bytes take a field of 6, its LF and the end; 8 do not
   pub enough : recordReply 9 0 (said (of (bytes "A" ∷ []))) ≡ accepted
   pub short : recordReply 8 0 (said (of (bytes "A" ∷ []))) ≡ refused 24 0
@@ -48,7 +50,7 @@ pub record FilingRuledOut : Type 0 where
   pub position : add (bytes "abcdefghijkl") 1 (said (of [])) .answer ≡ refusal 21 0
 
 pub filing-ruled-out : FilingRuledOut
-unfolding padded textOf said letter digit alphanumeric signs legal parseSwiftChars parseAccount upto onto starts parseLine parseLines parseNameAndAddress fourTexts partyOf nameLines writtenLines joined writtenBody writtenField pieces isLine areNames isGiven endsCr lastEmpty earlierCr identified59F endsPage isReadBack anyBoundary laterBoundary isCarried writable recordReply add close run tagOf
+unfolding padded textOf said letter digit alphanumeric signs legal parseSwiftChars parseAccount upto onto starts parseLine parseLines parseNameAndAddress fourTexts partyOf nameLines writtenLines joined writtenBody writtenField pieces isLine areNames isGiven endsCr lastEmpty earlierCr identified59F endsPage isReadBack anyBoundary laterBoundary isCarried writable asked recordReply add close run tagOf
 filing-ruled-out = record {
   both-filed = refl;
   enough = refl;

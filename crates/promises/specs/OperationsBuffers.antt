@@ -1,4 +1,4 @@
--- Wrong programs that the contracts of `writer`, `pages`, `filing`, `flat` and `yewdome` rule out (document 01, 'For the auditor's form'),
+-- Wrong programs that the contracts of `writer`, `page_reader`, `page_writer`, `filing`, `flat` and `yewdome` rule out (document 01, 'For the auditor's form'),
 -- each by computation. A field is named after its operation and the mistake, and its comment says what the wrong program does.
 use mathlib.Core.Path.{_≡_, refl}
 use mathlib.Core.Bool.{true, false}
@@ -15,15 +15,16 @@ use Rattle.field_utils.specs.Lines.{upto, onto, starts, lines}
 use Rattle.field_utils.specs.Trim.{white, trimmedStart, keep, trimmedEnd, trimmed}
 use Rattle.field_utils.specs.Identifier.{isNumbered, secondSlash, identifierReply, parsePartyIdentifier}
 use Rattle.field_utils.specs.Names.{parseLine, parseLines, parseNameAndAddress}
+use Rattle.field_utils.specs.Tags.{tagOf}
 use Rattle.reader.specs.Reading.{partyOf}
 use Rattle.reader.specs.Options.{accountHead, shortAccountHead, afterHead, read}
 use Rattle.choices.specs.Detection.{anyNumbered, firstLine, lastLine, bicLike, testLine}
 use Rattle.choices.specs.Choices.{firstThat, parse, pickOf, parseWithVariant}
-use Rattle.writer.specs.Writing.{tagOf, nameLines, writtenLines, joined, writtenBody, writtenField, fits, placed, pieces}
+use Rattle.writer.specs.Writing.{nameLines, writtenLines, joined, writtenBody, writtenField, fits, placed, pieces}
 use Rattle.writer.specs.Given.{isLine, areNames, isGiven, written}
 use Rattle.writer.specs.ReadBack.{endsCr, lastEmpty, earlierCr, identified59F, isReadBack}
-use Rattle.pages.specs.Pages.{lineAt, endsPage, runs, begins, tagIn, readField, readCase, readAt, bodyPlace}
-use Rattle.pages.specs.Adding.{anyBoundary, laterBoundary, isCarried, writable, refusal, recordReply, add, close}
+use Rattle.page_reader.specs.Pages.{lineAt, opens, endsPage, runs, begins, tagIn, readField, readCase, readAt, bodyPlace}
+use Rattle.page_writer.specs.Adding.{anyBoundary, laterBoundary, isCarried, writable, refusal, asked, recordReply, add, close}
 use Rattle.filing.specs.Filing.{notAdded, fileNext}
 use Rattle.flat.specs.Flat.{recordSize, flatTexts, flatten, stored, textAt, isFlat, partyFrom, unflatten}
 use Rattle.yewdome.specs.Interface.{partyRead, partyParse, partyParseWithVariant, partyWrite, pageRead, pageBody, pageAdd, pageClose}
@@ -62,6 +63,14 @@ writer-operations = record {
 }
 
 pub record PagesOperations : Type 0 where
+  -- takes a colon anywhere in the line
+  pub opens-at-takes-any-colon : opens (lineAt (bytes "A:\n")) ≡ false
+  -- takes the line after an empty one
+  pub opens-at-takes-the-next-line : opens (lineAt (bytes "\n:50K:A\n")) ≡ false
+  -- takes a line that only starts with a hyphen
+  pub ends-at-takes-a-first-hyphen : endsPage (lineAt (bytes "-A\n")) ≡ false
+  -- asks for an LF after the hyphen
+  pub ends-at-asks-for-an-lf : endsPage (lineAt (bytes "-")) ≡ true
   -- gives the place in the field, and not in the page
   pub body-place-counts-from-the-field : bodyPlace (bytes ":50K:A\n:50:BC\n-\n") 7 ≡ record { start = 11; len = 2 }
   -- counts the LF that closes the field
@@ -72,6 +81,10 @@ pub record PagesOperations : Type 0 where
 pub pages-operations : PagesOperations
 unfolding upto starts lineAt endsPage runs begins tagIn readCase bodyPlace writable close tagOf
 pages-operations = record {
+  opens-at-takes-any-colon = refl;
+  opens-at-takes-the-next-line = refl;
+  ends-at-takes-a-first-hyphen = refl;
+  ends-at-asks-for-an-lf = refl;
   body-place-counts-from-the-field = refl;
   body-place-counts-the-lf = refl;
   close-tests-space-first = refl;
@@ -82,7 +95,7 @@ pub record FilingOperations : Type 0 where
   pub file-next-tells-the-read : fileNext (bytes ":50K:A\n-\n") 0 (replicate 8 0) 0 .outcome ≡ notAdded 24 0
 
 pub filing-operations : FilingOperations
-unfolding padded textOf said letter digit alphanumeric signs legal parseSwiftChars parseAccount upto onto starts lines parseLine parseLines parseNameAndAddress fourTexts partyOf accountHead afterHead read nameLines writtenLines joined writtenBody writtenField pieces isLine areNames isGiven endsCr lastEmpty earlierCr identified59F lineAt endsPage runs begins tagIn readField readCase readAt isReadBack anyBoundary laterBoundary isCarried writable recordReply add fileNext tagOf
+unfolding padded textOf said letter digit alphanumeric signs legal parseSwiftChars parseAccount upto onto starts lines parseLine parseLines parseNameAndAddress fourTexts partyOf accountHead afterHead read nameLines writtenLines joined writtenBody writtenField pieces isLine areNames isGiven endsCr lastEmpty earlierCr identified59F lineAt endsPage runs begins tagIn readField readCase readAt isReadBack anyBoundary laterBoundary isCarried writable asked recordReply add fileNext tagOf
 filing-operations = record { file-next-tells-the-read = refl }
 
 -- the 50K of one name, A, as bytes
@@ -157,7 +170,7 @@ pub record YewdomeOperations : Type 0 where
   pub page-close-writes-first : pageClose (bytes "X\na") 2 .bytes ≡ bytes "X\na"
 
 pub yewdome-operations : YewdomeOperations
-unfolding padded textOf said letter digit alphanumeric signs legal parseSwiftChars parseAccount bicLength parseBic upto onto starts lines white trimmedStart keep trimmedEnd trimmed isNumbered secondSlash identifierReply parsePartyIdentifier parseLine parseLines parseNameAndAddress fourTexts partyOf accountHead shortAccountHead afterHead read anyNumbered firstLine lastLine bicLike firstThat pickOf testLine nameLines writtenLines joined writtenBody writtenField pieces isLine areNames isGiven written endsCr lastEmpty earlierCr identified59F lineAt endsPage runs begins tagIn readField readAt isCarried writable recordReply add close flatTexts flatten stored optionAt textAt isFlat partyFrom unflatten parse parseWithVariant readCase isReadBack anyBoundary laterBoundary bodyPlace tagOf
+unfolding padded textOf said letter digit alphanumeric signs legal parseSwiftChars parseAccount bicLength parseBic upto onto starts lines white trimmedStart keep trimmedEnd trimmed isNumbered secondSlash identifierReply parsePartyIdentifier parseLine parseLines parseNameAndAddress fourTexts partyOf accountHead shortAccountHead afterHead read anyNumbered firstLine lastLine bicLike firstThat pickOf testLine nameLines writtenLines joined writtenBody writtenField pieces isLine areNames isGiven written endsCr lastEmpty earlierCr identified59F lineAt endsPage runs begins tagIn readField readAt isCarried writable asked recordReply add close flatTexts flatten stored optionAt textAt isFlat partyFrom unflatten parse parseWithVariant readCase isReadBack anyBoundary laterBoundary bodyPlace tagOf
 yewdome-operations = record {
   party-read-drops-the-line = refl;
   party-read-takes-11 = refl;

@@ -11,10 +11,10 @@ use Rattle.swift_utils.specs.Bytes.{bytes, letter, digit, alphanumeric, signs, 
 use Rattle.swift_utils.specs.Checks.{parseSwiftChars, parseAccount, bicLength, parseBic}
 use Rattle.field_utils.specs.Lines.{upto, onto, starts, lines}
 use Rattle.field_utils.specs.Names.{parseLine, parseLines, parseNameAndAddress}
+use Rattle.field_utils.specs.Tags.{tagOf}
 use Rattle.reader.specs.Reading.{partyOf}
 use Rattle.reader.specs.Options.{accountHead, afterHead, read}
-use Rattle.writer.specs.Writing.{tagOf}
-use Rattle.pages.specs.Pages.{pageMost, lineAt, endsPage, runs, begins, tagIn, aRecord, theEnd, aRefusal, PageRead, bodiless, readField, readable, restCase, readCase, readBy, readAt}
+use Rattle.page_reader.specs.Pages.{pageMost, lineAt, endsPage, runs, begins, tagIn, aRecord, theEnd, aRefusal, PageRead, bodiless, readField, readable, restCase, readCase, readBy, readAt}
 use Rattle.promises.specs.Starred.{gives}
 
 -- so many reads, each at the next position that the last gave
@@ -75,11 +75,11 @@ too-long page at h = rw (lt-leb (length page) pageMost h, readCase)
 
 -- one of at most 32,768 is not
 pub not-too-long : (page : List ℕ) (at : ℕ) → length page ≤ pageMost
-    → readAt page at ≡ elim (readable page at) [ true ↦ readBy (restCase (drop at page)) (drop at page) at | false ↦ refuses 21 at ]
+    → readAt page at ≡ elim (readable page at) [ true ↦ readBy (restCase (drop at page) at) page at | false ↦ refuses 21 at ]
 unfolding readAt readCase
 not-too-long page at h = go (readable page at) refl
   where
-    go : (t : Bool) → readable page at ≡ t → readAt page at ≡ elim (readable page at) [ true ↦ readBy (restCase (drop at page)) (drop at page) at | false ↦ refuses 21 at ]
+    go : (t : Bool) → readable page at ≡ t → readAt page at ≡ elim (readable page at) [ true ↦ readBy (restCase (drop at page) at) page at | false ↦ refuses 21 at ]
     go true e = rw (le-leb (length page) pageMost h, readCase) (rw e)
     go false e = rw (le-leb (length page) pageMost h, readCase) (rw e)
 

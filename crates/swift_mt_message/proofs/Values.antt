@@ -24,6 +24,7 @@ use Rattle.party.proofs.Options.{by-option}
 use Rattle.party.proofs.Theorems.{used-text}
 use Rattle.field_utils.specs.Lines.{lines}
 use Rattle.field_utils.specs.Names.{skipOf}
+use Rattle.field_utils.proofs.Tests.{both-left}
 use Rattle.reader.specs.Reading.{Reading, giving, partyOf}
 use Rattle.reader.specs.Options.{bodyReply, foundBy, read}
 use Rattle.choices.specs.declared.Choice.{Choice}
@@ -32,7 +33,6 @@ use Rattle.choices.specs.Choices.{refusing, parse, optionsOf}
 use Rattle.choices.proofs.Every.{every-parse, every-variant}
 use Rattle.writer.specs.Writing.{numberOf, nameLines, writtenField}
 use Rattle.writer.specs.Given.{Given, every, isAccount, isBic, areNames}
-use Rattle.writer.proofs.Tests.{both-left}
 use Rattle.writer.proofs.Relined.{All}
 use Rattle.writer.proofs.Sayings.{bytesOf}
 use Rattle.writer.proofs.NamePasses.{AllPass, written-length}

@@ -17,8 +17,9 @@ use Rattle.party.specs.declared.Numbering.{Numbering}
 use Rattle.party.specs.declared.Numbering.the-variants.{Unnumbered, Numbered, InTurn}
 use Rattle.party.proofs.Options.{by-option}
 use Rattle.swift_utils.specs.Bytes.{bytes}
+use Rattle.field_utils.specs.Tags.{tagOf}
 use Rattle.reader.specs.Reading.{partyOf}
-use Rattle.writer.specs.Writing.{tagOf, numberOf, nameLines, writtenLines, joined, writtenBody, writtenField}
+use Rattle.writer.specs.Writing.{numberOf, nameLines, writtenLines, joined, writtenBody, writtenField}
 use Rattle.writer.specs.Given.{Given, isPresence, areNames}
 use Rattle.writer.proofs.Sayings.{saidWith, said-with, bytesOf, said-party}
 use Rattle.writer.proofs.NamePasses.{written-length}

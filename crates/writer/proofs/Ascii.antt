@@ -16,9 +16,9 @@ use Rattle.swift_utils.specs.Bytes.{all, among, between, letter, digit, alphanu
 use Rattle.swift_utils.specs.Checks.{parseSwiftChars, parseAccount, bicLength, parseBic}
 use Rattle.field_utils.specs.Lines.{upto}
 use Rattle.field_utils.specs.Identifier.{secondSlash, identifierReply}
+use Rattle.field_utils.proofs.Tests.{both-left, both-right, both}
 use Rattle.reader.specs.Options.{lengthReply, ascii}
 use Rattle.writer.specs.Given.{textReply}
-use Rattle.writer.proofs.Tests.{both-left, both-right, both}
 
 either : (p q r : Bool) → (p ≡ true → r ≡ true) → (q ≡ true → r ≡ true) → (p || q) ≡ true → r ≡ true
 either true q r f g e = f refl

@@ -20,17 +20,17 @@ use Rattle.party.specs.declared.Layout.the-variants.{BicOnly, TextOnly, ByLines
 use Rattle.swift_utils.specs.Bytes.{all, between}
 use Rattle.swift_utils.specs.Checks.{parseAccount, bicLength, parseBic}
 use Rattle.swift_utils.proofs.Checks.{bicLength-least}
-use Rattle.field_utils.specs.Lines.{starts, lines}
+use Rattle.field_utils.specs.Lines.{starts, lines, isEmpty}
 use Rattle.field_utils.specs.Cursor.{withoutCr}
 use Rattle.field_utils.specs.Identifier.{isNumbered}
+use Rattle.field_utils.proofs.Tests.{both-left, both-right, not-both, Line}
 use Rattle.reader.specs.Reading.{Found, giving, partyOf}
 use Rattle.reader.specs.Options.{accountReply, ascii, bodyReply, byLines, foundBy, read, bodyMost}
 use Rattle.reader.specs.Code.{passedHead}
 use Rattle.writer.specs.Writing.{nameLines, headLines, writtenLines, joined, writtenBody, pieces}
 use Rattle.writer.specs.Given.{isAccount, isBic}
-use Rattle.writer.specs.ReadBack.{isEmpty, lastEmpty, earlierCr, identified59F, isReadBack}
-use Rattle.writer.proofs.Tests.{both-left, both-right, not-both}
-use Rattle.writer.proofs.Relined.{All, Line, weight, relined, lines-joined, relined-same, relined-empty, relined-cr, pieces-joined, cr-all}
+use Rattle.writer.specs.ReadBack.{lastEmpty, earlierCr, identified59F, isReadBack}
+use Rattle.writer.proofs.Relined.{All, weight, relined, lines-joined, relined-same, relined-empty, relined-cr, pieces-joined, cr-all}
 use Rattle.writer.proofs.Sayings.{saidWith, bytesOf, said-party, saying, line-free}
 use Rattle.writer.proofs.Facts.{Facts, names-are, account-line, account-passes, bic-passes}
 use Rattle.writer.proofs.Bare.{bareHead, bare, foundOf, Reads, bare-found}

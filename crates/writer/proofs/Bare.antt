@@ -22,6 +22,7 @@ use Rattle.swift_utils.specs.Bytes.{all, among, between, letter, digit, alphanu
 use Rattle.swift_utils.specs.Checks.{bicLength, parseBic}
 use Rattle.field_utils.specs.Lines.{starts}
 use Rattle.field_utils.specs.Identifier.{isNumbered}
+use Rattle.field_utils.proofs.Tests.{both-left, both}
 use Rattle.reader.specs.Reading.{Found}
 use Rattle.reader.specs.Options.{isCounted, noHead, headBy, accountReply, byLines, bicOnly, textOnly}
 use Rattle.reader.specs.Code.{passedHead}
@@ -30,7 +31,6 @@ use Rattle.reader.proofs.LineCounts.{counts-open}
 use Rattle.reader.proofs.Readings.{rest-bic, rest-names, text-line}
 use Rattle.writer.specs.Writing.{slashOf, numberOf, nameLines, joined}
 use Rattle.writer.specs.Given.{every, isAccount, isBic, areNames, isTaken}
-use Rattle.writer.proofs.Tests.{both-left, both}
 use Rattle.writer.proofs.Sayings.{saidWith, bytesOf, line-free}
 use Rattle.writer.proofs.NamePasses.{NamesPass, names-pass, written-length, kept-written}
 use Rattle.writer.proofs.HeadPasses.{slashBy, Heads, Free, head-made, none-made}

@@ -14,10 +14,10 @@ use Rattle.party.specs.Party.{Said}
 use Rattle.party.proofs.Options.{by-option}
 use Rattle.swift_utils.specs.Checks.{parseBic}
 use Rattle.field_utils.specs.Names.{parseNameAndAddress}
+use Rattle.field_utils.proofs.Tests.{both-left, both-right, both, is-not}
 use Rattle.writer.specs.Writing.{nameLines}
 use Rattle.writer.specs.Given.{passes, every, isLine, textReply, isAccount, isPresence, isBic, areNames, isTaken, isGiven}
-use Rattle.writer.proofs.Tests.{both-left, both-right, both, is-not, passed, passing}
-use Rattle.writer.proofs.NamePasses.{NamesPass, names-held, names-pass}
+use Rattle.writer.proofs.NamePasses.{passed, passing, NamesPass, names-held, names-pass}
 
 -- the parts of the test
 pub record Facts (s : Said) : Type 0 where

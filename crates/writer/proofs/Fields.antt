@@ -14,7 +14,8 @@ use Rattle.party.specs.Limits.{limitsOf}
 use Rattle.party.specs.Text.{Used, used}
 use Rattle.party.specs.Party.{said, where-limit}
 use Rattle.party.proofs.Options.{by-option}
-use Rattle.writer.specs.Writing.{capital, tagOf, slashOf, headLines, nameLines, writtenLines, joined, writtenBody, writtenField}
+use Rattle.field_utils.specs.Tags.{capital, tagOf}
+use Rattle.writer.specs.Writing.{slashOf, headLines, nameLines, writtenLines, joined, writtenBody, writtenField}
 use Rattle.writer.specs.Code.{lead, led, hasHead, headOf, namesOn, restOn}
 
 -- ---- lines with LFs between them are lines with an LF before each but the first

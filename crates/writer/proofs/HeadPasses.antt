@@ -18,11 +18,11 @@ use Rattle.swift_utils.specs.Checks.{parseAccount}
 use Rattle.field_utils.specs.Lines.{upto, starts}
 use Rattle.field_utils.specs.Identifier.{secondSlash, identifierReply}
 use Rattle.field_utils.proofs.Identifiers.{identifier-absent, identifier-given}
+use Rattle.field_utils.proofs.Tests.{both-left, both-right}
 use Rattle.reader.specs.Options.{Head, noHead, head, identifierHead, accountReply, lengthReply, headBy, ascii}
 use Rattle.reader.specs.Code.{passedHead}
 use Rattle.reader.proofs.Heads.{short-long, short-fits, account-none, account-some, slash-there}
 use Rattle.writer.specs.Given.{textReply}
-use Rattle.writer.proofs.Tests.{both-left, both-right}
 
 -- what stands before an account or identifier, by what the first line is
 abbrev pub slashBy : First → List ℕ

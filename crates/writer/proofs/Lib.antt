@@ -3,7 +3,6 @@ pub mod Fields
 pub mod Texts
 pub mod Names
 pub mod Records
-pub mod Tests
 pub mod Relined
 pub mod Sayings
 pub mod NamePasses

@@ -1,13 +1,13 @@
 -- What lines of names that pass have, whatever body lines they are. Assumes nothing.
 use mathlib.Core.Path.{_≡_, refl, _∙_, ap}
-use mathlib.Core.Bool.{Bool, true, _&&_}
+use mathlib.Core.Bool.{Bool, true, _&&_, false≢true}
 use mathlib.Core.List.{List, [], _∷_, _++_, map}
 use Prim.Native.Nat.{ℕ, zero, suc, _+_, _≤_}
 use native.Mathlib.Omega.{arith}
 use lib.Dec.{leb, eqb}
 use lib.ListN.{length, drop, getD, length-drop}
 use borrow.Author.Tests.{leb-true, le-leb, ne-eqb}
-use Rattle.errors.specs.Refusals.{accepted, must}
+use Rattle.errors.specs.Refusals.{Reply, accepted, refused, must}
 use Rattle.errors.proofs.Replies.{must-held, then-first, then-second, must-passes, then-passes}
 use Rattle.party.specs.declared.PartyOption.{PartyOption}
 use Rattle.party.specs.Limits.{limitsOf}
@@ -18,11 +18,19 @@ use Rattle.swift_utils.specs.Bytes.{all, between, digit, legal}
 use Rattle.swift_utils.specs.Checks.{parseSwiftChars}
 use Rattle.field_utils.specs.Identifier.{isNumbered}
 use Rattle.field_utils.specs.Names.{skipOf, parseNumber, parseLine, parseLines, parseNameAndAddress, kept}
+use Rattle.field_utils.proofs.Tests.{both-left, both-right, both, none-more, rest-not, numbered-room, Line}
 use Rattle.writer.specs.Writing.{numberOf, nameLines}
-use Rattle.writer.specs.Given.{every, isLine}
-use Rattle.writer.proofs.Tests.{both-left, both-right, both, none-more, rest-not, numbered-room}
-use Rattle.writer.proofs.Relined.{All, Line, weight}
+use Rattle.writer.specs.Given.{passes, every, isLine}
+use Rattle.writer.proofs.Relined.{All, weight}
 use Rattle.writer.proofs.Sayings.{usedOf, bytesOf, Short, line-free}
+
+-- a reply that passes
+pub passed : (r : Reply) → passes r ≡ true → r ≡ accepted
+passed accepted e = refl
+passed (refused k n) e = absurd (false≢true e)
+
+pub passing : (r : Reply) → r ≡ accepted → passes r ≡ true
+passing r e = rw e
 
 -- the number of a line that is the k-th of the names
 abbrev pub isNumber : Numbering → ℕ → List ℕ → Bool

@@ -23,6 +23,7 @@ use Rattle.swift_utils.specs.Bytes.{all, among, letter, digit, alphanumeric}
 use Rattle.swift_utils.specs.Checks.{bicLength, parseBic}
 use Rattle.field_utils.specs.Lines.{onto, starts, lines}
 use Rattle.field_utils.specs.Names.{parseNameAndAddress, kept}
+use Rattle.field_utils.proofs.Tests.{both-left, both-right, both, rest-not, none-more, first-not, Line}
 use Rattle.reader.specs.Reading.{Found}
 use Rattle.reader.specs.Options.{isCounted, Head, noHead, headBy, accountReply, withNames, withBic, afterHead, fromHead, byLines, bicOnly, textOnly, foundBy, ascii}
 use Rattle.reader.specs.Code.{passedHead}
@@ -30,10 +31,9 @@ use Rattle.reader.proofs.Bodies.{head-there, head-none}
 use Rattle.reader.proofs.Readings.{rest-bic, rest-names}
 use Rattle.writer.specs.Writing.{slashOf, nameLines}
 use Rattle.writer.specs.Given.{passes, every, isLine, textReply, isAccount, isPresence, isBic, areNames, isTaken}
-use Rattle.writer.proofs.Tests.{both-left, both-right, both, passing, rest-not, none-more, first-not}
-use Rattle.writer.proofs.Relined.{All, Line, weight, lines-are}
+use Rattle.writer.proofs.NamePasses.{passing, NamesPass, names-held, names-pass, written-length, again, again-pass, again-weight, kept-short, kept-lines}
+use Rattle.writer.proofs.Relined.{All, weight, lines-are}
 use Rattle.writer.proofs.Sayings.{usedOf, Short, Fitting, saying, line-is, lines-is}
-use Rattle.writer.proofs.NamePasses.{NamesPass, names-held, names-pass, written-length, again, again-pass, again-weight, kept-short, kept-lines}
 use Rattle.writer.proofs.HeadPasses.{slashBy, extra-most, text-length, There, None, first-there, first-none}
 use Rattle.writer.proofs.Facts.{Facts, are-names, small}
 use Rattle.writer.proofs.Bare.{bare, bic-any}

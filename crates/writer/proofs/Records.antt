@@ -28,8 +28,7 @@ use Rattle.writer.specs.Writing.{numberOf, nameLines, writtenField, put,
 use Rattle.writer.specs.Given.{passes, every, isLine, textReply, isAccount, isPresence, isBic, areNames, isTaken, isGiven, written}
 use Rattle.writer.specs.Code.{lineReply, numberIn, isName, allNames, slashName}
 use Rattle.writer.proofs.Texts.{all-plain}
-use Rattle.writer.proofs.Tests.{passed}
-use Rattle.writer.proofs.NamePasses.{written-length}
+use Rattle.writer.proofs.NamePasses.{passed, written-length}
 
 pub passes-then : (r s : Reply) → passes (r then s) ≡ (passes r && passes s)
 passes-then accepted s = refl

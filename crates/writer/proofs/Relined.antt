@@ -6,21 +6,17 @@ use Prim.Native.Nat.{ℕ, suc, _+_, _≤_, _<_}
 use native.Mathlib.Omega.{arith}
 use lib.Dec.{eqb}
 use lib.ListN.{length}
-use Rattle.swift_utils.specs.Bytes.{all, among}
-use Rattle.field_utils.specs.Lines.{onto, starts, lines}
+use Rattle.swift_utils.specs.Bytes.{all}
+use Rattle.field_utils.specs.Lines.{onto, starts, lines, isEmpty}
 use Rattle.field_utils.specs.Cursor.{withoutCr}
+use Rattle.field_utils.proofs.Tests.{first-not, rest-not, none-more, both, both-left, both-right, either-left, either-right, Line}
 use Rattle.writer.specs.Writing.{joined, pieces}
-use Rattle.writer.specs.ReadBack.{isEmpty, endsCr, lastEmpty, earlierCr}
-use Rattle.writer.proofs.Tests.{first-not, rest-not, none-more, both, both-left, both-right, either-left, either-right}
+use Rattle.writer.specs.ReadBack.{endsCr, lastEmpty, earlierCr}
 
 -- a claim of every element of a list
 abbrev pub All : {A : Type 0} → (A → Type 0) → List A → Type 0
 All P [] = Unit {0}
 All P (x ∷ xs) = P x × All P xs
-
--- no LF
-abbrev pub Line : List ℕ → Type 0
-Line l = among l 10 ≡ false
 
 -- ---- lines that an LF closes
 -- a line that an LF closes, without one CR at its end

@@ -14,10 +14,10 @@ use Rattle.party.specs.Text.{textOf, fourTexts, Used, used, textMost}
 use Rattle.party.specs.Party.{where-limit, namesOf, Said, said}
 use Rattle.party.proofs.Theorems.{used-text}
 use Rattle.swift_utils.specs.Bytes.{among}
+use Rattle.field_utils.proofs.Tests.{both-left, both-right, both, is-not, Line}
 use Rattle.reader.specs.Reading.{Found, partyOf}
 use Rattle.writer.specs.Given.{every, isLine}
-use Rattle.writer.proofs.Tests.{both-left, both-right, both, is-not}
-use Rattle.writer.proofs.Relined.{All, Line}
+use Rattle.writer.proofs.Relined.{All}
 
 -- what a record says, by its parts
 abbrev pub saidWith : PartyOption → Bool → ℕ → Used → Used → List Used → Said

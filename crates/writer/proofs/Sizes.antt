@@ -15,11 +15,12 @@ use Rattle.party.specs.Party.{where-limit, Said}
 use Rattle.party.specs.declared.Numbering.{Numbering}
 use Rattle.party.proofs.Options.{place-one, by-option}
 use Rattle.field_utils.specs.Names.{skipOf}
-use Rattle.writer.specs.Writing.{tagOf, slashOf, gapOf, nameLines, headLines, writtenLines, joined, writtenBody, writtenField, fieldMost}
+use Rattle.field_utils.specs.Tags.{tagOf}
+use Rattle.field_utils.proofs.Tests.{both-left}
+use Rattle.writer.specs.Writing.{slashOf, gapOf, nameLines, headLines, writtenLines, joined, writtenBody, writtenField, fieldMost}
 use Rattle.writer.specs.Given.{every, isAccount, isBic, areNames}
 use Rattle.writer.specs.ReadBack.{identified59F}
 use Rattle.writer.proofs.Fields.{tag-most}
-use Rattle.writer.proofs.Tests.{both-left}
 use Rattle.writer.proofs.Relined.{weight, closed}
 use Rattle.writer.proofs.Sayings.{saidWith, bytesOf}
 use Rattle.writer.proofs.NamePasses.{AllPass}

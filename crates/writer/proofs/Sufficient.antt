@@ -17,12 +17,13 @@ use Rattle.party.specs.declared.Layout.{Layout}
 use Rattle.party.specs.declared.Layout.the-variants.{BicOnly, TextOnly, ByLines}
 use Rattle.party.specs.Limits.{limitsOf}
 use Rattle.swift_utils.specs.Bytes.{all}
+use Rattle.field_utils.proofs.Tests.{Line}
 use Rattle.reader.specs.Reading.{Reading, Found, giving, partyOf}
 use Rattle.reader.specs.Options.{ascii, bodyReply, byLines, foundBy, read, bodyMost}
 use Rattle.reader.proofs.Bodies.{body-passed}
 use Rattle.writer.specs.Writing.{joined}
 use Rattle.writer.specs.Given.{Given, isGiven}
-use Rattle.writer.proofs.Relined.{All, Line, weight, closed, lines-closed}
+use Rattle.writer.proofs.Relined.{All, weight, closed, lines-closed}
 use Rattle.writer.proofs.Sayings.{saidWith, said-with, said-party}
 use Rattle.writer.proofs.Ascii.{all-more}
 use Rattle.writer.proofs.Facts.{Facts, facts}

@@ -19,11 +19,11 @@ use Rattle.swift_utils.specs.Bytes.{all, digit, legal}
 use Rattle.swift_utils.specs.Checks.{bicLength, parseBic}
 use Rattle.field_utils.specs.Identifier.{isNumbered}
 use Rattle.field_utils.specs.Names.{kept}
+use Rattle.field_utils.proofs.Tests.{both-left, both-right, both, none-more, Line}
 use Rattle.reader.specs.Options.{ascii}
 use Rattle.writer.specs.Writing.{slashOf, nameLines}
 use Rattle.writer.specs.Given.{every, isLine, isAccount, isBic, areNames}
-use Rattle.writer.proofs.Tests.{both-left, both-right, both, none-more}
-use Rattle.writer.proofs.Relined.{All, Line}
+use Rattle.writer.proofs.Relined.{All}
 use Rattle.writer.proofs.Sayings.{saidWith, usedOf, bytesOf, Short, Fitting, saying, line-used, line-free, lines-used}
 use Rattle.writer.proofs.NamePasses.{Passes, AllPass, kept-short, kept-written, written-length, written-lines}
 use Rattle.writer.proofs.Ascii.{digit-ascii, all-legal, text-ascii, bic-ascii}

@@ -9,13 +9,9 @@ use Rattle.party.specs.declared.PartyOption.the-variants.{Field59F}
 use Rattle.party.specs.declared.Party.{Party}
 use Rattle.party.specs.Limits.{placeOf}
 use Rattle.party.specs.Party.{Said, said, Same}
+use Rattle.field_utils.specs.Lines.{isEmpty}
 use Rattle.reader.specs.Options.{read}
 use Rattle.writer.specs.Writing.{writtenBody, pieces}
-
--- a line is empty
-abbrev pub isEmpty : List ℕ → Bool
-isEmpty [] = true
-isEmpty (b ∷ l) = false
 
 -- a line ends in CR
 unfoldable pub endsCr : List ℕ → Bool

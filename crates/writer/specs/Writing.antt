@@ -1,5 +1,5 @@
 -- The written field (document 01, field50.rs, field59.rs and 'Rust forms': bytes into a lent buffer).
-use Prim.Native.Nat.{ℕ, suc, _+_, _/_, _%_}
+use Prim.Native.Nat.{ℕ, suc, _+_}
 use mathlib.Core.Bool.{Bool, true, false}
 use mathlib.Core.List.{List, [], _∷_, _++_, map}
 use lib.Dec.{leb, eqb}
@@ -14,16 +14,8 @@ use Rattle.party.specs.declared.Numbering.the-variants.{Unnumbered, Numbered, I
 use Rattle.party.specs.Limits.{limitsOf}
 use Rattle.swift_utils.specs.Bytes.{bytes}
 use Rattle.field_utils.specs.Lines.{onto}
+use Rattle.field_utils.specs.Tags.{tagOf}
 use Rattle.writer.specs.declared.Written.{Written}
-
--- a tag's capital, which is optional: 0 stands for none
-abbrev pub capital : ℕ → List ℕ
-capital letter = elim (eqb letter 0) [ true ↦ [] | false ↦ letter ∷ [] ]
-
--- an option's tag ('Its tag is `:50` or `:59`, an optional capital, `:`')
-unfoldable pub tagOf : PartyOption → List ℕ
-tagOf o =
-    bytes ":" ++ (48 + limitsOf o .field / 10) ∷ (48 + limitsOf o .field % 10) ∷ capital (limitsOf o .letter) ++ bytes ":"
 
 -- what stands before an account or identifier: `/`, but for 50F and 50L (field50.rs)
 abbrev pub slashOf : PartyOption → List ℕ

@@ -35,8 +35,9 @@ ghost use Rattle.party.specs.declared.First.the-variants.{Identified, AnyAccoun
 ghost use Rattle.swift_utils.specs.Bytes.{among};
 ghost use Rattle.swift_utils.specs.Classes.{classTable};
 ghost use Rattle.field_utils.specs.Names.{parseNumber};
+ghost use Rattle.field_utils.specs.Tags.{tagOf};
 ghost use Rattle.reader.specs.Options.{accountReply};
-ghost use Rattle.writer.specs.Writing.{tagOf, slashOf, numberOf, writtenField, fits, placed, toldWritten};
+ghost use Rattle.writer.specs.Writing.{slashOf, numberOf, writtenField, fits, placed, toldWritten};
 ghost use Rattle.writer.specs.Given.{passes, every, textReply, isAccount, isPresence, isBic, areNames, isTaken, isGiven, written};
 ghost use Rattle.writer.specs.Code.{Counted, Puts, lead, hasGap, hasHead, headOf, nameCount, namesOn, restOn, lineReply, numberIn, isName, allNames, slashName};
 

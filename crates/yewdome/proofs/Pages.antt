@@ -8,19 +8,19 @@ use native.Mathlib.Omega.{arith}
 use borrow.Author.Tests.{leb-true}
 use lib.ListN.{length}
 use Rattle.errors.specs.Refusals.{Reply, accepted, refused, must, _then_}
-use Rattle.errors.proofs.Replies.{must-held, then-second}
+use Rattle.errors.proofs.Replies.{must-held, then-second, then-assoc}
 use Rattle.party.specs.declared.Party.{Party}
 use Rattle.party.specs.Party.{Said, said}
 use Rattle.reader.specs.Options.{read}
 use Rattle.writer.specs.Writing.{writtenField}
 use Rattle.writer.specs.Given.{isGiven}
-use Rattle.pages.specs.declared.PageRead.{PageRead as Read}
-use Rattle.pages.specs.declared.ReadOutcome.{ReadOutcome as OutcomeAt}
-use Rattle.pages.specs.declared.Filed.{Filed as FiledAt}
-use Rattle.pages.specs.Pages.{pageMost, ReadOutcome, aRecord, theEnd, aRefusal, PageRead, outcomeOf, readAt, toldOutcome, toldRead}
-use Rattle.pages.specs.Adding.{isCarried, writable, hasSpace, withLf, endLine, Call, putting, recordSpace, recordReply, add, close, toldFiled, toldCall}
-use Rattle.pages.proofs.Fold.{reply-space}
-use Rattle.pages.proofs.Moves.{stays-or-moves, next-most, every-read}
+use Rattle.page_reader.specs.declared.PageRead.{PageRead as Read}
+use Rattle.page_reader.specs.declared.ReadOutcome.{ReadOutcome as OutcomeAt}
+use Rattle.page_reader.specs.Pages.{pageMost, ReadOutcome, aRecord, theEnd, aRefusal, PageRead, outcomeOf, readAt, toldOutcome, toldRead}
+use Rattle.page_reader.proofs.Moves.{stays-or-moves, next-most, every-read}
+use Rattle.page_writer.specs.declared.Filed.{Filed as FiledAt}
+use Rattle.page_writer.specs.Adding.{isCarried, writable, hasSpace, withLf, endLine, Call, putting, recordSpace, asked, recordReply, add, close, toldFiled, toldCall}
+use Rattle.page_writer.proofs.Invariant.{reply-space}
 use Rattle.flat.specs.Flat.{unflatten}
 use Rattle.yewdome.specs.Interface.{Called, codeOf, lentReply, recordReply as lentRecordReply, readCode, readBytes, readInto, askedRead, pageRead, filedCode, filed, pageAdd}
 use Rattle.yewdome.specs.Code.{Named, Within}
@@ -32,14 +32,15 @@ putting-within accepted buffer at text n h = h refl
 putting-within (refused k n) buffer at text m h = m
 
 pub add-within : (buffer : List ℕ) (at : ℕ) (s : Said) → Within (add buffer at s .answer)
-unfolding add recordReply
+unfolding add recordReply asked
 add-within buffer at s =
     let space = recordSpace (length buffer) at s in
     let later = must (isCarried s) 23 0 then must space 24 0 in
     putting-within (must (writable buffer at) 21 0 then recordReply (length buffer) at s) buffer at (withLf (writtenField s))
+    (subst (λ (r : Reply). Named (must (writable buffer at) 21 0 then r)) (sym (then-assoc (must (isGiven s) 22 0) (must (isCarried s) 23 0) (must space 24 0)))
     (must-then (writable buffer at) 21 0 (must (isGiven s) 22 0 then later) (omega arith) (omega arith)
     (must-then (isGiven s) 22 0 later (omega arith) (omega arith)
-    (must-then (isCarried s) 23 0 (must space 24 0) (omega arith) (omega arith) (must-line space 24 0 (omega arith) (omega arith)))))
+    (must-then (isCarried s) 23 0 (must space 24 0) (omega arith) (omega arith) (must-line space 24 0 (omega arith) (omega arith))))))
     (λ e. omega (arith, reply-space (length buffer) at s (then-second (must (writable buffer at) 21 0) _ e)))
 
 pub close-within : (buffer : List ℕ) (at : ℕ) → Within (close buffer at .answer)

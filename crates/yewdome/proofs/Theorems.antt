@@ -26,9 +26,9 @@ use Rattle.writer.specs.Writing.{Writing}
 use Rattle.writer.specs.Given.{isGiven, written}
 use Rattle.writer.proofs.Facts.{facts, is-given, names-are}
 use Rattle.writer.proofs.Back.{accepted-is}
-use Rattle.pages.specs.Pages.{pageMost, ReadOutcome, aRecord, theEnd, aRefusal, outcomeOf, readAt, bodyPlace}
-use Rattle.pages.proofs.Moves.{every-read}
-use Rattle.pages.proofs.Bodies.{body-there, body-most}
+use Rattle.page_reader.specs.Pages.{pageMost, ReadOutcome, aRecord, theEnd, aRefusal, outcomeOf, readAt, bodyPlace}
+use Rattle.page_reader.proofs.Moves.{every-read}
+use Rattle.page_reader.proofs.Bodies.{body-there, body-most}
 use Rattle.flat.specs.Flat.{recordSize, textsOf, flatten, stored, unflatten}
 use Rattle.flat.proofs.Laws.{none, Sizes, stored-whole}
 use Rattle.flat.proofs.Theorems.{loads-back}

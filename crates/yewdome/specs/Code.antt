@@ -2,8 +2,8 @@
 use Prim.Native.Nat.{_≤_}
 use Rattle.errors.specs.Refusals.{Reply, accepted, refused}
 use Rattle.reader.specs.Options.{bodyMost}
-use Rattle.pages.specs.Pages.{pageMost}
-use Rattle.pages.specs.Adding.{Filed, positionAfter, refusal}
+use Rattle.page_reader.specs.Pages.{pageMost}
+use Rattle.page_writer.specs.Adding.{Filed, positionAfter, refusal}
 
 -- a refusal has a number from 1 on, and a line of at most 2,048
 abbrev pub Named : Reply → Type 0

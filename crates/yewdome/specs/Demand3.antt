@@ -1,8 +1,8 @@
 -- Demand 3 through the C interface, from bytes lent to `yewdome_page_add` to bytes stored by `yewdome_page_read`: `pageAdd`, `pageClose` and
 -- `pageRead` (specs/Interface.antt) are the definitions that the contracts of the exported functions are equations with. The lent records
 -- are any lists of bytes, and so is the buffer. proofs/Demand3.antt has the theorem,
--- `exported-page : (lents : List (List ℕ)) (buffer : List ℕ) → ExportedPage lents buffer`. The fields of a closed page and those that
--- overwrite some are those of pages/specs/WholePage.antt.
+-- `exported-page : (lents : List (List ℕ)) (buffer : List ℕ) → ExportedPage lents buffer`. The run is that of
+-- page_writer/specs/Fold.antt; the fields of a closed page and those that overwrite some are those of page_writer/specs/WholePage.antt.
 use Prim.Native.Nat.{ℕ, _+_, _-_, _%_, _≤_}
 use mathlib.Core.Path.{_≡_}
 use mathlib.Core.Bool.{Bool, true, false}
@@ -11,8 +11,10 @@ use lib.Dec.{ltb}
 use lib.ListN.{length, take}
 use Rattle.party.specs.declared.Party.{Party}
 use Rattle.party.specs.Party.{Same}
-use Rattle.pages.specs.Pages.{pageMost, readField}
-use Rattle.pages.specs.WholePage.{Field, kept, new, pageOf, fieldsOf, Overwrites}
+use Rattle.page_reader.specs.Pages.{pageMost, readField}
+use Rattle.page_writer.specs.Adding.{endLine}
+use Rattle.page_writer.specs.Fold.{Step, Run, run, acceptedOf}
+use Rattle.page_writer.specs.WholePage.{OpenPage, Field, kept, new, pageOf, Overwrites}
 use Rattle.flat.specs.Flat.{recordSize, unflatten}
 use Rattle.yewdome.specs.Interface.{Called, readInto, pageRead, pageAdd, pageClose}
 
@@ -25,37 +27,23 @@ isPosition code = ltb code 65536
 abbrev pub lastGiven : ℕ → ℕ → ℕ
 lastGiven code at = elim (isPosition code) [ true ↦ code | false ↦ at ]
 
--- a run of adds: what each gave, the last position that one gave, and the buffer as the last left it
-pub record Run : Type 0 where
-  pub codes : List ℕ
-  pub position : ℕ
-  pub buffer : List ℕ
-
--- each add in the buffer as the last call left it, at the last position that one gave
-unfoldable pub run : List (List ℕ) → List ℕ → ℕ → Run
-run [] buffer at = record { codes = []; position = at; buffer = buffer }
-run (l ∷ ls) buffer at =
-    let c = pageAdd l buffer at in
-    let r = run ls (c .bytes) (lastGiven (c .code) at) in
-    record { codes = c .code ∷ r .codes; position = r .position; buffer = r .buffer }
+-- an add of a lent record, as a step of a run
+abbrev pub addStep : OpenPage → List ℕ → Step OpenPage ℕ
+addStep s lent =
+    let c = pageAdd lent (s .buffer) (s .position) in
+    record { state = record { buffer = c .bytes; position = lastGiven (c .code) (s .position) }; answer = c .code }
 
 -- the adds, from an empty page
-abbrev pub adds : List (List ℕ) → List ℕ → Run
-adds lents buffer = run lents buffer 0
+abbrev pub adds : List (List ℕ) → List ℕ → Run OpenPage ℕ
+adds lents buffer = run addStep (record { buffer = buffer; position = 0 }) lents
 
--- the lent records whose adds gave a position
-unfoldable pub acceptedOf : List (List ℕ) → List ℕ → List (List ℕ)
-acceptedOf [] codes = []
-acceptedOf (l ∷ ls) [] = []
-acceptedOf (l ∷ ls) (c ∷ cs) = elim (isPosition c) [ true ↦ l ∷ acceptedOf ls cs | false ↦ acceptedOf ls cs ]
-
--- the records that they are
+-- the records of those that gave a position
 abbrev pub records : List (List ℕ) → List ℕ → List Party
-records lents buffer = map unflatten (acceptedOf lents (adds lents buffer .codes))
+records lents buffer = map unflatten (acceptedOf lents (map isPosition (adds lents buffer .answers)))
 
 -- the closing, in the buffer and at the position that the adds left
 abbrev pub closing : List (List ℕ) → List ℕ → Called
-closing lents buffer = pageClose (adds lents buffer .buffer) (adds lents buffer .position)
+closing lents buffer = pageClose (adds lents buffer .state .buffer) (adds lents buffer .state .position)
 
 -- the closed page: the bytes before the position that closing gave
 abbrev pub page : List (List ℕ) → List ℕ → List ℕ
@@ -84,8 +72,8 @@ Reads page at (f ∷ fs) =
 pub record ExportedPage (lents : List (List ℕ)) (buffer : List ℕ) : Type 0 where
   -- reading the closed page from the start gives the records of the accepted adds and no others, in number and order, each the same record,
   -- and then the end
-  pub reads : isPosition (closing lents buffer .code) ≡ true → Reads (page lents buffer) 0 (fieldsOf (records lents buffer))
+  pub reads : isPosition (closing lents buffer .code) ≡ true → Reads (page lents buffer) 0 (map kept (records lents buffer))
   -- closing gives a position in every buffer of at least 2 bytes
   pub closes : 2 ≤ length buffer → isPosition (closing lents buffer .code) ≡ true
   -- whichever fields are then overwritten: every other still gives its record in its turn, and each overwritten one what document 01 says
-  pub overwritten : (fs : List Field) → Overwrites (records lents buffer) fs → length (pageOf fs) ≤ pageMost → Reads (pageOf fs) 0 fs
+  pub overwritten : (fs : List Field) → Overwrites (records lents buffer) fs → length (pageOf fs endLine) ≤ pageMost → Reads (pageOf fs endLine) 0 fs

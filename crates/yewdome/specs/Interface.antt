@@ -15,8 +15,8 @@ use Rattle.choices.specs.declared.Choice.the-variants.{Field50InstructingParty,
 use Rattle.choices.specs.Choices.{parse, parseWithVariant}
 use Rattle.writer.specs.Writing.{Writing}
 use Rattle.writer.specs.Given.{written}
-use Rattle.pages.specs.Pages.{ReadOutcome, aRecord, theEnd, aRefusal, PageRead, bodiless, outcomeOf, readAt, bodyPlace}
-use Rattle.pages.specs.Adding.{Filed, positionAfter, refusal, Call, add, close}
+use Rattle.page_reader.specs.Pages.{ReadOutcome, aRecord, theEnd, aRefusal, PageRead, bodiless, outcomeOf, readAt, bodyPlace}
+use Rattle.page_writer.specs.Adding.{Filed, positionAfter, refusal, Call, add, close}
 use Rattle.flat.specs.Flat.{recordSize, stored, unflatten}
 
 -- what a call gives: its number, and the lent bytes after it

@@ -2,10 +2,10 @@
 use mathlib.Core.Path.{_≡_}
 use denote.Ref.{now}
 use borrow.Author.Needs.{needs}
-use Rattle.pages.specs.declared.Filed.{Filed as FiledAt}
-use Rattle.pages.specs.declared.ReadOutcome.{ReadOutcome}
-use Rattle.pages.specs.Pages.{toldOutcome}
-use Rattle.pages.specs.Adding.{toldFiled}
+use Rattle.page_reader.specs.declared.ReadOutcome.{ReadOutcome}
+use Rattle.page_reader.specs.Pages.{toldOutcome}
+use Rattle.page_writer.specs.declared.Filed.{Filed as FiledAt}
+use Rattle.page_writer.specs.Adding.{toldFiled}
 use Rattle.filing.specs.Filing.{adding, fileRead}
 use Rattle.filing.proofs.Steps.{Meets, by-read, by-add}
 use Rattle.filing.proofs.file_next.Statement.{statement}

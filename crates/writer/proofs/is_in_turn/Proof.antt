@@ -9,11 +9,11 @@ use lib.Dec.{eqb}
 use lib.ListN.{length, getD}
 use borrow.Author.Tests.{not-true, not-false}
 use Rattle.party.specs.declared.Numbering.{Numbering}
+use Rattle.field_utils.proofs.Tests.{numbered-room}
 use Rattle.writer.proofs.Records.{inTurn, turn-kept, turn-written}
-use Rattle.writer.proofs.Tests.{numbered-room}
-use borrow.Author.Needs.{needs}
 use Rattle.writer.proofs.is_in_turn.Statement.{statement}
 use Rattle.writer.proofs.is_in_turn.Tie as tie
+use borrow.Author.Needs.{needs}
 
 by : {f g : Numbering} (k : ℕ) (x : List ℕ) → f ≡ g → inTurn g k x ≡ inTurn f k x
 by k x e = ap (λ (h : Numbering). inTurn h k x) (sym e)

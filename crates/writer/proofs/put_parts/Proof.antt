@@ -4,13 +4,13 @@ use mathlib.Core.List.{_++_}
 use denote.Ref.{now}
 use lib.ListN.{length}
 use Rattle.party.specs.Text.{used}
-use Rattle.writer.specs.Writing.{tagOf}
+use Rattle.field_utils.specs.Tags.{tagOf}
 use Rattle.writer.specs.Code.{headOf, restOn}
 use Rattle.writer.proofs.Fields.{field-parts}
 use Rattle.writer.proofs.Puts.{space, space-first, both}
-use borrow.Author.Needs.{needs}
 use Rattle.writer.proofs.put_parts.Statement.{statement}
 use Rattle.writer.proofs.put_parts.Tie as tie
+use borrow.Author.Needs.{needs}
 
 -- the parts, by what the function knows of the account or identifier, have space
 room :

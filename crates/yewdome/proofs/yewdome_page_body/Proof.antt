@@ -3,9 +3,9 @@ use Prim.Native.Nat.{_+_, _*_, _≤_}
 use mathlib.Core.Path.{sym, ap, subst}
 use native.Mathlib.Omega.{arith}
 use borrow.Author.Needs.{needs}
-use Rattle.pages.specs.declared.BodyPlace.{BodyPlace}
-use Rattle.pages.specs.Pages.{pageMost}
-use Rattle.pages.proofs.Bodies.{body-most}
+use Rattle.page_reader.specs.declared.BodyPlace.{BodyPlace}
+use Rattle.page_reader.specs.Pages.{pageMost}
+use Rattle.page_reader.proofs.Bodies.{body-most}
 use Rattle.yewdome.proofs.yewdome_page_body.Statement.{statement}
 use Rattle.yewdome.proofs.yewdome_page_body.Tie as tie
 

@@ -5,9 +5,9 @@ use mathlib.Core.Path.{_≡_}
 use native.Mathlib.Omega.{arith}
 use borrow.Author.Needs.{needs}
 use lib.ListN.{length}
-use Rattle.pages.specs.declared.ReadOutcome.{ReadOutcome}
-use Rattle.pages.specs.declared.ReadOutcome.the-variants.{Record, End, Refused}
-use Rattle.pages.specs.Pages.{pageMost, toldOutcome}
+use Rattle.page_reader.specs.declared.ReadOutcome.{ReadOutcome}
+use Rattle.page_reader.specs.declared.ReadOutcome.the-variants.{Record, End, Refused}
+use Rattle.page_reader.specs.Pages.{pageMost, toldOutcome}
 use Rattle.yewdome.specs.Interface.{lentReply, readCode, readBytes, pageRead}
 use Rattle.yewdome.proofs.Answers.{passes}
 use Rattle.yewdome.proofs.Pages.{short, answer-line, answer-next, reads}

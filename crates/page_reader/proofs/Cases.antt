@@ -1,0 +1,289 @@
+-- Which case a read is, byte by byte, and what an answer of the code says of it. Assumes nothing.
+use mathlib.Core.Path.{_≡_, refl, sym, _∙_, ap, subst}
+use mathlib.Core.Bool.{Bool, true, false, _&&_, _||_, or-true, and-false, true≢false, false≢true}
+use mathlib.Core.List.{List, [], _∷_}
+use Prim.Native.Nat.{ℕ, zero, suc, _+_, _-_, _≤_, _<_}
+use native.Mathlib.Omega.{arith}
+use lib.Dec.{leb, eqb}
+use lib.ListN.{length, drop, getD, length-drop, drop-of-length-le}
+use lib.Seq.{drop-cons, drop-drop}
+use borrow.Author.Tests.{eqb-true, eq-eqb, ne-eqb, le-leb, lt-leb}
+use Rattle.errors.specs.declared.ParseError.{ParseError}
+use Rattle.errors.specs.declared.Outcome.{Outcome}
+use Rattle.errors.specs.Refusals.{Reply, accepted, refused, told, _then_, refusalOf}
+use Rattle.party.specs.declared.PartyOption.{PartyOption}
+use Rattle.party.specs.declared.Party.{Party}
+use Rattle.party.specs.Party.{blank}
+use Rattle.party.specs.Limits.{options, limitsOf}
+use Rattle.field_utils.specs.Lines.{upto, starts, isEmpty}
+use Rattle.field_utils.proofs.Places.{upto-length}
+use Rattle.field_utils.proofs.Tests.{both-left}
+use Rattle.reader.specs.declared.Answer.{Answer as ReaderAnswer}
+use Rattle.reader.specs.Reading.{Reading, giving, toldAnswer, partyOf}
+use Rattle.reader.specs.Options.{foundBy, bodyReply, read}
+use Rattle.page_reader.specs.declared.PageRead.{PageRead as Answer}
+use Rattle.page_reader.specs.declared.ReadOutcome.{ReadOutcome as OutcomeAt}
+use Rattle.page_reader.specs.declared.ReadOutcome.the-variants.{End, Refused}
+use Rattle.page_reader.specs.declared.ReadCase.{ReadCase}
+use Rattle.page_reader.specs.declared.ReadCase.the-variants.{TooLong, NoStart, AtLength, Opening, Ending, Stray}
+use Rattle.page_reader.specs.Pages.{pageMost, lineAt, opens, endsPage, runs, Tagged, untagged, tagged, tagIn, ReadOutcome, theEnd, aRefusal, PageRead, bodiless, outcomeOf, readTagged, readField, readable, lineCase, restCase, readCase, readBy, readAt, toldOutcome, toldRead, partyBeside}
+use Rattle.page_reader.proofs.Runs.{line-length, followed, runs-end, runs-lf, runs-more}
+
+-- ---- the first line of a text
+opens-cons : (b : ℕ) (s : List ℕ) → opens (lineAt (b ∷ s)) ≡ eqb b 58
+unfolding lineAt upto starts
+opens-cons b s = go (eqb b 10) refl
+  where
+    go : (t : Bool) → eqb b 10 ≡ t → opens (lineAt (b ∷ s)) ≡ eqb b 58
+    go true e = rw (e, upto) (sym (ne-eqb b 58 (λ f. omega (arith, f, eqb-true b 10 e))))
+    go false e = rw (e, upto)
+
+empty-line : (s : List ℕ) → isEmpty (lineAt s) ≡ (isEmpty s || starts 10 s)
+unfolding lineAt upto starts
+empty-line [] = refl
+empty-line (a ∷ s) = go (eqb a 10) refl
+  where
+    go : (t : Bool) → eqb a 10 ≡ t → isEmpty (lineAt (a ∷ s)) ≡ (isEmpty (a ∷ s) || starts 10 (a ∷ s))
+    go true e = rw (e, upto)
+    go false e = rw (e, upto)
+
+ends-cons : (b : ℕ) (s : List ℕ) → endsPage (lineAt (b ∷ s)) ≡ (eqb b 45 && (isEmpty s || starts 10 s))
+unfolding lineAt upto endsPage
+ends-cons b s = go (eqb b 10) refl
+  where
+    go : (t : Bool) → eqb b 10 ≡ t → endsPage (lineAt (b ∷ s)) ≡ (eqb b 45 && (isEmpty s || starts 10 s))
+    go true e = rw (e, upto) (let z : eqb b 45 ≡ false = ne-eqb b 45 (λ f. omega (arith, f, eqb-true b 10 e)) in rw z)
+    go false e = rw (e, upto) (ap (λ (t : Bool). eqb b 45 && t) (empty-line s))
+
+-- an end line opens no field
+not-both : (l : List ℕ) → endsPage l ≡ true → opens l ≡ false
+unfolding endsPage starts
+not-both [] e = refl
+not-both (b ∷ l) e = ne-eqb b 58 (λ f. let g = eqb-true b 45 (both-left (eqb b 45) (isEmpty l) e) in omega (arith, f, g))
+
+-- it is one byte
+ends-one : (l : List ℕ) → endsPage l ≡ true → length l ≡ 1
+unfolding endsPage
+ends-one [] e = absurd (false≢true e)
+ends-one (b ∷ []) e = refl
+ends-one (b ∷ c ∷ l) e = absurd (false≢true (sym (and-false (eqb b 45)) ∙ e))
+
+pub end-length : (s : List ℕ) → endsPage (lineAt s) ≡ true → upto 10 s ≡ 1
+end-length s e = sym (line-length s) ∙ ends-one (lineAt s) e
+
+module _ (page : List ℕ) (at : ℕ) where
+  abbrev line : List ℕ
+  line = lineAt (drop at page)
+
+  pub opens-none : length page ≤ at → opens line ≡ false
+  unfolding lineAt upto starts
+  opens-none h = rw (drop-of-length-le page h)
+
+  pub ends-none : length page ≤ at → endsPage line ≡ false
+  unfolding lineAt upto endsPage
+  ends-none h = rw (drop-of-length-le page h)
+
+  module _ (h : at < length page) where
+    pub opens-first : opens line ≡ eqb (getD page at 0) 58
+    opens-first = ap (λ (s : List ℕ). opens (lineAt s)) (drop-cons page at 0 h) ∙ opens-cons (getD page at 0) (drop (suc at) page)
+
+    ends-first : endsPage line ≡ (eqb (getD page at 0) 45 && (isEmpty (drop (suc at) page) || starts 10 (drop (suc at) page)))
+    ends-first = ap (λ (s : List ℕ). endsPage (lineAt s)) (drop-cons page at 0 h) ∙ ends-cons (getD page at 0) (drop (suc at) page)
+
+    pub ends-other : (getD page at 0 ≡ 45 → ⊥) → endsPage line ≡ false
+    ends-other n = ends-first ∙ rw (ne-eqb (getD page at 0) 45 n)
+
+    pub ends-last : getD page at 0 ≡ 45 → length page ≤ suc at → endsPage line ≡ true
+    ends-last e k = ends-first ∙ rw (eq-eqb (getD page at 0) 45 e, drop-of-length-le page k)
+
+    pub ends-lf : getD page at 0 ≡ 45 → suc at < length page → endsPage line ≡ eqb (getD page (suc at) 0) 10
+    unfolding starts
+    ends-lf e k = ends-first ∙ rw (eq-eqb (getD page at 0) 45 e, drop-cons page (suc at) 0 k)
+
+-- ---- how far a field runs
+pub runs-most : (s : List ℕ) → runs s ≤ length s
+unfolding runs
+runs-most [] = omega arith
+runs-most (b ∷ s) = go (eqb b 10 && followed s) refl (runs-most s)
+  where
+    go : (t : Bool) → (eqb b 10 && followed s) ≡ t → runs s ≤ length s → runs (b ∷ s) ≤ suc (length s)
+    go true e h = rw (e, runs) (omega arith)
+    go false e h = rw (e, runs) (omega arith)
+
+-- from a position on, where the LF stands at lf
+module _ (page : List ℕ) (i lf : ℕ) (e : lf ≡ i + upto 10 (drop i page)) (h : i ≤ length page) where
+  pub to-end : length page ≤ lf → lf ≡ i + runs (drop i page)
+  to-end k =
+      let n = length-drop i page in
+      let u : length (drop i page) ≤ upto 10 (drop i page) = omega (arith, n, e, k) in
+      omega (arith, runs-end (drop i page) u, n, e, k, upto-length 10 (drop i page))
+
+  module _ (k : lf < length page) where
+    inside : upto 10 (drop i page) < length (drop i page)
+    inside = omega (arith, length-drop i page, e, k)
+
+    after : drop (suc (upto 10 (drop i page))) (drop i page) ≡ drop (lf + 1) page
+    after = drop-drop (suc (upto 10 (drop i page))) i page ∙ ap (λ (n : ℕ). drop n page) (let q : i + suc (upto 10 (drop i page)) ≡ lf + 1 = omega (arith, e) in q)
+
+    pub to-lf : followed (drop (lf + 1) page) ≡ true → lf ≡ i + runs (drop i page)
+    to-lf f = omega (arith, e, runs-lf (drop i page) inside (ap followed after ∙ f))
+
+    pub to-more : followed (drop (lf + 1) page) ≡ false → i + runs (drop i page) ≡ lf + 1 + runs (drop (lf + 1) page)
+    to-more f = omega (arith, e, runs-more (drop i page) inside (ap followed after ∙ f), ap runs after)
+
+-- what follows an LF
+module _ (page : List ℕ) (at : ℕ) where
+  pub followed-none : length page ≤ at → followed (drop at page) ≡ true
+  followed-none h = rw (drop-of-length-le page h)
+
+  pub followed-line : {a b : Bool} → at < length page → opens (lineAt (drop at page)) ≡ a → endsPage (lineAt (drop at page)) ≡ b → followed (drop at page) ≡ (a || b)
+  followed-line h p q =
+      let s : isEmpty (drop at page) ≡ false = ap isEmpty (drop-cons page at 0 h) in
+      rw (s, p, q)
+
+-- ---- positions to read at
+module _ (page : List ℕ) where
+  pub readable-past : (at : ℕ) → length page < at → readable page at ≡ false
+  readable-past at h = rw (lt-leb at (length page) h)
+
+  pub readable-end : (at : ℕ) → at ≡ length page → readable page at ≡ true
+  readable-end at e = rw (le-leb at (length page) (omega arith), eq-eqb at (length page) e)
+
+  pub readable-zero : (at : ℕ) → at ≡ 0 → readable page at ≡ true
+  readable-zero zero e = rw (le-leb 0 (length page) (omega arith)) (or-true (eqb 0 (length page)))
+  readable-zero (suc at) e = absurd (omega arith)
+
+  pub readable-lf : (at : ℕ) → at ≤ length page → (at ≡ length page → ⊥) → (at ≡ 0 → ⊥) → readable page at ≡ eqb (getD page (at - 1) 0) 10
+  readable-lf zero h n z = absurd (z refl)
+  readable-lf (suc at) h n z =
+      let e : suc at - 1 ≡ at = omega arith in
+      rw (e, le-leb (suc at) (length page) h, ne-eqb (suc at) (length page) n)
+
+-- ---- which case a read is
+pub rest-some : (s : List ℕ) (at : ℕ) → isEmpty s ≡ false → restCase s at ≡ lineCase s at
+rest-some [] at e = absurd (true≢false e)
+rest-some (b ∷ s) at e = refl
+
+module _ (page : List ℕ) (at : ℕ) where
+  pub case-long : pageMost < length page → readCase page at ≡ TooLong
+  unfolding readCase
+  case-long h = rw (lt-leb (length page) pageMost h, readCase)
+
+  module _ (h : length page ≤ pageMost) where
+    fits : leb (length page) pageMost ≡ true
+    fits = le-leb (length page) pageMost h
+
+    pub case-none : readable page at ≡ false → readCase page at ≡ NoStart
+    unfolding readCase
+    case-none e = rw (fits, readCase) (rw e)
+
+    module _ (r : readable page at ≡ true) where
+      pub case-length : length page ≤ at → readCase page at ≡ AtLength
+      unfolding readCase
+      case-length k = rw (fits, readCase) (rw r (rw (drop-of-length-le page k)))
+
+      module _ (k : at < length page) where
+        left-over : restCase (drop at page) at ≡ lineCase (drop at page) at
+        left-over = rest-some (drop at page) at (ap isEmpty (drop-cons page at 0 k))
+
+        pub case-opening : opens (lineAt (drop at page)) ≡ true → readCase page at ≡ Opening (at + runs (drop at page))
+        unfolding readCase
+        case-opening e = rw (fits, readCase) (rw r (left-over ∙ rw (e, lineCase)))
+
+        pub case-ending : endsPage (lineAt (drop at page)) ≡ true → readCase page at ≡ Ending (at + upto 10 (drop at page))
+        unfolding readCase
+        case-ending f = rw (fits, readCase) (rw r (left-over ∙ rw (not-both (lineAt (drop at page)) f, lineCase) (rw f)))
+
+        pub case-stray : opens (lineAt (drop at page)) ≡ false → endsPage (lineAt (drop at page)) ≡ false → readCase page at ≡ Stray (at + runs (drop at page))
+        unfolding readCase
+        case-stray e f = rw (fits, readCase) (rw r (left-over ∙ rw (e, lineCase) (rw f)))
+
+-- what stands at a position ends after it and within the page
+pub record Stands (page : List ℕ) (at to : ℕ) : Type 0 where
+  pub within : at < length page
+  pub from : at ≤ to
+  pub most : to ≤ length page
+
+abbrev pub Ends : List ℕ → ℕ → ReadCase → Type 0
+Ends page at TooLong = Unit {0}
+Ends page at NoStart = Unit {0}
+Ends page at AtLength = Unit {0}
+Ends page at (Opening to) = Stands page at to
+Ends page at (Ending to) = Stands page at to
+Ends page at (Stray to) = Stands page at to
+
+module _ (page : List ℕ) (at : ℕ) where
+  ended : (n : ℕ) → 0 < length (drop at page) → n ≤ length (drop at page) → Stands page at (at + n)
+  ended n h k = let d = length-drop at page in record { within = omega (arith, d, h); from = omega arith; most = omega (arith, d, h, k) }
+
+  pub stands : Ends page at (readCase page at)
+  unfolding readCase
+  stands = go (leb (length page) pageMost) (readable page at) (drop at page) refl
+    where
+      line : (s : List ℕ) → drop at page ≡ s → 0 < length s → (a b : Bool)
+          → Ends page at (elim a as (λ x. ReadCase) [ true ↦ Opening (at + runs s) | false ↦ elim b as (λ x. ReadCase) [ true ↦ Ending (at + upto 10 s) | false ↦ Stray (at + runs s) ] ])
+      line s e h true b = ended (runs s) (omega (arith, ap length e, h)) (omega (arith, ap length e, runs-most s))
+      line s e h false true = ended (upto 10 s) (omega (arith, ap length e, h)) (omega (arith, ap length e, upto-length 10 s))
+      line s e h false false = ended (runs s) (omega (arith, ap length e, h)) (omega (arith, ap length e, runs-most s))
+
+      go : (a b : Bool) (s : List ℕ) → drop at page ≡ s
+          → Ends page at (elim a as (λ x. ReadCase) [ true ↦ elim b as (λ x. ReadCase) [ true ↦ restCase s at | false ↦ NoStart ] | false ↦ TooLong ])
+      go false b s e = tt
+      go true false s e = tt
+      go true true [] e = tt
+      go true true (c ∷ s) e = line (c ∷ s) e (omega arith) (opens (lineAt (c ∷ s))) (endsPage (lineAt (c ∷ s)))
+
+-- ---- what an answer of the code says of a read
+abbrev pub Tells : Answer → PageRead → Type 0
+Tells r x = (toldRead r (x .body) ≡ x) × (r .party ≡ partyBeside (x .outcome))
+
+pub tells-refusal : {r : Answer} {e : ParseError} {next : ℕ} → r ≡ record { outcome = Refused e; party = blank; next = next }
+    → Tells r (bodiless (aRefusal (refusalOf e .number) (refusalOf e .line)) next)
+tells-refusal q = (ap (λ (w : Answer). toldRead w []) q, ap (λ (w : Answer). w .party) q)
+
+pub tells-end : {r : Answer} {next : ℕ} → r ≡ record { outcome = End; party = blank; next = next } → Tells r (bodiless theEnd next)
+tells-end q = (ap (λ (w : Answer). toldRead w []) q, ap (λ (w : Answer). w .party) q)
+
+-- from a case to the read at a position
+module _ (page : List ℕ) (at : ℕ) {x : ReadCase} (e : readCase page at ≡ x) where
+  pub by-case : readAt page at ≡ readBy x page at
+  unfolding readAt
+  by-case = ap (λ (y : ReadCase). readBy y page at) e
+
+  pub tells-by : (r : Answer) → Tells r (readBy x page at) → Tells r (readAt page at)
+  tells-by r h = subst (Tells r) (sym by-case) h
+
+  pub ends-by : Ends page at x
+  ends-by = subst (Ends page at) e (stands page at)
+
+-- a field's next position
+tagged-next : (t : Tagged) (next : ℕ) → readTagged t next .next ≡ next
+tagged-next untagged next = refl
+tagged-next (tagged o body) next = refl
+
+pub field-next : (text : List ℕ) (next : ℕ) → readField text next .next ≡ next
+unfolding readField
+field-next text next = tagged-next (tagIn options text) next
+
+-- a field's read by its tag
+pub tagged-tells : (text : List ℕ) (next : ℕ) {t : Tagged} → t ≡ tagIn options text → (r : Answer) → Tells r (readTagged t next) → Tells r (readField text next)
+unfolding readField
+tagged-tells text next e r h = subst (λ (w : Tagged). Tells r (readTagged w next)) e h
+
+-- the record beside what an option's reader gives
+pub read-beside : (o : PartyOption) (body : List ℕ) → read o body .party ≡ partyBeside (outcomeOf (read o body .reply) (read o body .party))
+unfolding read
+read-beside o body = go (bodyReply body then foundBy (limitsOf o .layout) o body .reply) (partyOf o (foundBy (limitsOf o .layout) o body))
+  where
+    go : (r : Reply) (p : Party) → giving r p .party ≡ partyBeside (outcomeOf (giving r p .reply) (giving r p .party))
+    go accepted p = refl
+    go (refused k n) p = refl
+
+-- a field's read by its option's reader
+pub answer-tells : (o : PartyOption) (body : List ℕ) (next : ℕ) (a : ReaderAnswer) {w : Outcome} (x : OutcomeAt) → toldAnswer a ≡ read o body → a .outcome ≡ w
+    → toldOutcome x (a .party) ≡ outcomeOf (told w) (a .party) → Tells (record { outcome = x; party = a .party; next = next }) (readTagged (tagged o body) next)
+answer-tells o body next a x q e h = (
+  ap {B = PageRead} (λ (y : ReadOutcome). record { outcome = y; body = body; next = next })
+      (h ∙ ap (λ (y : Outcome). outcomeOf (told y) (a .party)) (sym e) ∙ ap (λ (r : Reading). outcomeOf (r .reply) (r .party)) q),
+  ap (λ (r : Reading). r .party) q ∙ read-beside o body,
+)

@@ -1,0 +1,6 @@
+pub mod Runs
+pub mod Cases
+pub mod Bodies
+pub mod Tags
+pub mod Moves
+pub mod Starts

@@ -1,0 +1,183 @@
+-- Pages: lines, fields, and a read at a position (document 01, 'Pages (added)'). What follows a position is the rest of the page from there.
+use Prim.Native.Nat.{ℕ, zero, suc, _+_, _-_, min}
+use mathlib.Core.Bool.{Bool, true, false, _&&_, _||_}
+use mathlib.Core.List.{List, [], _∷_}
+use lib.Dec.{leb, eqb}
+use lib.ListN.{length, take, drop, getD}
+use Rattle.errors.specs.Refusals.{Reply, accepted, refused, refusalOf}
+use Rattle.party.specs.declared.PartyOption.{PartyOption}
+use Rattle.party.specs.declared.Party.{Party}
+use Rattle.party.specs.Limits.{options}
+use Rattle.party.specs.Party.{blank}
+use Rattle.field_utils.specs.Lines.{upto, starts, isEmpty}
+use Rattle.field_utils.specs.Tags.{tagOf}
+use Rattle.reader.specs.Options.{read}
+use Rattle.page_reader.specs.declared.PageRead.{PageRead as ReadAt}
+use Rattle.page_reader.specs.declared.BodyPlace.{BodyPlace}
+use Rattle.page_reader.specs.declared.ReadOutcome.{ReadOutcome as OutcomeAt}
+use Rattle.page_reader.specs.declared.ReadOutcome.the-variants.{Record, End, Refused}
+use Rattle.page_reader.specs.declared.ReadCase.{ReadCase}
+use Rattle.page_reader.specs.declared.ReadCase.the-variants.{TooLong, NoStart, AtLength, Opening, Ending, Stray}
+
+-- at most 32,768 bytes
+abbrev pub pageMost : ℕ
+pageMost = 32768
+
+-- the first line of a rest: a page line ends at LF only
+unfoldable pub lineAt : List ℕ → List ℕ
+lineAt s = take (upto 10 s) s
+
+-- a line starting with `:` opens a field
+abbrev pub opens : List ℕ → Bool
+opens l = starts 58 l
+
+-- a line that is just `-` ends the page
+unfoldable pub endsPage : List ℕ → Bool
+endsPage [] = false
+endsPage (b ∷ l) = eqb b 45 && isEmpty l
+
+-- an opening or end line
+abbrev pub isBoundary : List ℕ → Bool
+isBoundary l = opens l || endsPage l
+
+-- how far a field runs: to before the LF that precedes the next opening or end line; where none follows, to the page's length, less a
+-- last LF
+unfoldable pub runs : List ℕ → ℕ
+runs [] = 0
+runs (b ∷ s) = elim (eqb b 10 && (isEmpty s || isBoundary (lineAt s))) [ true ↦ 0 | false ↦ suc (runs s) ]
+
+-- the position past an LF, at most the page's length
+abbrev pub past : List ℕ → ℕ → ℕ
+past page lf = min (length page) (suc lf)
+
+-- a list starts with another
+unfoldable pub begins : List ℕ → List ℕ → Bool
+begins [] s = true
+begins (a ∷ l) [] = false
+begins (a ∷ l) (b ∷ s) = eqb a b && begins l s
+
+-- a field's text by its tag: an option and the rest, which is the body, or none of the eleven
+pub data Tagged : Type 0 where
+  untagged : Tagged
+  tagged : PartyOption → List ℕ → Tagged
+
+-- the first of some options whose tag the text begins with
+unfoldable pub tagIn : List PartyOption → List ℕ → Tagged
+tagIn [] text = untagged
+tagIn (o ∷ os) text = elim (begins (tagOf o) text) [ true ↦ tagged o (drop (length (tagOf o)) text) | false ↦ tagIn os text ]
+
+-- a read gives a record, the end, or a refusal with its number and body line
+pub data ReadOutcome : Type 0 where
+  aRecord : Party → ReadOutcome
+  theEnd : ReadOutcome
+  aRefusal : ℕ → ℕ → ReadOutcome
+
+-- with the part of the page that is the body, and the next position
+pub record PageRead : Type 0 where
+  pub outcome : ReadOutcome
+  pub body : List ℕ
+  pub next : ℕ
+
+-- an empty part at 15 to 18, 21 and the end
+abbrev pub bodiless : ReadOutcome → ℕ → PageRead
+bodiless outcome next = record { outcome = outcome; body = []; next = next }
+
+-- what an option's reader gives: its record, or its refusal
+abbrev pub outcomeOf : Reply → Party → ReadOutcome
+outcomeOf accepted p = aRecord p
+outcomeOf (refused k n) p = aRefusal k n
+
+-- a field: 15 where its tag is none of the eleven, else what the tag's option reads of the body
+abbrev pub readTagged : Tagged → ℕ → PageRead
+readTagged untagged next = bodiless (aRefusal 15 0) next
+readTagged (tagged o body) next = record { outcome = outcomeOf (read o body .reply) (read o body .party); body = body; next = next }
+
+-- by the tags of the eleven
+unfoldable pub readField : List ℕ → ℕ → PageRead
+readField text next = readTagged (tagIn options text) next
+
+-- a position that is 0, or after an LF
+abbrev pub startsLine : List ℕ → ℕ → Bool
+startsLine page zero = true
+startsLine page (suc at) = eqb (getD page at 0) 10
+
+-- a position to read at, else 21: within the page, and 0, the length or after an LF
+abbrev pub readable : List ℕ → ℕ → Bool
+readable page at = leb at (length page) && (eqb at (length page) || startsLine page at)
+
+-- the first line of a rest from a position on opens a field, ends the page, or does neither; with the position to which the field, the
+-- line or what is stray runs
+abbrev pub lineCase : List ℕ → ℕ → ReadCase
+lineCase s at =
+    elim (opens (lineAt s)) [
+      | true ↦ Opening (at + runs s)
+      | false ↦ elim (endsPage (lineAt s)) [ true ↦ Ending (at + upto 10 s) | false ↦ Stray (at + runs s) ]
+    ]
+
+-- there is none at the page's length
+abbrev pub restCase : List ℕ → ℕ → ReadCase
+restCase [] at = AtLength
+restCase (b ∷ s) at = lineCase (b ∷ s) at
+
+-- which case a read is: a page over 32,768, no position to read at, the page's length, or a line
+unfoldable pub readCase : List ℕ → ℕ → ReadCase
+readCase page at =
+    elim (leb (length page) pageMost) [
+      | true ↦ elim (readable page at) [ true ↦ restCase (drop at page) at | false ↦ NoStart ]
+      | false ↦ TooLong
+    ]
+
+-- a field's text: the page from one position to another
+abbrev pub textIn : List ℕ → ℕ → ℕ → List ℕ
+textIn page at to = take (to - at) (drop at page)
+
+-- what each case reads: 18, 21, 17; a field, the end, or 16
+abbrev pub readBy : ReadCase → List ℕ → ℕ → PageRead
+readBy TooLong page at = bodiless (aRefusal 18 0) at
+readBy NoStart page at = bodiless (aRefusal 21 0) at
+readBy AtLength page at = bodiless (aRefusal 17 0) at
+readBy (Opening to) page at = readField (textIn page at to) (past page to)
+readBy (Ending to) page at = bodiless theEnd (past page to)
+readBy (Stray to) page at = bodiless (aRefusal 16 0) (past page to)
+
+-- a read at a position: 18, 21, 17 or 16, 15, then the body's
+unfoldable pub readAt : List ℕ → ℕ → PageRead
+readAt page at = readBy (readCase page at) page at
+
+-- no body: no field, or a tag that is none of the eleven
+abbrev pub noBody : BodyPlace
+noBody = record { start = 0; len = 0 }
+
+-- where a body stands in the page, by its field's tag and the position to which the field runs: the rest after the tag
+abbrev pub bodyIn : Tagged → ℕ → BodyPlace
+bodyIn untagged to = noBody
+bodyIn (tagged o body) to = record { start = to - length body; len = length body }
+
+-- which only a field has
+abbrev pub placeBy : ReadCase → List ℕ → ℕ → BodyPlace
+placeBy TooLong page at = noBody
+placeBy NoStart page at = noBody
+placeBy AtLength page at = noBody
+placeBy (Opening to) page at = bodyIn (tagIn options (textIn page at to)) to
+placeBy (Ending to) page at = noBody
+placeBy (Stray to) page at = noBody
+
+-- that of the field at a position; proofs/Bodies.antt has `body-there`: the bytes there are the read's body
+unfoldable pub bodyPlace : List ℕ → ℕ → BodyPlace
+bodyPlace page at = placeBy (readCase page at) page at
+
+-- what an outcome of the code says, with the record beside it
+abbrev pub toldOutcome : OutcomeAt → Party → ReadOutcome
+toldOutcome Record p = aRecord p
+toldOutcome End p = theEnd
+toldOutcome (Refused e) p = aRefusal (refusalOf e .number) (refusalOf e .line)
+
+-- what the code's answer says, with the part of the page that is the body
+abbrev pub toldRead : ReadAt → List ℕ → PageRead
+toldRead r body = record { outcome = toldOutcome (r .outcome) (r .party); body = body; next = r .next }
+
+-- the record beside an outcome: blank but for a record
+abbrev pub partyBeside : ReadOutcome → Party
+partyBeside (aRecord p) = p
+partyBeside theEnd = blank
+partyBeside (aRefusal k n) = blank

@@ -1,0 +1,9 @@
+pub mod Pieces
+pub mod Carried
+pub mod Addings
+pub mod Structure
+pub mod Records
+pub mod Alone
+pub mod Fold
+pub mod Invariant
+pub mod Theorems

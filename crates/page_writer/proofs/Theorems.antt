@@ -1,0 +1,228 @@
+-- Demand 3 over the definitions. Assumes nothing.
+use mathlib.Core.Path.{_≡_, refl, sym, _∙_, ap, subst}
+use mathlib.Core.Bool.{Bool, true, false, true≢false}
+use mathlib.Core.List.{List, [], _∷_, _++_, map}
+use mathlib.Core.Logic.{_⊎_, inl, inr}
+use Prim.Native.Nat.{ℕ, _+_, _*_, _≤_, _<_, min}
+use native.Mathlib.Omega.{arith}
+use lib.Dec.{leb}
+use lib.ListN.{length, take, drop, length-append}
+use lib.Seq.{drop-drop}
+use borrow.Author.Tests.{le-leb, leb-true, leb-false}
+use Rattle.errors.specs.Refusals.{accepted, must, _then_}
+use Rattle.party.specs.declared.Party.{Party}
+use Rattle.party.specs.Party.{said}
+use Rattle.writer.specs.Writing.{writtenField, put}
+use Rattle.writer.specs.Given.{Given}
+use Rattle.writer.proofs.Relined.{All}
+use Rattle.writer.proofs.Back.{not-identified}
+use Rattle.writer.proofs.Theorems.{given-exact, necessary, written-less}
+use Rattle.writer.proofs.Puts.{put-length, put-take, put-drop}
+use Rattle.page_reader.specs.Pages.{pageMost, theEnd, aRefusal}
+use Rattle.page_writer.specs.Adding.{isCarried, hasSpace, withLf, endLine, Filed, positionAfter, refusal, Call, putting, recordSpace, asked, recordReply, close}
+use Rattle.page_writer.specs.Fold.{Run, run, acceptedOf}
+use Rattle.page_writer.specs.WholePage.{OpenPage, addStep, isAccepted, Model, Field, kept, new, pageOf, ReadsAs, Alone, Overwrites}
+use Rattle.page_writer.specs.Demand3.{adds, model, acceptedAdds, closing, page, OpenReads, ClosedPage, WholePage}
+use Rattle.page_writer.proofs.Structure.{Sound, page-tail, nothing, ending, reads}
+use Rattle.page_writer.proofs.Records.{carried-back, new-sound, kept-sound}
+use Rattle.page_writer.proofs.Alone.{alone-exact}
+use Rattle.page_writer.proofs.Addings.{close-by}
+use Rattle.page_writer.proofs.Fold.{run-append}
+use Rattle.page_writer.proofs.Invariant.{add-is, adds-untouched, Fit, fieldsOf, Invariant, within, ready, ran, listed}
+
+position≢refusal : {m k n : ℕ} → positionAfter m ≡ refusal k n → ⊥
+position≢refusal e = let z : _≡_ {A = ℕ} 0 1 = cc in omega arith
+
+-- ---- the fields of accepted adds
+fit-sound : (p : Party) → Fit p → Sound (kept p)
+fit-sound p h = kept-sound p (given-exact p .yes (h .given)) (h .carried)
+
+fields-sound : (ps : List Party) → All Fit ps → All Sound (map kept ps)
+fields-sound [] h = tt
+fields-sound (p ∷ ps) h = (fit-sound p (h .0), fields-sound ps (h .1))
+
+-- some of them overwritten
+overwritten-sound : (ps : List Party) → All Fit ps → (fs : List Field) → Overwrites ps fs → All Sound fs
+unfolding Overwrites
+overwritten-sound [] h [] o = tt
+overwritten-sound [] h (f ∷ fs) o = absurd o
+overwritten-sound (p ∷ ps) h [] o = absurd o
+overwritten-sound (p ∷ ps) h (kept q ∷ fs) o = (subst (λ (x : Party). Sound (kept x)) (sym (o .0)) (fit-sound p (h .0)), overwritten-sound ps (h .1) fs (o .1))
+overwritten-sound (p ∷ ps) h (new bytes ∷ fs) o = (new-sound bytes (o .0), overwritten-sound ps (h .1) fs (o .1))
+
+fields-most : (ps : List Party) → All Fit ps → length (fieldsOf ps) ≤ 185 * length ps
+unfolding pageOf
+fields-most [] h = omega arith
+fields-most (p ∷ ps) h =
+    let g = given-exact p .yes (h .0 .given) in
+    let n = written-less p g (not-identified (said p) (carried-back (said p) (h .0 .carried))) in
+    omega (arith, n, fields-most ps (h .1), length-append (withLf (writtenField (said p))) (fieldsOf ps), length-append (writtenField (said p)) (10 ∷ []))
+
+-- ---- after the adds from an empty page
+module _ (ps : List Party) (buffer : List ℕ) where
+  abbrev len : ℕ
+  len = length buffer
+
+  abbrev s : OpenPage
+  s = adds ps buffer .state
+
+  abbrev m : Model
+  m = model ps len .state
+
+  abbrev list : List Party
+  list = acceptedAdds ps buffer
+
+  both-run : Invariant len s m × (adds ps buffer .answers ≡ model ps len .answers)
+  unfolding pageOf
+  both-run = ran len _ _ (record { fields = refl; ends = refl; same = refl; size = refl; fit = tt; room = λ n. absurd (omega arith) }) ps
+
+  abbrev holds : Invariant len s m
+  holds = both-run .0
+
+  list-is : list ≡ m .list
+  list-is = ap (λ (xs : List Filed). acceptedOf ps (map isAccepted xs)) (both-run .1) ∙ sym (listed len ps _)
+
+  -- the bytes before the position are the fields of the accepted adds
+  prefix : take (s .position) (s .buffer) ≡ fieldsOf list
+  prefix = holds .fields ∙ ap fieldsOf (sym list-is)
+
+  ends-at : s .position ≡ length (fieldsOf list)
+  ends-at = holds .ends ∙ ap (λ (x : List Party). length (fieldsOf x)) (sym list-is)
+
+  all-fit : All Fit list
+  all-fit = subst (All Fit) (sym list-is) (holds .fit)
+
+  untouched : drop (s .position) (s .buffer) ≡ drop (s .position) buffer
+  untouched = adds-untouched buffer (record { buffer = buffer; position = 0 }) refl ps
+
+  -- an accepted add left space to close, and so there is in a buffer of 2 bytes
+  room : 0 < length list → s .position + 2 ≤ min len pageMost
+  room n = let k = holds .room (omega (arith, n, ap length list-is)) in omega (arith, k, holds .same)
+
+  some-fit : (ls : List Party) → list ≡ ls → (s .position ≤ pageMost) × (2 ≤ len → s .position + 2 ≤ min len pageMost)
+  unfolding pageOf
+  some-fit [] q = let z : s .position ≡ 0 = ends-at ∙ ap (λ (x : List Party). length (fieldsOf x)) q in (omega (arith, z), λ n. omega (arith, n, z))
+  some-fit (p ∷ ls) q = let k = room (omega (arith, ap length q)) in (omega (arith, k), λ n. k)
+
+  -- an open page, at any point of a run: the fields of the accepted adds, and 17 after them
+  pub open-page : OpenReads s list
+  open-page = record {
+    bytes = prefix;
+    reads = subst (λ (x : List ℕ). ReadsAs x 0 (map kept list) (aRefusal 17 0)) (sym prefix)
+        (reads nothing refl (map kept list) (omega (arith, some-fit list refl .0, ends-at)) (fields-sound list all-fit));
+  }
+
+  -- ---- the closing, by whether there is space
+  closing-is : (t : Bool) → hasSpace len (s .position + 2) ≡ t → closing ps buffer ≡ putting (must t 24 0) (s .buffer) (s .position) endLine
+  closing-is t e =
+      close-by (s .buffer) (s .position) (ready len s m holds)
+      ∙ ap (λ (b : Bool). putting (must b 24 0) (s .buffer) (s .position) endLine) (ap (λ (k : ℕ). hasSpace k (s .position + 2)) (holds .size) ∙ e)
+
+  space-two : 2 ≤ len → hasSpace len (s .position + 2) ≡ true
+  space-two n = le-leb _ _ (some-fit list refl .1 n)
+
+  -- what an accepted closing left
+  record Closed (to : ℕ) : Type 0 where
+    position : to ≡ s .position + length endLine
+    bytes : closing ps buffer .buffer ≡ put (s .buffer) (s .position) endLine
+    space : to ≤ min (length (s .buffer)) pageMost
+
+  closed-by : {to : ℕ} → closing ps buffer .answer ≡ positionAfter to → Closed to
+  closed-by {to} a = go (hasSpace len (s .position + 2)) refl
+    where
+      go : (t : Bool) → hasSpace len (s .position + 2) ≡ t → Closed to
+      go false e = absurd (position≢refusal (sym a ∙ ap (λ (c : Call). c .answer) (closing-is false e)))
+      go true e =
+          let q : positionAfter to ≡ positionAfter (s .position + 2) = sym a ∙ ap (λ (c : Call). c .answer) (closing-is true e) in
+          let k : to ≡ s .position + 2 = cc in
+          record { position = k; bytes = ap (λ (c : Call). c .buffer) (closing-is true e); space = omega (arith, k, leb-true (s .position + 2) (min len pageMost) e, holds .size) }
+
+  -- it gives a position within the buffer
+  pub closing-within : {to : ℕ} → closing ps buffer .answer ≡ positionAfter to → to ≤ length (closing ps buffer .buffer)
+  closing-within a =
+      let d = closed-by a in
+      omega (arith, d .space, ap length (d .bytes), put-length (s .buffer) (s .position) endLine (omega (arith, d .space, d .position)))
+
+  closed-page : {to : ℕ} → closing ps buffer .answer ≡ positionAfter to → ClosedPage ps buffer to
+  closed-page {to} a =
+      let d = closed-by a in
+      let b = closing ps buffer .buffer in
+      let k : s .position + length endLine ≤ length (s .buffer) = omega (arith, d .space, d .position) in
+      let q : page ps buffer to ≡ pageOf (map kept list) endLine =
+      ap (λ (n : ℕ). take n b) (d .position) ∙ ap (take (s .position + length endLine)) (d .bytes) ∙ put-take (s .buffer) (s .position) endLine k
+      ∙ ap (λ (x : List ℕ). x ++ endLine) prefix ∙ sym (page-tail (map kept list) endLine) in
+      let n : length (pageOf (map kept list) endLine) ≡ to = omega (arith, ap length (page-tail (map kept list) endLine), length-append (fieldsOf list) endLine, ends-at, d .position) in
+      let w : length (page ps buffer to) ≡ to = ap length q ∙ n in
+      record {
+        reads = subst (λ (x : List ℕ). ReadsAs x 0 (map kept list) theEnd) (sym q) (reads (ending []) refl (map kept list) (omega (arith, n, d .space)) (fields-sound list all-fit));
+        bytes = q;
+        after = ap (λ (x : ℕ). drop x b) (d .position) ∙ ap (drop (s .position + length endLine)) (d .bytes) ∙ put-drop (s .buffer) (s .position) endLine k
+            ∙ sym (drop-drop (length endLine) (s .position) (s .buffer)) ∙ ap (drop (length endLine)) untouched ∙ drop-drop (length endLine) (s .position) buffer
+            ∙ ap (λ (x : ℕ). drop x buffer) (sym (d .position));
+        most = omega (arith, w, d .space);
+        bound = omega (arith, w, d .position, ends-at, fields-most list all-fit);
+      }
+
+  -- a refused one changes nothing
+  unclosed-page : {k n : ℕ} → closing ps buffer .answer ≡ refusal k n → (closing ps buffer ≡ record { answer = refusal 24 0; buffer = buffer }) × (len < 2) × (list ≡ [])
+  unfolding pageOf
+  unclosed-page r = go (hasSpace len (s .position + 2)) refl list refl
+    where
+      short : hasSpace len (s .position + 2) ≡ false → len < 2
+      short e = by (leb 2 len) refl
+        where
+          by : (t : Bool) → leb 2 len ≡ t → len < 2
+          by true q = absurd (true≢false (sym (space-two (leb-true 2 len q)) ∙ e))
+          by false q = leb-false 2 len q
+
+      go : (t : Bool) → hasSpace len (s .position + 2) ≡ t → (ls : List Party) → list ≡ ls
+          → (closing ps buffer ≡ record { answer = refusal 24 0; buffer = buffer }) × (len < 2) × (list ≡ [])
+      go true e ls q = absurd (position≢refusal (sym (ap (λ (c : Call). c .answer) (closing-is true e)) ∙ r))
+      go false e (p ∷ ls) q = absurd (omega (arith, short e, room (omega (arith, ap length q))))
+      go false e [] q =
+          let z : s .position ≡ 0 = ends-at ∙ ap (λ (x : List Party). length (fieldsOf x)) q in
+          let u : s .buffer ≡ buffer = ap (λ (n : ℕ). drop n (s .buffer)) (sym z) ∙ untouched ∙ ap (λ (n : ℕ). drop n buffer) z in
+          (closing-is false e ∙ ap {B = Call} (λ (x : List ℕ). record { answer = refusal 24 0; buffer = x }) u, short e, q)
+
+-- ---- a record that a reader can give, with space for it, in its turn
+module _ (before : List Party) (p : Party) (buffer : List ℕ) where
+  abbrev at : OpenPage
+  at = adds before buffer .state
+
+  -- accepted with the position after, or refused with 23
+  abbrev Exactly : Filed → Type 0
+  Exactly a = (Alone p × (a ≡ positionAfter (at .position + length (withLf (writtenField (said p)))))) ⊎ ((Alone p → ⊥) × (a ≡ refusal 23 0))
+
+  exact : Given p → recordSpace (length (at .buffer)) (at .position) (said p) ≡ true → Exactly (addStep at p .answer)
+  unfolding recordReply asked
+  exact g space = go (isCarried (said p)) refl
+    where
+      answer : {t : Bool} → isCarried (said p) ≡ t → addStep at p .answer ≡ putting (must t 23 0 then accepted) (at .buffer) (at .position) (withLf (writtenField (said p))) .answer
+      answer {t} e =
+          let r : recordReply (length (at .buffer)) (at .position) (said p) ≡ (must t 23 0 then accepted) = rw (necessary p g, e, space) in
+          ap (λ (c : Call). c .answer) (add-is (at .buffer) (at .position) (said p) (ready (length buffer) at _ (holds before buffer)) r)
+
+      go : (t : Bool) → isCarried (said p) ≡ t → Exactly (addStep at p .answer)
+      go true e = inl (alone-exact p g .yes e, answer e)
+      go false e = inr (alone-exact p g .no e, answer e)
+
+-- it answers in the run what it answers in its turn
+turn-in : (before : List Party) (p : Party) (later : List Party) (buffer : List ℕ) {ps : List Party} → ps ≡ before ++ p ∷ later → let c = addStep (adds before buffer .state) p in
+    adds ps buffer .answers ≡ adds before buffer .answers ++ c .answer ∷ run addStep (c .state) later .answers
+unfolding run
+turn-in before p later buffer e =
+    ap (λ (x : List Party). adds x buffer .answers) e ∙ ap (λ (r : Run OpenPage Filed). r .answers) (run-append addStep (record { buffer = buffer; position = 0 }) before (p ∷ later))
+
+-- demand 3: for every list of adds and every buffer
+pub whole-page : (ps : List Party) (buffer : List ℕ) → WholePage ps buffer
+whole-page ps buffer = record {
+  closed = closed-page ps buffer;
+  in-turn = λ before p later e. turn-in before p later buffer e;
+  exactly = λ before p later e. exact before p buffer;
+  overwritten = λ fs o n. reads (ending []) refl fs n (overwritten-sound (acceptedAdds ps buffer) (all-fit ps buffer) fs o);
+  answers = both-run ps buffer .1;
+  position = holds ps buffer .same;
+  list = list-is ps buffer;
+  unclosed = unclosed-page ps buffer;
+  closes = λ n. ap (λ (c : Call). c .answer) (closing-is ps buffer true (space-two ps buffer n));
+}

@@ -1,0 +1,91 @@
+-- Adding to a page and closing it (document 01, 'Pages (added)' and 'From the state').
+use Prim.Native.Nat.{ℕ, _+_, min}
+use mathlib.Core.Bool.{Bool, false, not, _&&_, _||_}
+use mathlib.Core.List.{List, [], _∷_, _++_}
+use lib.Dec.{leb}
+use lib.ListN.{length}
+use Rattle.errors.specs.Refusals.{Reply, accepted, refused, must, _then_, refusalOf}
+use Rattle.party.specs.Party.{Said}
+use Rattle.swift_utils.specs.Bytes.{bytes}
+use Rattle.writer.specs.Writing.{writtenBody, writtenField, pieces, put}
+use Rattle.writer.specs.Given.{isGiven}
+use Rattle.writer.specs.ReadBack.{isReadBack}
+use Rattle.page_reader.specs.Pages.{pageMost, opens, endsPage, startsLine}
+use Rattle.page_writer.specs.declared.Filed.{Filed as FiledAt}
+use Rattle.page_writer.specs.declared.Filed.the-variants.{Position, Refused}
+
+-- a line starts with `:` or is `-`
+unfoldable pub anyBoundary : List (List ℕ) → Bool
+anyBoundary [] = false
+anyBoundary (l ∷ ls) = opens l || endsPage l || anyBoundary ls
+
+-- a line after the first does
+unfoldable pub laterBoundary : List (List ℕ) → Bool
+laterBoundary [] = false
+laterBoundary (l ∷ ls) = anyBoundary ls
+
+-- a record that a page can carry, else 23: its last written line is not empty, no earlier one ends in CR and it is no 59F with identifier
+-- (`isReadBack` has these three), and no written line after the first starts with `:` or is `-`
+unfoldable pub isCarried : Said → Bool
+isCarried s = isReadBack s && not (laterBoundary (pieces (writtenBody s)))
+
+-- a position to write at, else 21: within the buffer, and 0 or after an LF
+unfoldable pub writable : List ℕ → ℕ → Bool
+writable buffer at = leb at (length buffer) && startsLine buffer at
+
+-- a position has space before it, else 24: it passes neither the buffer nor 32,768
+abbrev pub hasSpace : ℕ → ℕ → Bool
+hasSpace len to = leb to (min len pageMost)
+
+-- a text and LF
+abbrev pub withLf : List ℕ → List ℕ
+withLf text = text ++ 10 ∷ []
+
+-- the end: `-` and LF
+abbrev pub endLine : List ℕ
+endLine = bytes "-\n"
+
+-- adding and closing answer the position after, or a refusal with its number and line
+pub data Filed : Type 0 where
+  positionAfter : ℕ → Filed
+  refusal : ℕ → ℕ → Filed
+
+-- a call of either: its answer, and the buffer as it left it
+pub record Call : Type 0 where
+  pub answer : Filed
+  pub buffer : List ℕ
+
+-- accepted, the text is put at the position and no other byte changes; a refusal changes none
+abbrev pub putting : Reply → List ℕ → ℕ → List ℕ → Call
+putting accepted buffer at text = record { answer = positionAfter (at + length text); buffer = put buffer at text }
+putting (refused k n) buffer at text = record { answer = refusal k n; buffer = buffer }
+
+-- a record has space at a position of a page in a buffer of a length, else 24: position plus field plus its LF plus 2
+abbrev pub recordSpace : ℕ → ℕ → Said → Bool
+recordSpace len at s = hasSpace len (at + length (withLf (writtenField s)) + 2)
+
+-- what a page asks of a record, wherever it is added: 22, 23
+unfoldable pub asked : Said → Reply
+asked s = must (isGiven s) 22 0 then must (isCarried s) 23 0
+
+-- a refusal that applies to a record at a position, by the buffer's length alone: 22, 23, 24
+unfoldable pub recordReply : ℕ → ℕ → Said → Reply
+recordReply len at s = asked s then must (recordSpace len at s) 24 0
+
+-- adding: 21, 22, 23, 24; writes tag, body and LF
+unfoldable pub add : List ℕ → ℕ → Said → Call
+add buffer at s =
+    putting (must (writable buffer at) 21 0 then recordReply (length buffer) at s) buffer at (withLf (writtenField s))
+
+-- closing: 21, 24; writes `-` and LF
+unfoldable pub close : List ℕ → ℕ → Call
+close buffer at = putting (must (writable buffer at) 21 0 then must (hasSpace (length buffer) (at + 2)) 24 0) buffer at endLine
+
+-- what the code's answer says
+abbrev pub toldFiled : FiledAt → Filed
+toldFiled (Position n) = positionAfter n
+toldFiled (Refused e) = refusal (refusalOf e .number) (refusalOf e .line)
+
+-- with the buffer that it left
+abbrev pub toldCall : FiledAt → List ℕ → Call
+toldCall r buffer = record { answer = toldFiled r; buffer = buffer }

@@ -1,0 +1,5 @@
+pub mod Adding
+pub mod Fold
+pub mod WholePage
+pub mod Demand3
+pub mod Code
