@@ -78,6 +78,8 @@ pub record Fit (p : Party) : Type 0 where
 abbrev pub fieldsOf : List Party → List ℕ
 fieldsOf ps = pageOf (map kept ps) []
 
+-- the bytes before the position are the fields of the list, and the position is their length; the buffer's length is kept, every record of
+-- the list is one that a page carries, and closing has room. Of the bytes after the position nothing is said.
 pub record Invariant (len : ℕ) (s : OpenPage) (m : Model) : Type 0 where
   pub fields : take (s .position) (s .buffer) ≡ fieldsOf (m .list)
   pub ends : s .position ≡ length (fieldsOf (m .list))
@@ -96,7 +98,7 @@ fields-snoc [] p = append-nil (withLf (writtenField (said p)))
 fields-snoc (q ∷ ps) p = ap (_++_ (withLf (writtenField (said q)))) (fields-snoc ps p) ∙ sym (append-assoc (withLf (writtenField (said q))) (fieldsOf ps) (withLf (writtenField (said p))))
 
 module _ (len : ℕ) (s : OpenPage) (m : Model) (h : Invariant len s m) where
-  pub within : s .position ≤ len
+  within : s .position ≤ len
   within = omega (arith, ap length (h .fields), h .ends, h .size, length-take (s .position) (s .buffer))
 
   -- the position is one to write at

@@ -19,7 +19,7 @@ use Rattle.writer.proofs.Back.{not-identified}
 use Rattle.writer.proofs.Theorems.{given-exact, necessary, written-less}
 use Rattle.writer.proofs.Puts.{put-length, put-take, put-drop}
 use Rattle.page_reader.specs.Pages.{pageMost, theEnd, aRefusal}
-use Rattle.page_writer.specs.Adding.{isCarried, hasSpace, withLf, endLine, Filed, positionAfter, refusal, Call, putting, recordSpace, asked, recordReply, close}
+use Rattle.page_writer.specs.Adding.{isCarried, hasSpace, withLf, endLine, Filed, positionAfter, refusal, Call, putting, recordSpace, asked, recordReply}
 use Rattle.page_writer.specs.Fold.{Run, run, acceptedOf}
 use Rattle.page_writer.specs.WholePage.{OpenPage, addStep, isAccepted, Model, Field, kept, new, pageOf, ReadsAs, Alone, Overwrites}
 use Rattle.page_writer.specs.Demand3.{adds, model, acceptedAdds, closing, page, OpenReads, ClosedPage, WholePage}
@@ -28,7 +28,7 @@ use Rattle.page_writer.proofs.Records.{carried-back, new-sound, kept-so
 use Rattle.page_writer.proofs.Alone.{alone-exact}
 use Rattle.page_writer.proofs.Addings.{close-by}
 use Rattle.page_writer.proofs.Fold.{run-append}
-use Rattle.page_writer.proofs.Invariant.{add-is, adds-untouched, Fit, fieldsOf, Invariant, within, ready, ran, listed}
+use Rattle.page_writer.proofs.Invariant.{add-is, adds-untouched, Fit, fieldsOf, Invariant, ready, ran, listed}
 
 position≢refusal : {m k n : ℕ} → positionAfter m ≡ refusal k n → ⊥
 position≢refusal e = let z : _≡_ {A = ℕ} 0 1 = cc in omega arith
@@ -168,21 +168,18 @@ module _ (ps : List Party) (buffer : List ℕ) where
   unfolding pageOf
   unclosed-page r = go (hasSpace len (s .position + 2)) refl list refl
     where
-      short : hasSpace len (s .position + 2) ≡ false → len < 2
-      short e = by (leb 2 len) refl
-        where
-          by : (t : Bool) → leb 2 len ≡ t → len < 2
-          by true q = absurd (true≢false (sym (space-two (leb-true 2 len q)) ∙ e))
-          by false q = leb-false 2 len q
+      short : (t : Bool) → leb 2 len ≡ t → hasSpace len (s .position + 2) ≡ false → len < 2
+      short true q e = absurd (true≢false (sym (space-two (leb-true 2 len q)) ∙ e))
+      short false q e = leb-false 2 len q
 
       go : (t : Bool) → hasSpace len (s .position + 2) ≡ t → (ls : List Party) → list ≡ ls
           → (closing ps buffer ≡ record { answer = refusal 24 0; buffer = buffer }) × (len < 2) × (list ≡ [])
       go true e ls q = absurd (position≢refusal (sym (ap (λ (c : Call). c .answer) (closing-is true e)) ∙ r))
-      go false e (p ∷ ls) q = absurd (omega (arith, short e, room (omega (arith, ap length q))))
+      go false e (p ∷ ls) q = absurd (omega (arith, short (leb 2 len) refl e, room (omega (arith, ap length q))))
       go false e [] q =
           let z : s .position ≡ 0 = ends-at ∙ ap (λ (x : List Party). length (fieldsOf x)) q in
           let u : s .buffer ≡ buffer = ap (λ (n : ℕ). drop n (s .buffer)) (sym z) ∙ untouched ∙ ap (λ (n : ℕ). drop n buffer) z in
-          (closing-is false e ∙ ap {B = Call} (λ (x : List ℕ). record { answer = refusal 24 0; buffer = x }) u, short e, q)
+          (closing-is false e ∙ ap {B = Call} (λ (x : List ℕ). record { answer = refusal 24 0; buffer = x }) u, short (leb 2 len) refl e, q)
 
 -- ---- a record that a reader can give, with space for it, in its turn
 module _ (before : List Party) (p : Party) (buffer : List ℕ) where
