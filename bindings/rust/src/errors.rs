@@ -91,9 +91,15 @@ impl ParseError {
     }
 }
 
+impl fmt::Display for ErrorKind {
+    fn fmt(&self, f: &mut fmt::Formatter<'_>) -> fmt::Result {
+        f.write_str(self.text())
+    }
+}
+
 impl fmt::Display for ParseError {
     fn fmt(&self, f: &mut fmt::Formatter<'_>) -> fmt::Result {
-        f.write_str(self.kind.text())?;
+        write!(f, "{}", self.kind)?;
         if self.line != 0 {
             write!(f, ", in line {}", self.line)?;
         }

@@ -36,14 +36,52 @@ macro_rules! option {
                 Self::$name(field)
             }
         }
+
+        $crate::fields::held!($crate::pages::Party, $name($name));
+        $crate::fields::shown!($name);
     };
 }
+
+/// Gives the struct that a value of an enum holds, where it is this one, and else the value back.
+macro_rules! held {
+    ($name:path, $variant:ident($field:ident)) => {
+        impl TryFrom<$name> for $field {
+            type Error = $name;
+
+            fn try_from(value: $name) -> std::result::Result<Self, $name> {
+                use $name as Value;
+                match value {
+                    Value::$variant(field) => Ok(field),
+                    other => Err(other),
+                }
+            }
+        }
+    };
+}
+pub(crate) use held;
+
+/// Shows a value as its field is written, tag and body, or as the refusal to write it.
+macro_rules! shown {
+    ($name:ident) => {
+        impl std::fmt::Display for $name {
+            fn fmt(&self, f: &mut std::fmt::Formatter<'_>) -> std::fmt::Result {
+                match $crate::library::write(&$crate::record::Recorded::record(self)) {
+                    Ok(field) => f.write_str(&field),
+                    Err(refusal) => write!(f, "{refusal}"),
+                }
+            }
+        }
+    };
+}
+pub(crate) use shown;
 
 /// Makes an enum the field of a choice: its place among the library's choices, and its variants,
 /// with the letter where `get_variant_tag` tells it.
 macro_rules! choice {
-    ($name:ident at $place:literal { $($variant:ident $($tag:literal)?),+ }) => {
+    ($name:ident at $place:literal { $($variant:ident($field:ident) $($tag:literal)?),+ }) => {
         $crate::record::one_of!($name { $($variant),+ });
+        $($crate::fields::held!($name, $variant($field));)+
+        $crate::fields::shown!($name);
 
         impl $crate::SwiftField for $name {
             fn parse(input: &str) -> $crate::Result<Self> {

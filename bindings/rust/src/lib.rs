@@ -1,9 +1,9 @@
 //! Party fields 50 and 59 of SWIFT MT messages, and pages of them.
 //!
 //! The types, their fields and their methods are those of `fields::field50` and `fields::field59`
-//! of swift-mt-message 3.1.5, under the same paths, so that a program changes its `use` lines. The
-//! reading and writing is done by the static library of Yewdome, whose functions are proved equal
-//! to written rules. What is not as in swift-mt-message:
+//! of swift-mt-message 3.1.5, under the same paths. The reading and writing is done by the static
+//! library of Yewdome, whose functions are proved equal to written rules. What is not as in
+//! swift-mt-message:
 //!
 //! - [`SwiftField::to_swift_string`] gives a [`Result`]: a value that no reader gives is refused
 //!   with 22, and nothing is cut off;

@@ -21,7 +21,7 @@ pub const LONGEST_FIELD: usize = 188;
 pub const LONGEST_BODY: usize = 2_048;
 
 /// A record of a page, of any option.
-#[derive(Debug, Clone, PartialEq)]
+#[derive(Debug, Clone, PartialEq, Eq, Hash)]
 pub enum Party {
     /// 50 without a letter.
     Field50NoOption(Field50NoOption),
@@ -60,6 +60,8 @@ one_of!(Party {
     Field59F,
 });
 
+crate::fields::shown!(Party);
+
 impl Party {
     /// Writes the field, tag and body. A value that no reader gives is refused with 22.
     pub fn to_swift_string(&self) -> Result<String> {
@@ -68,7 +70,7 @@ impl Party {
 }
 
 /// What a read of a page answers.
-#[derive(Debug, Clone, PartialEq)]
+#[derive(Debug, Clone, PartialEq, Eq, Hash)]
 pub enum Answer {
     /// The field is read.
     Record(Party),
@@ -79,7 +81,7 @@ pub enum Answer {
 }
 
 /// A read of a page.
-#[derive(Debug, Clone, PartialEq)]
+#[derive(Debug, Clone, PartialEq, Eq, Hash)]
 pub struct Read {
     /// The position where it was.
     pub at: usize,

@@ -1,8 +1,9 @@
 //! Values that are refused, variants, and the text of refusals.
 
+use std::collections::HashSet;
 use yewdome::fields::*;
 use yewdome::pages::{Party, LONGEST_BODY, LONGEST_FIELD};
-use yewdome::{Result, SwiftField};
+use yewdome::{ErrorKind, Result, SwiftField};
 
 fn names(names: &[&str]) -> Vec<String> {
     names.iter().map(|name| name.to_string()).collect()
@@ -181,4 +182,31 @@ fn every_refusal_of_a_reader_has_its_text() {
         "variant that is no letter from A to Z (refusal 14)",
     ];
     assert_eq!(texts, due);
+}
+
+#[test]
+fn a_struct_is_taken_out_of_an_enum_that_holds_it() {
+    let field = of_50k(None, "A");
+    let choice = Field50OrderingCustomerAFK::K(field.clone());
+    assert_eq!(Field50K::try_from(choice.clone()), Ok(field.clone()));
+    assert_eq!(Field50A::try_from(choice.clone()), Err(choice));
+    let party = Party::from(field.clone());
+    assert_eq!(Field50C::try_from(party.clone()), Err(party.clone()));
+    assert_eq!(Field50K::try_from(party), Ok(field));
+}
+
+#[test]
+fn values_are_shown_as_they_are_written() {
+    let field = of_50k(Some("12"), "A");
+    assert_eq!(field.to_string(), ":50K:/12\nA");
+    assert_eq!(Field50Creditor::K(field.clone()).to_string(), ":50K:/12\nA");
+    assert_eq!(Party::from(field).to_string(), ":50K:/12\nA");
+    assert_eq!(of_50(names(&[])).to_string(), "value that no reader gives (refusal 22)");
+    assert_eq!(ErrorKind::NoSpace.to_string(), "too little space");
+}
+
+#[test]
+fn equal_values_are_one_key() {
+    let parties = ["A", "B", "A"].map(|name| Party::from(of_50k(None, name)));
+    assert_eq!(HashSet::from(parties).len(), 2);
 }

@@ -7,7 +7,7 @@
 //! ```
 
 /// 50 without a letter: name and address.
-#[derive(Debug, Clone, PartialEq)]
+#[derive(Debug, Clone, PartialEq, Eq, Hash)]
 pub struct Field50NoOption {
     /// 1 to 4 lines of at most 35 bytes.
     pub name_and_address: Vec<String>,
@@ -15,7 +15,7 @@ pub struct Field50NoOption {
 option!(Field50NoOption at 0 { name_and_address: Names });
 
 /// 50A: perhaps an identifier, and a BIC.
-#[derive(Debug, Clone, PartialEq)]
+#[derive(Debug, Clone, PartialEq, Eq, Hash)]
 pub struct Field50A {
     /// The first line without its first slash.
     pub party_identifier: Option<String>,
@@ -25,7 +25,7 @@ pub struct Field50A {
 option!(Field50A at 1 { party_identifier: Account, bic: Bic });
 
 /// 50F: an identifier, and numbered lines of name and address.
-#[derive(Debug, Clone, PartialEq)]
+#[derive(Debug, Clone, PartialEq, Eq, Hash)]
 pub struct Field50F {
     /// The first line: 1 to 35 bytes, with its slash if it has one.
     pub party_identifier: String,
@@ -36,7 +36,7 @@ pub struct Field50F {
 option!(Field50F at 2 { party_identifier: Account, name_and_address: Names });
 
 /// 50K: perhaps an account, and name and address.
-#[derive(Debug, Clone, PartialEq)]
+#[derive(Debug, Clone, PartialEq, Eq, Hash)]
 pub struct Field50K {
     /// At most 34 bytes, without the slash.
     pub account: Option<String>,
@@ -46,7 +46,7 @@ pub struct Field50K {
 option!(Field50K at 3 { account: Account, name_and_address: Names });
 
 /// 50C: a BIC.
-#[derive(Debug, Clone, PartialEq)]
+#[derive(Debug, Clone, PartialEq, Eq, Hash)]
 pub struct Field50C {
     /// 8 or 11 bytes.
     pub bic: String,
@@ -54,7 +54,7 @@ pub struct Field50C {
 option!(Field50C at 4 { bic: Bic });
 
 /// 50L: an identifier.
-#[derive(Debug, Clone, PartialEq)]
+#[derive(Debug, Clone, PartialEq, Eq, Hash)]
 pub struct Field50L {
     /// 1 to 35 bytes.
     pub party_identifier: String,
@@ -62,7 +62,7 @@ pub struct Field50L {
 option!(Field50L at 5 { party_identifier: Account });
 
 /// 50G: an account and a BIC.
-#[derive(Debug, Clone, PartialEq)]
+#[derive(Debug, Clone, PartialEq, Eq, Hash)]
 pub struct Field50G {
     /// 1 to 34 bytes, without the slash.
     pub account: String,
@@ -72,7 +72,7 @@ pub struct Field50G {
 option!(Field50G at 6 { account: Account, bic: Bic });
 
 /// 50H: an account, and name and address.
-#[derive(Debug, Clone, PartialEq)]
+#[derive(Debug, Clone, PartialEq, Eq, Hash)]
 pub struct Field50H {
     /// 1 to 34 bytes of any kind, without the slash.
     pub account: String,
@@ -82,17 +82,17 @@ pub struct Field50H {
 option!(Field50H at 7 { account: Account, name_and_address: Names });
 
 /// The instructing party: C or L.
-#[derive(Debug, Clone, PartialEq)]
+#[derive(Debug, Clone, PartialEq, Eq, Hash)]
 pub enum Field50InstructingParty {
     /// 50C.
     C(Field50C),
     /// 50L.
     L(Field50L),
 }
-choice!(Field50InstructingParty at 0 { C, L });
+choice!(Field50InstructingParty at 0 { C(Field50C), L(Field50L) });
 
 /// The ordering customer: F, G or H.
-#[derive(Debug, Clone, PartialEq)]
+#[derive(Debug, Clone, PartialEq, Eq, Hash)]
 pub enum Field50OrderingCustomerFGH {
     /// 50F.
     F(Field50F),
@@ -101,10 +101,10 @@ pub enum Field50OrderingCustomerFGH {
     /// 50H.
     H(Field50H),
 }
-choice!(Field50OrderingCustomerFGH at 1 { F, G, H });
+choice!(Field50OrderingCustomerFGH at 1 { F(Field50F), G(Field50G), H(Field50H) });
 
 /// The ordering customer: A, F or K.
-#[derive(Debug, Clone, PartialEq)]
+#[derive(Debug, Clone, PartialEq, Eq, Hash)]
 pub enum Field50OrderingCustomerAFK {
     /// 50A.
     A(Field50A),
@@ -113,10 +113,10 @@ pub enum Field50OrderingCustomerAFK {
     /// 50K.
     K(Field50K),
 }
-choice!(Field50OrderingCustomerAFK at 2 { A "A", F "F", K "K" });
+choice!(Field50OrderingCustomerAFK at 2 { A(Field50A) "A", F(Field50F) "F", K(Field50K) "K" });
 
 /// The ordering customer: without a letter, C or F.
-#[derive(Debug, Clone, PartialEq)]
+#[derive(Debug, Clone, PartialEq, Eq, Hash)]
 pub enum Field50OrderingCustomerNCF {
     /// 50 without a letter.
     NoOption(Field50NoOption),
@@ -125,17 +125,17 @@ pub enum Field50OrderingCustomerNCF {
     /// 50F.
     F(Field50F),
 }
-choice!(Field50OrderingCustomerNCF at 3 { NoOption, C, F });
+choice!(Field50OrderingCustomerNCF at 3 { NoOption(Field50NoOption), C(Field50C), F(Field50F) });
 
 /// The creditor: A or K.
-#[derive(Debug, Clone, PartialEq)]
+#[derive(Debug, Clone, PartialEq, Eq, Hash)]
 pub enum Field50Creditor {
     /// 50A.
     A(Field50A),
     /// 50K.
     K(Field50K),
 }
-choice!(Field50Creditor at 4 { A "A", K "K" });
+choice!(Field50Creditor at 4 { A(Field50A) "A", K(Field50K) "K" });
 
 /// Another name of the ordering customer without a letter, C or F.
 pub type Field50 = Field50OrderingCustomerNCF;

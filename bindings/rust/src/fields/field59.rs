@@ -10,7 +10,7 @@
 ///
 /// With an identifier an empty line is written after it, as swift-mt-message does; that text does
 /// not read back, and a page does not carry it.
-#[derive(Debug, Clone, PartialEq)]
+#[derive(Debug, Clone, PartialEq, Eq, Hash)]
 pub struct Field59F {
     /// The first line without its first slash.
     pub party_identifier: Option<String>,
@@ -21,7 +21,7 @@ pub struct Field59F {
 option!(Field59F at 10 { party_identifier: Account, name_and_address: Names });
 
 /// 59A: perhaps an account, and a BIC.
-#[derive(Debug, Clone, PartialEq)]
+#[derive(Debug, Clone, PartialEq, Eq, Hash)]
 pub struct Field59A {
     /// At most 34 bytes, without the slash.
     pub account: Option<String>,
@@ -31,7 +31,7 @@ pub struct Field59A {
 option!(Field59A at 9 { account: Account, bic: Bic });
 
 /// 59 without a letter: perhaps an account, and name and address.
-#[derive(Debug, Clone, PartialEq)]
+#[derive(Debug, Clone, PartialEq, Eq, Hash)]
 pub struct Field59NoOption {
     /// At most 34 bytes, without the slash.
     pub account: Option<String>,
@@ -41,7 +41,7 @@ pub struct Field59NoOption {
 option!(Field59NoOption at 8 { account: Account, name_and_address: Names });
 
 /// The beneficiary customer: A, F or without a letter.
-#[derive(Debug, Clone, PartialEq)]
+#[derive(Debug, Clone, PartialEq, Eq, Hash)]
 pub enum Field59 {
     /// 59A.
     A(Field59A),
@@ -50,14 +50,14 @@ pub enum Field59 {
     /// 59 without a letter.
     NoOption(Field59NoOption),
 }
-choice!(Field59 at 5 { A "A", F "F", NoOption });
+choice!(Field59 at 5 { A(Field59A) "A", F(Field59F) "F", NoOption(Field59NoOption) });
 
 /// The debtor: A or without a letter.
-#[derive(Debug, Clone, PartialEq)]
+#[derive(Debug, Clone, PartialEq, Eq, Hash)]
 pub enum Field59Debtor {
     /// 59A.
     A(Field59A),
     /// 59 without a letter.
     NoOption(Field59NoOption),
 }
-choice!(Field59Debtor at 6 { A, NoOption });
+choice!(Field59Debtor at 6 { A(Field59A), NoOption(Field59NoOption) });
