@@ -1,7 +1,7 @@
 /*
  * Reads a page from standard input and prints its answers, one to a line, up to the end: a record's
- * option and texts, or a refusal and the lines of the body that is refused. Says on standard error
- * what each refusal is for.
+ * option and texts, or a refusal and the body that is refused. Says on standard error what each
+ * refusal is for.
  */
 #include "yewdome.h"
 
@@ -10,32 +10,50 @@
 static const char *const TAGS[] = {"50",  "50A", "50F", "50K", "50C", "50L",
                                    "50G", "50H", "59",  "59A", "59F"};
 
-static void print_record(const uint8_t *record)
-{
-    int text;
-    printf("%s", TAGS[record[0]]);
-    for (text = 0; text < YEWDOME_TEXTS; text++) {
-        const uint8_t *at = record + YEWDOME_FIRST_TEXT + text * YEWDOME_TEXT_LENGTH;
-        if (at[0] != 0)
-            printf(" | %.*s", (int)at[0], (const char *)at + 1);
-    }
-    putchar('\n');
-}
-
-/* The lines of a body; a byte that does not print stands as a backslash and two digits. */
-static void print_body(const uint8_t *body, size_t length)
+/*
+ * A text in quotes: a quote, a backslash and a byte that does not print stand as a backslash and two
+ * hexadecimal digits.
+ */
+static void print_text(const uint8_t *text, size_t length)
 {
     size_t i;
-    if (length != 0)
-        printf(" | ");
+    printf(" \"");
     for (i = 0; i < length; i++) {
-        if (body[i] == '\n')
-            printf(" | ");
-        else if (body[i] >= ' ' && body[i] <= '~')
-            putchar(body[i]);
+        if (text[i] >= ' ' && text[i] <= '~' && text[i] != '"' && text[i] != '\\')
+            putchar(text[i]);
         else
-            printf("\\%02x", (unsigned)body[i]);
+            printf("\\%02x", (unsigned)text[i]);
     }
+    putchar('"');
+}
+
+/* The text of a record at a place among the six. */
+static void print_part(const uint8_t *record, int place)
+{
+    const uint8_t *at = record + YEWDOME_FIRST_TEXT + place * YEWDOME_TEXT_LENGTH;
+    print_text(at + 1, at[0]);
+}
+
+/*
+ * Every text has its label, an absent account has none, and names are counted, so that no two
+ * records print alike. A BIC is never empty.
+ */
+static void print_record(const uint8_t *record)
+{
+    int names;
+    printf("%s", TAGS[record[0]]);
+    if (record[1]) {
+        printf(" account");
+        print_part(record, 0);
+    }
+    if (record[YEWDOME_FIRST_TEXT + YEWDOME_TEXT_LENGTH] != 0) {
+        printf(" bic");
+        print_part(record, 1);
+    }
+    if (record[2] != 0)
+        printf(" names %u", (unsigned)record[2]);
+    for (names = 0; names < record[2]; names++)
+        print_part(record, 2 + names);
     putchar('\n');
 }
 
@@ -79,7 +97,9 @@ static void print_refusal(const uint8_t *page, size_t length, size_t at, uint32_
     uint64_t body = yewdome_page_body(page, length, at);
     unsigned number = yewdome_number(answer);
     printf("refused with %u, line %u", number, yewdome_line(answer));
-    print_body(page + yewdome_body_place(body), yewdome_body_length(body));
+    if (yewdome_body_length(body) != 0)
+        print_text(page + yewdome_body_place(body), yewdome_body_length(body));
+    putchar('\n');
     fprintf(stderr, "byte %zu: refused, %s\n", at, name(number));
 }
 
