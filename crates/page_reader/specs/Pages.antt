@@ -153,7 +153,7 @@ abbrev pub bodyIn : Tagged → ℕ → BodyPlace
 bodyIn untagged to = noBody
 bodyIn (tagged o body) to = record { start = to - length body; len = length body }
 
--- which only a field has
+-- by the case of the read: only a field has a body
 abbrev pub placeBy : ReadCase → List ℕ → ℕ → BodyPlace
 placeBy TooLong page at = noBody
 placeBy NoStart page at = noBody

@@ -78,7 +78,7 @@ ReadsAs page at (f ∷ fs) last = Gives (readAt page at) f × ReadsAs page (read
 abbrev pub Alone : Party → Type 0
 Alone p = ReadsAs (pageOf (kept p ∷ []) endLine) 0 (kept p ∷ []) theEnd
 
--- some fields of a list's are overwritten: with new bytes of which no line after the first starts with a colon or is a lone hyphen
+-- the fields of a list in their order, each kept, or new bytes of which no line after the first starts with a colon or is a lone hyphen
 unfoldable pub Overwrites : List Party → List Field → Type 0
 Overwrites [] [] = Unit {0}
 Overwrites [] (f ∷ fs) = ⊥

@@ -29,7 +29,7 @@ ghost use Rattle.errors.specs.declared.Outcome.the-variants.{Accepted, Refused}
 ghost use Rattle.errors.specs.Refusals.{told};
 ghost use Rattle.party.specs.Limits.{limitsOf};
 ghost use Rattle.party.specs.Party.{blank as blankParty};
-ghost use Rattle.party.specs.declared.First.the-variants.{Identified, Account, ShortAccount, SlashAccount, AnyAccount};
+ghost use Rattle.party.specs.declared.First.the-variants.{Identified, Account, ShortAccount};
 ghost use Rattle.swift_utils.specs.Bytes.{all};
 ghost use Rattle.field_utils.specs.Lines.{lines};
 ghost use Rattle.reader.specs.Reading.{toldAnswer, partyOf};
