@@ -87,6 +87,7 @@ static const char *name(unsigned number)
         CASE(NO_SPACE);
         CASE(NO_SUCH_OPTION);
         CASE(SHORT_RECORD);
+        CASE(SHORT_ANSWERS);
     }
 #undef CASE
     return "unknown";

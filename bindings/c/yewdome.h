@@ -66,8 +66,8 @@ enum yewdome_choice {
 };
 
 /*
- * What a function refuses for, by the numbers of the README's paper, document 01; the last two are
- * this interface's own. A refusal changes no byte.
+ * What a function refuses for, by the numbers of the README's paper, document 01; the last three
+ * are this interface's own. A refusal changes no byte.
  */
 enum yewdome_refusal {
     /* of a body; of these 2 to 6, 9 and 10 name a line */
@@ -97,7 +97,8 @@ enum yewdome_refusal {
     YEWDOME_NO_SPACE = 24,        /* too little space */
     /* of a call */
     YEWDOME_NO_SUCH_OPTION = 41,  /* no option, or no choice, has the place */
-    YEWDOME_SHORT_RECORD = 42     /* a lent record of under YEWDOME_RECORD_LENGTH bytes */
+    YEWDOME_SHORT_RECORD = 42,    /* a lent record of under YEWDOME_RECORD_LENGTH bytes */
+    YEWDOME_SHORT_ANSWERS = 43    /* fewer numbers lent for answers than a page's bytes and one */
 };
 
 /*
@@ -183,6 +184,41 @@ uint32_t yewdome_page_add(const uint8_t *record, size_t record_length,
 
 /* Closes the page in a buffer at a position. Gives the page's length, or the refusal: 21, 24. */
 uint32_t yewdome_page_close(uint8_t *buffer, size_t buffer_length, size_t position);
+
+/*
+ * Reads a whole page: from its start, each read at the next position that the last gave, up to the
+ * end or to a read that moves past no byte, which is 17, or 18 of a page that is too long. Stores
+ * for each read, in turn, the number that `yewdome_page_read` gives, and changes no other number.
+ * Gives how many reads there are, or the refusal 43: a page's bytes and one more are always enough,
+ * and no fewer are taken.
+ */
+uint32_t yewdome_page_answers(const uint8_t *page, size_t page_length,
+                              uint64_t *answers, size_t answers_length);
+
+/*
+ * Files a whole page: reads it as above, adds each record that a read gives to a new page in a
+ * buffer, from position 0, and closes that page. What is stored for a read is as above, but where
+ * the add refuses the record: there the refusal, 23 or 24, stands beside the bytes moved past.
+ * The functions below take apart what it gives; 43 changes no byte and no number.
+ */
+uint64_t yewdome_page_file(const uint8_t *page, size_t page_length,
+                           uint8_t *buffer, size_t buffer_length,
+                           uint64_t *answers, size_t answers_length);
+
+/* How many reads there are, 0 at the refusal 43. */
+static inline size_t yewdome_filed_count(uint64_t filed)
+{
+    return (size_t)(filed >> 32);
+}
+
+/*
+ * What of it `yewdome_number` and `yewdome_line` take: the new page's length, or the refusal: 43,
+ * or 24 where the buffer has under 2 bytes, so that nothing is filed.
+ */
+static inline uint32_t yewdome_filed_answer(uint64_t filed)
+{
+    return (uint32_t)(filed & 0xffffffff);
+}
 
 #ifdef __cplusplus
 }

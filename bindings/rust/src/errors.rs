@@ -11,7 +11,7 @@ macro_rules! kinds {
         /// What is refused, by the names and numbers of `bindings/c/yewdome.h`.
         ///
         /// 1 to 14 are of a body and its variant, 15 to 18 of a page that is read, 21 to 24 of a
-        /// position, a value or a buffer. 41 and 42 are of a call that this crate does not make.
+        /// position, a value or a buffer. 41 to 43 are of a call that this crate does not make.
         #[derive(Debug, Clone, Copy, PartialEq, Eq, Hash)]
         #[repr(u8)]
         pub enum ErrorKind {
@@ -61,6 +61,7 @@ kinds! {
     NoSpace = 24: "too little space",
     NoSuchOption = 41: "no such option or choice",
     ShortRecord = 42: "lent record too short",
+    ShortAnswers = 43: "too few numbers lent for the answers",
 }
 
 /// A refusal: what is refused, and the line of the body that it names.

@@ -62,6 +62,29 @@
 //! assert_eq!(&page[first.body], b"BNPAFRPPXXX");
 //! # Ok::<(), yewdome::ParseError>(())
 //! ```
+//!
+//! # A page filed on a new one
+//!
+//! ```
+//! use yewdome::pages::{self, Outcome};
+//! use yewdome::ErrorKind;
+//!
+//! let page = b"a stray line\n:50C:BNPAFRPPXXX\n:59:/12\nBENEFICIARY SA\n-\n";
+//! let mut buffer = [0; pages::LONGEST_PAGE];
+//! let filing = pages::file(page, &mut buffer);
+//! let length = filing.closed?;
+//! assert_eq!(&buffer[..length], b":50C:BNPAFRPPXXX\n:59:/12\nBENEFICIARY SA\n-\n");
+//!
+//! let [first, second, third, last] = filing.answers[..] else {
+//!     panic!("read otherwise");
+//! };
+//! assert!(matches!(first.outcome, Outcome::Refused(it) if it.kind() == ErrorKind::StrayLine));
+//! assert_eq!((second.at, second.outcome), (first.next, Outcome::Record));
+//! assert_eq!((third.at, third.outcome), (second.next, Outcome::Record));
+//! assert_eq!((last.outcome, last.next), (Outcome::End, page.len()));
+//! assert_eq!(pages::listed(page), filing.answers);
+//! # Ok::<(), yewdome::ParseError>(())
+//! ```
 
 #![deny(unsafe_code)]
 #![warn(missing_docs)]

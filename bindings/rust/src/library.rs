@@ -3,7 +3,7 @@
 //! What each function takes and gives is in `bindings/c/yewdome.h`.
 
 use crate::errors::{ErrorKind, ParseError, Result};
-use crate::pages::LONGEST_FIELD;
+use crate::pages::{Filing, Listed, Outcome, LONGEST_FIELD, LONGEST_PAGE};
 use crate::record::{text_of, Record};
 use std::ops::Range;
 
@@ -55,13 +55,27 @@ extern "C" {
         position: usize,
     ) -> u32;
     fn yewdome_page_close(buffer: *mut u8, buffer_length: usize, position: usize) -> u32;
+    fn yewdome_page_answers(
+        page: *const u8,
+        page_length: usize,
+        answers: *mut u64,
+        answers_length: usize,
+    ) -> u32;
+    fn yewdome_page_file(
+        page: *const u8,
+        page_length: usize,
+        buffer: *mut u8,
+        buffer_length: usize,
+        answers: *mut u64,
+        answers_length: usize,
+    ) -> u64;
 }
 
 // The functions as they are, on slices.
 //
 // SAFETY, of them all: a slice's pointer is not null, and the slices are valid for their lengths
-// during the call. The one that is written is borrowed for the call alone, so that no other
-// overlaps it. The library keeps no pointer.
+// during the call. One that is written is borrowed for the call alone, so that no other overlaps
+// it. The library keeps no pointer.
 
 fn party_read(option: u8, body: &[u8], record: &mut [u8]) -> u32 {
     let (text, length) = (body.as_ptr(), body.len());
@@ -102,6 +116,18 @@ fn page_close(buffer: &mut [u8], position: usize) -> u32 {
     unsafe { yewdome_page_close(buffer.as_mut_ptr(), buffer.len(), position) }
 }
 
+fn page_answers(page: &[u8], answers: &mut [u64]) -> u32 {
+    let (numbers, count) = (answers.as_mut_ptr(), answers.len());
+    unsafe { yewdome_page_answers(page.as_ptr(), page.len(), numbers, count) }
+}
+
+fn page_file(page: &[u8], buffer: &mut [u8], answers: &mut [u64]) -> u64 {
+    let (text, length) = (page.as_ptr(), page.len());
+    let (out, room) = (buffer.as_mut_ptr(), buffer.len());
+    let (numbers, count) = (answers.as_mut_ptr(), answers.len());
+    unsafe { yewdome_page_file(text, length, out, room, numbers, count) }
+}
+
 /// Reads a body by the option at a place in the library's table.
 pub(crate) fn read(option: u8, body: &[u8]) -> Result<Record> {
     record_of(|out| party_read(option, body, out))
@@ -126,8 +152,10 @@ pub(crate) fn write(record: &Record) -> Result<String> {
 
 /// What a page's read gave.
 pub(crate) struct PageRead {
-    /// The record, none at the end of the page.
-    pub(crate) outcome: Result<Option<Record>>,
+    /// What it answers.
+    pub(crate) outcome: Outcome,
+    /// The record, where it gave one.
+    pub(crate) record: Record,
     /// Where the body stands in the page.
     pub(crate) body: Range<usize>,
     /// How many bytes the read moved past.
@@ -137,13 +165,8 @@ pub(crate) struct PageRead {
 /// Reads the page at a position.
 pub(crate) fn read_page(page: &[u8], at: usize) -> PageRead {
     let mut record = Record::new(0);
-    let [answer, low] = halves(page_read(page, at, record.bytes_mut()));
-    let [_, ended, high, low] = low.to_be_bytes();
-    PageRead {
-        outcome: accepted(answer).map(|_| (ended == 0).then_some(record)),
-        body: body_of(page, at),
-        moved: usize::from(u16::from_be_bytes([high, low])),
-    }
+    let (outcome, moved) = told(page_read(page, at, record.bytes_mut()));
+    PageRead { outcome, record, body: body_of(page, at), moved }
 }
 
 /// Adds a record to the page in a buffer at a position, and gives the position after.
@@ -154,6 +177,57 @@ pub(crate) fn add(record: &Record, buffer: &mut [u8], position: usize) -> Result
 /// Closes the page in a buffer at a position, and gives the page's length.
 pub(crate) fn close(buffer: &mut [u8], position: usize) -> Result<usize> {
     accepted(page_close(buffer, position))
+}
+
+/// Reads a whole page.
+pub(crate) fn list(page: &[u8]) -> Vec<Listed> {
+    let page = cut(page);
+    let mut answers = room_for(page);
+    let count = accepted(page_answers(page, &mut answers)).expect("the answers have room");
+    listed(&answers[..count])
+}
+
+/// Files a whole page on a new one in a buffer.
+pub(crate) fn file(page: &[u8], buffer: &mut [u8]) -> Filing {
+    let page = cut(page);
+    let mut answers = room_for(page);
+    let [count, closed] = halves(page_file(page, buffer, &mut answers));
+    Filing { answers: listed(&answers[..count as usize]), closed: accepted(closed) }
+}
+
+/// A page, but of one that is too long no more than the first byte too many, with which it is refused
+/// with 18 as the whole is.
+fn cut(page: &[u8]) -> &[u8] {
+    &page[..page.len().min(LONGEST_PAGE + 1)]
+}
+
+/// Numbers for as many answers as a page can have: one more than its bytes.
+fn room_for(page: &[u8]) -> Vec<u64> {
+    vec![0; page.len() + 1]
+}
+
+/// The reads of a page, by the numbers that they gave.
+fn listed(answers: &[u64]) -> Vec<Listed> {
+    let mut at = 0;
+    let listed = answers.iter().map(|&answer| {
+        let (outcome, moved) = told(answer);
+        let read = Listed { at, outcome, next: at + moved };
+        at = read.next;
+        read
+    });
+    listed.collect()
+}
+
+/// What the number that a page's read gave says: what it answers, and how many bytes it moved past.
+fn told(read: u64) -> (Outcome, usize) {
+    let [answer, low] = halves(read);
+    let [_, ended, high, low] = low.to_be_bytes();
+    let outcome = match accepted(answer) {
+        Ok(_) if ended == 0 => Outcome::Record,
+        Ok(_) => Outcome::End,
+        Err(refusal) => Outcome::Refused(refusal),
+    };
+    (outcome, usize::from(u16::from_be_bytes([high, low])))
 }
 
 /// The record that a reader stores, where it accepts.

@@ -98,10 +98,10 @@ pub struct Read {
 /// Reads a page at a position, which is 0 or the `next` of the read before.
 pub fn read_at(page: &[u8], at: usize) -> Read {
     let read = library::read_page(page, at);
-    let answer = match read.outcome.and_then(|record| record.map(|it| it.value()).transpose()) {
-        Ok(Some(party)) => Answer::Record(party),
-        Ok(None) => Answer::End,
-        Err(refusal) => Answer::Refused(refusal),
+    let answer = match read.outcome {
+        Outcome::Record => read.record.value().map_or_else(Answer::Refused, Answer::Record),
+        Outcome::Refused(refusal) => Answer::Refused(refusal),
+        Outcome::End => Answer::End,
     };
     Read { at, answer, body: read.body, next: at + read.moved }
 }
@@ -131,6 +131,35 @@ impl Iterator for Answers<'_> {
 
 impl FusedIterator for Answers<'_> {}
 
+/// What a read of a page answers, without the record.
+#[derive(Debug, Clone, Copy, PartialEq, Eq, Hash)]
+pub enum Outcome {
+    /// The field is read and, where the page is filed, the record added.
+    Record,
+    /// The field or the line is refused or, where the page is filed, the record.
+    Refused(ParseError),
+    /// The page ends here.
+    End,
+}
+
+/// A read of a page, without the record and the place of the body, which [`read_at`] gives.
+#[derive(Debug, Clone, Copy, PartialEq, Eq, Hash)]
+pub struct Listed {
+    /// The position where it was.
+    pub at: usize,
+    /// What it answers.
+    pub outcome: Outcome,
+    /// The position of the next read; `at` where the refusal is 17 or 18. At the end it is past the
+    /// line `-`.
+    pub next: usize,
+}
+
+/// The reads of a page from its start, by one call of the library: those of [`answers`], without
+/// the records.
+pub fn listed(page: &[u8]) -> Vec<Listed> {
+    library::list(page)
+}
+
 /// Adds a struct of an option, an enum of a choice or a [`Party`] to the page in a buffer at a
 /// position, and gives the position after.
 ///
@@ -146,4 +175,20 @@ pub fn add<P: Recorded>(party: &P, buffer: &mut [u8], position: usize) -> Result
 /// Refused with 21 as in [`add`], with 24 where the end does not fit.
 pub fn close(buffer: &mut [u8], position: usize) -> Result<usize> {
     library::close(buffer, position)
+}
+
+/// What filing a page gives.
+#[derive(Debug, Clone, PartialEq, Eq, Hash)]
+pub struct Filing {
+    /// The reads of the page. A record that was not added is refused: with 23 where a page cannot
+    /// carry it, with 24 where it does not fit with the end of the page.
+    pub answers: Vec<Listed>,
+    /// The new page's length. Refused with 24 where the buffer has under 2 bytes.
+    pub closed: Result<usize>,
+}
+
+/// Files the records of a page on a new one in a buffer, by one call of the library: reads the page
+/// as [`listed`] does, [adds](add) each record from position 0, and [closes](close) the new page.
+pub fn file(page: &[u8], buffer: &mut [u8]) -> Filing {
+    library::file(page, buffer)
 }

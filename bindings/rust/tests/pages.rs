@@ -1,7 +1,7 @@
-//! Pages filed from typed values and read back, and every refusal of a page.
+//! Pages filed from typed values and read back, every refusal of a page, and whole pages.
 
 use yewdome::fields::*;
-use yewdome::pages::{add, answers, close, read_at, Answer, Party, Read, Recorded, LONGEST_PAGE};
+use yewdome::pages::*;
 use yewdome::{Result, SwiftField};
 
 const STALE: u8 = 0xa5;
@@ -250,4 +250,105 @@ fn every_refusal_of_a_page_has_its_text() {
         "too little space (refusal 24)",
     ];
     assert_eq!(texts, due);
+}
+
+/// Pages whose reads give records, refusals, the end and none.
+fn pages() -> Vec<Vec<u8>> {
+    let mixed = b"junk\n:52A:X\n:59F:2/A\n:59F:/1\n1/A\n:50K:\n:50K:/\nA\n:50C:BNPAFRPP\n-\n:50:A";
+    let mut pages = [&b""[..], b"-", b"-\n", b":50C:BNPAFRPP", b":50K:A\n\n\n:50L:B\n-\n", mixed]
+        .map(<[u8]>::to_vec)
+        .to_vec();
+    pages.push(b":50K:A\n".repeat(LONGEST_PAGE / 7 + 1)[..LONGEST_PAGE].to_vec());
+    pages.push(vec![b'\n'; LONGEST_PAGE + 1]);
+    pages.push(vec![b'\n'; 10 * LONGEST_PAGE]);
+    pages
+}
+
+/// A read without its record.
+fn without_record(read: &Read) -> Listed {
+    let outcome = match read.answer {
+        Answer::Record(_) => Outcome::Record,
+        Answer::Refused(refusal) => Outcome::Refused(refusal),
+        Answer::End => Outcome::End,
+    };
+    Listed { at: read.at, outcome, next: read.next }
+}
+
+/// Files a page by adding and closing.
+fn filed_by_hand(page: &[u8], buffer: &mut [u8]) -> Filing {
+    let (mut position, mut listed) = (0, Vec::new());
+    for read in answers(page) {
+        let mut told = without_record(&read);
+        if let Answer::Record(party) = read.answer {
+            match add(&party, buffer, position) {
+                Ok(next) => position = next,
+                Err(refusal) => told.outcome = Outcome::Refused(refusal),
+            }
+        }
+        listed.push(told);
+    }
+    Filing { answers: listed, closed: close(buffer, position) }
+}
+
+/// The number of each answer's refusal, 0 of a record, 255 of the end.
+fn numbers(answers: &[Listed]) -> Vec<u8> {
+    let number = |read: &Listed| match read.outcome {
+        Outcome::Record => 0,
+        Outcome::Refused(refusal) => refusal.number(),
+        Outcome::End => 255,
+    };
+    answers.iter().map(number).collect()
+}
+
+#[test]
+fn a_page_is_listed_as_it_is_answered() {
+    for page in pages() {
+        let due: Vec<Listed> = answers(&page).map(|read| without_record(&read)).collect();
+        assert_eq!(listed(&page), due);
+    }
+    assert_eq!(numbers(&listed(b"")), [17]);
+    assert_eq!(numbers(&listed(&[b'\n'; LONGEST_PAGE + 1])), [18]);
+    assert_eq!(listed(b"-\n:50:A"), [Listed { at: 0, outcome: Outcome::End, next: 2 }]);
+}
+
+#[test]
+fn a_page_is_filed_as_by_hand() {
+    for page in pages() {
+        for length in (0..64).chain([LONGEST_PAGE - 1, LONGEST_PAGE, LONGEST_PAGE + 100]) {
+            let (mut buffer, mut due) = (vec![STALE; length], vec![STALE; length]);
+            assert_eq!(file(&page, &mut buffer), filed_by_hand(&page, &mut due));
+            assert_eq!(buffer, due);
+        }
+    }
+}
+
+#[test]
+fn what_filing_refuses() {
+    let page = b"junk\n:59F:/1\n1/A\n:50C:BNPAFRPP\n-\n";
+    let mut buffer = [STALE; 64];
+    let filing = file(page, &mut buffer);
+    assert_eq!(numbers(&filing.answers), [16, 23, 0, 255]);
+    assert_eq!(filing.closed, Ok(16));
+    assert_eq!(&buffer[..16], b":50C:BNPAFRPP\n-\n");
+    for length in 2..16 {
+        let filing = file(page, &mut buffer[..length]);
+        assert_eq!(numbers(&filing.answers), [16, 23, 24, 255]);
+        assert_eq!((filing.closed, &buffer[..2]), (Ok(2), &b"-\n"[..]));
+    }
+    for length in [0, 1] {
+        let mut buffer = vec![STALE; length];
+        let filing = file(page, &mut buffer);
+        assert_eq!(numbers(&filing.answers), [16, 23, 24, 255]);
+        assert_eq!((refused(filing.closed), buffer), (24, vec![STALE; length]));
+    }
+}
+
+#[test]
+fn of_a_page_that_is_empty_or_too_long_nothing_is_filed() {
+    for (page, number) in [(&b""[..], 17), (&[b'\n'; LONGEST_PAGE + 1], 18)] {
+        let mut buffer = [STALE; 64];
+        let filing = file(page, &mut buffer);
+        assert_eq!((numbers(&filing.answers), filing.closed), (vec![number], Ok(2)));
+        assert_eq!(buffer[..3], [b'-', b'\n', STALE]);
+    }
 }

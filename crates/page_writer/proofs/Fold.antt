@@ -2,6 +2,8 @@
 use mathlib.Core.Path.{_≡_, refl, ap}
 use mathlib.Core.Bool.{Bool, true, false}
 use mathlib.Core.List.{List, [], _∷_, _++_, map}
+use Prim.Native.Nat.{suc}
+use lib.ListN.{length}
 use Rattle.page_writer.specs.Fold.{Step, Run, run, acceptedOf}
 
 module _ {S E A : Type 0} (step : S → E → Step S A) where
@@ -17,6 +19,12 @@ module _ {S E A : Type 0} (step : S → E → Step S A) where
   unfolding run
   run-keeps P k s h [] = h
   run-keeps P k s h (e ∷ es) = run-keeps P k (step s e .state) (k s e h) es
+
+  -- each step answers once
+  pub run-length : (s : S) (es : List E) → length (run step s es .answers) ≡ length es
+  unfolding run
+  run-length s [] = refl
+  run-length s (e ∷ es) = ap suc (run-length (step s e .state) es)
 
   -- events that stand for others
   pub run-map : {D : Type 0} (f : D → E) (s : S) (ds : List D) → run (λ (s : S) (d : D). step s (f d)) s ds ≡ run step s (map f ds)

@@ -25,9 +25,10 @@ use Rattle.writer.specs.Given.{isLine, areNames, isGiven, written}
 use Rattle.writer.specs.ReadBack.{endsCr, lastEmpty, earlierCr, identified59F, isReadBack}
 use Rattle.page_reader.specs.Pages.{lineAt, opens, endsPage, runs, begins, tagIn, readField, readCase, readAt, bodyPlace}
 use Rattle.page_writer.specs.Adding.{anyBoundary, laterBoundary, isCarried, writable, refusal, asked, recordReply, add, close}
-use Rattle.filing.specs.Filing.{notAdded, fileNext}
+use Rattle.page_writer.specs.Fold.{run}
 use Rattle.flat.specs.Flat.{recordSize, flatTexts, flatten, stored, textAt, isFlat, partyFrom, unflatten}
-use Rattle.yewdome.specs.Interface.{partyRead, partyParse, partyParseWithVariant, partyWrite, pageRead, pageBody, pageAdd, pageClose}
+use Rattle.yewdome.specs.Filing.{readsFrom}
+use Rattle.yewdome.specs.Interface.{partyRead, partyParse, partyParseWithVariant, partyWrite, pageRead, pageBody, pageAdd, pageClose, pageAnswers, pageFile}
 use Rattle.promises.specs.Starred.{gives, fieldOf}
 use Rattle.promises.specs.Filing.{of}
 
@@ -89,14 +90,6 @@ pages-operations = record {
   body-place-counts-the-lf = refl;
   close-tests-space-first = refl;
 }
-
-pub record FilingOperations : Type 0 where
-  -- tells what the read says where the add refuses
-  pub file-next-tells-the-read : fileNext (bytes ":50K:A\n-\n") 0 (replicate 8 0) 0 .outcome ≡ notAdded 24 0
-
-pub filing-operations : FilingOperations
-unfolding padded textOf said letter digit alphanumeric signs legal parseSwiftChars parseAccount upto onto starts lines parseLine parseLines parseNameAndAddress fourTexts partyOf accountHead afterHead read nameLines writtenLines joined writtenBody writtenField pieces isLine areNames isGiven endsCr lastEmpty earlierCr identified59F lineAt endsPage runs begins tagIn readField readCase readAt isReadBack anyBoundary laterBoundary isCarried writable asked recordReply add fileNext tagOf
-filing-operations = record { file-next-tells-the-read = refl }
 
 -- the 50K of one name, A, as bytes
 abbrev flatA : List ℕ
@@ -168,9 +161,22 @@ pub record YewdomeOperations : Type 0 where
   pub page-close-gives-2 : pageClose (bytes "X\nab") 2 .code ≡ 4
   -- writes the hyphen before it tests the space
   pub page-close-writes-first : pageClose (bytes "X\na") 2 .bytes ≡ bytes "X\na"
+  -- stops at the first refusal, leaves the end out, or changes a number after the last
+  pub page-answers-stops : pageAnswers (bytes "x\n-\n") (replicate 5 7) ≡ record { code = 2; answers = (16 * 65536 * 4294967296 + 2) ∷ (65536 + 2) ∷ replicate 3 7 }
+  -- goes on after the end
+  pub page-answers-goes-on : pageAnswers (bytes "-\n-\n") (replicate 5 7) .code ≡ 1
+  -- stores as many answers as there are numbers for
+  pub page-answers-stores-a-part : pageAnswers (bytes "x\n") (replicate 2 7) ≡ record { code = 43 * 65536; answers = replicate 2 7 }
+  -- leaves the new page open, or gives its length alone
+  pub page-file-leaves-it-open : pageFile (bytes ":50K:A\n-\n") (replicate 10 0) (replicate 10 7)
+      ≡ record { code = 2 * 4294967296 + 9; bytes = bytes ":50K:A\n-\n" ++ 0 ∷ []; answers = 7 ∷ (65536 + 2) ∷ replicate 8 7 }
+  -- tells what the read says where the add refuses
+  pub page-file-tells-the-read : pageFile (bytes ":50K:A\n-\n") (replicate 8 0) (replicate 10 7) .answers ≡ (24 * 65536 * 4294967296 + 7) ∷ (65536 + 2) ∷ replicate 8 7
+  -- closes the new page without a test of the numbers
+  pub page-file-tests-late : pageFile (bytes "-\n") (bytes "ab") [] ≡ record { code = 43 * 65536; bytes = bytes "ab"; answers = [] }
 
 pub yewdome-operations : YewdomeOperations
-unfolding padded textOf said letter digit alphanumeric signs legal parseSwiftChars parseAccount bicLength parseBic upto onto starts lines white trimmedStart keep trimmedEnd trimmed isNumbered secondSlash identifierReply parsePartyIdentifier parseLine parseLines parseNameAndAddress fourTexts partyOf accountHead shortAccountHead afterHead read anyNumbered firstLine lastLine bicLike firstThat pickOf testLine nameLines writtenLines joined writtenBody writtenField pieces isLine areNames isGiven written endsCr lastEmpty earlierCr identified59F lineAt endsPage runs begins tagIn readField readAt isCarried writable asked recordReply add close flatTexts flatten stored optionAt textAt isFlat partyFrom unflatten parse parseWithVariant readCase isReadBack anyBoundary laterBoundary bodyPlace tagOf
+unfolding padded textOf said letter digit alphanumeric signs legal parseSwiftChars parseAccount bicLength parseBic upto onto starts lines white trimmedStart keep trimmedEnd trimmed isNumbered secondSlash identifierReply parsePartyIdentifier parseLine parseLines parseNameAndAddress fourTexts partyOf accountHead shortAccountHead afterHead read anyNumbered firstLine lastLine bicLike firstThat pickOf testLine nameLines writtenLines joined writtenBody writtenField pieces isLine areNames isGiven written endsCr lastEmpty earlierCr identified59F lineAt endsPage runs begins tagIn readField readAt isCarried writable asked recordReply add close flatTexts flatten stored optionAt textAt isFlat partyFrom unflatten parse parseWithVariant readCase isReadBack anyBoundary laterBoundary bodyPlace tagOf run readsFrom
 yewdome-operations = record {
   party-read-drops-the-line = refl;
   party-read-takes-11 = refl;
@@ -193,4 +199,10 @@ yewdome-operations = record {
   page-add-gives-the-length = refl;
   page-close-gives-2 = refl;
   page-close-writes-first = refl;
+  page-answers-stops = refl;
+  page-answers-goes-on = refl;
+  page-answers-stores-a-part = refl;
+  page-file-leaves-it-open = refl;
+  page-file-tells-the-read = refl;
+  page-file-tests-late = refl;
 }

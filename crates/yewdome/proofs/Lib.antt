@@ -1,5 +1,10 @@
 pub mod LineBounds
 pub mod Answers
 pub mod Pages
+pub mod InTurn
+pub mod Whole
 pub mod Theorems
+pub mod Steps
+pub mod Walks
+pub mod WholePages
 pub mod Demand3

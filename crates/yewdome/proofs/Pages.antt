@@ -65,7 +65,7 @@ adds flat buffer at a l = ap (λ (x : Party). filed (add buffer at (said x))) l 
 
 -- ---- reading
 -- a read's refusal
-abbrev replyOf : ReadOutcome → Reply
+abbrev pub replyOf : ReadOutcome → Reply
 replyOf (aRecord p) = accepted
 replyOf theEnd = accepted
 replyOf (aRefusal k n) = refused k n

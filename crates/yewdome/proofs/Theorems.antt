@@ -211,10 +211,10 @@ write-accepts flat buffer h = record { passes = a; accepts = wrote-it (w .reply)
 
 -- ---- numbers
 -- a number below w beside a multiple of w: both are told
-high : (w k n : ℕ) → n < w → (k * w + n) / w ≡ k
+pub high : (w k n : ℕ) → n < w → (k * w + n) / w ≡ k
 high w k n h = mul-add-div-right (omega arith) k n ∙ (ap (λ (m : ℕ). k + m) (div-eq-of-lt h) ∙ add-zero k)
 
-low : (w k n : ℕ) → n < w → (k * w + n) % w ≡ n
+pub low : (w k n : ℕ) → n < w → (k * w + n) % w ≡ n
 low w k n h = ap (λ (m : ℕ). m % w) (add-comm (k * w) n) ∙ (add-mul-mod-self-right n k w ∙ mod-eq-of-lt h)
 
 -- a refusal's number and line are told by its code: the line is below 65,536

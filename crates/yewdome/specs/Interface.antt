@@ -1,8 +1,8 @@
 -- What the functions for other languages answer, which document 01 leaves to us: a number, with the lent bytes as the call left them.
 use Prim.Native.Nat.{ℕ, _+_, _*_, _-_}
 use mathlib.Core.Bool.{Bool, true}
-use mathlib.Core.List.{List, [], _∷_}
-use lib.Dec.{leb}
+use mathlib.Core.List.{List, [], _∷_, map}
+use lib.Dec.{leb, ltb}
 use lib.ListN.{length, getD}
 use Rattle.errors.specs.Refusals.{Reply, accepted, refused, must, _then_}
 use Rattle.party.specs.declared.Party.{Party}
@@ -13,11 +13,14 @@ use Rattle.reader.specs.Options.{read}
 use Rattle.choices.specs.declared.Choice.{Choice}
 use Rattle.choices.specs.declared.Choice.the-variants.{Field50InstructingParty, Field50OrderingCustomerFGH, Field50OrderingCustomerAFK, Field50OrderingCustomerNCF, Field50Creditor, Field59, Field59Debtor}
 use Rattle.choices.specs.Choices.{parse, parseWithVariant}
-use Rattle.writer.specs.Writing.{Writing}
+use Rattle.writer.specs.Writing.{Writing, put}
 use Rattle.writer.specs.Given.{written}
 use Rattle.page_reader.specs.Pages.{ReadOutcome, aRecord, theEnd, aRefusal, PageRead, bodiless, outcomeOf, readAt, bodyPlace}
 use Rattle.page_writer.specs.Adding.{Filed, positionAfter, refusal, Call, add, close}
+use Rattle.page_writer.specs.Fold.{Step, Run, run}
+use Rattle.page_writer.specs.WholePage.{OpenPage}
 use Rattle.flat.specs.Flat.{recordSize, stored, unflatten}
+use Rattle.yewdome.specs.Filing.{Read, reads, fileStep, openPage}
 
 -- what a call gives: its number, and the lent bytes after it
 pub record Called : Type 0 where
@@ -134,3 +137,53 @@ pageAdd bytes buffer at = asked (recordReply bytes) (filed (add buffer at (said 
 -- `yewdome_page_close`
 abbrev pub pageClose : List ℕ → ℕ → Called
 pageClose buffer at = filed (close buffer at)
+
+-- ---- whole pages
+-- the interface's own number, tested before all else: 43 where no more numbers are lent for the answers than the page has bytes
+abbrev pub answersReply : List ℕ → List ℕ → Reply
+answersReply page answers = must (ltb (length page) (length answers)) 43 0
+
+-- a read as `yewdome_page_read` gives it
+abbrev pub readNumber : Read → ℕ
+readNumber r = readCode (r .gave .outcome) (r .gave .next - r .at)
+
+-- what listing a page gives: how many answers it has, or the refusal, and the lent numbers after it
+pub record Listing : Type 0 where
+  pub code : ℕ
+  pub answers : List ℕ
+
+-- the answers are put at the start, and no other number changes; a refusal changes none
+abbrev pub listing : Reply → List ℕ → List ℕ → Listing
+listing accepted numbers answers = record { code = length numbers; answers = put answers 0 numbers }
+listing (refused k n) numbers answers = record { code = codeOf (refused k n); answers = answers }
+
+-- `yewdome_page_answers`: the reads of a page, from its start to the last
+abbrev pub pageAnswers : List ℕ → List ℕ → Listing
+pageAnswers page answers = listing (answersReply page answers) (map readNumber (reads page)) answers
+
+-- filing a read's record, as a step with its answer as a number
+abbrev pub numberStep : OpenPage → Read → Step OpenPage ℕ
+numberStep s r =
+    let c = fileStep s r in
+    record { state = c .state; answer = readCode (c .answer) (r .gave .next - r .at) }
+
+-- the reads of a page as a run of these, from an empty page in a buffer
+abbrev pub fileNumbers : List ℕ → List ℕ → Run OpenPage ℕ
+fileNumbers page buffer = run numberStep (openPage buffer 0) (reads page)
+
+-- what filing a page gives: its number, and the lent bytes and numbers after it
+pub record Filing : Type 0 where
+  pub code : ℕ
+  pub bytes : List ℕ
+  pub answers : List ℕ
+
+-- the new page is closed: how many answers there are × 4,294,967,296, and the page's length or the refusal to close it; 43 changes nothing
+abbrev pub filing : Reply → Run OpenPage ℕ → List ℕ → List ℕ → Filing
+filing accepted w buffer answers =
+    let c = pageClose (w .state .buffer) (w .state .position) in
+    record { code = length (w .answers) * 4294967296 + c .code; bytes = c .bytes; answers = put answers 0 (w .answers) }
+filing (refused k n) w buffer answers = record { code = codeOf (refused k n); bytes = buffer; answers = answers }
+
+-- `yewdome_page_file`: the records that a page's reads give, filed on a new page in a buffer
+abbrev pub pageFile : List ℕ → List ℕ → List ℕ → Filing
+pageFile page buffer answers = filing (answersReply page answers) (fileNumbers page buffer) buffer answers

@@ -1,3 +1,4 @@
+pub mod Filing
 pub mod Interface
 pub mod Demand3
 pub mod Code

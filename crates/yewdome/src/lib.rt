@@ -20,16 +20,22 @@ use reader::Answer;
 use reader::read;
 use writer::to_swift_string;
 ghost use mathlib.Core.Path.{_≡_};
+ghost use Prim.Native.Nat.{_<_};
+ghost use lib.ListN.{length};
 ghost use Rattle.errors.specs.Refusals.{toldError};
 ghost use Rattle.reader.specs.Reading.{toldAnswer};
 ghost use Rattle.page_writer.specs.Adding.{toldFiled};
-ghost use Rattle.yewdome.specs.Interface.{codeOf, lentReply, recordReply, given, partyRead, choiceAt, partyParse, partyParseWithVariant, partyWrite, pageRead, pageBody, filedCode, pageAdd, pageClose};
-ghost use Rattle.yewdome.specs.Code.{Named, Within};
+ghost use Rattle.yewdome.specs.Filing.{readHere, openPage};
+ghost use Rattle.yewdome.specs.Interface.{codeOf, lentReply, recordReply, given, partyRead, choiceAt, partyParse, partyParseWithVariant, partyWrite, pageRead, pageBody, filedCode, pageAdd, pageClose, pageAnswers, pageFile};
+ghost use Rattle.yewdome.specs.Code.{Named, Within, stepBy, toldStep, Walks};
 
-// The interface's own numbers, × 65,536: 41 no such option or choice, 42 a lent record of under 237 bytes. Document 01 has neither.
+// The interface's own numbers, × 65,536: 41 no such option or choice, 42 a lent record of under 237 bytes, 43 too few numbers lent for
+// answers. Document 01 has none of them.
 const NONE_SUCH: u32 = 41 * 65536;
 
 const SHORT_RECORD: u32 = 42 * 65536;
+
+const SHORT_ANSWERS: u32 = 43 * 65536;
 
 // The interface's own refusal, before document 01's, of a lent record by its length and of an option or choice that is known or not; 0
 // where there is none.
@@ -218,4 +224,95 @@ pub extern "C" fn yewdome_page_close(buf: &mut [u8], position: usize) -> u32
     ensures { λ r. ⌜ (record { code = r; bytes = now (buf .exit) }) ≡ pageClose (now (buf .entry)) position ⌝ }
 {
     filed(close(buf, position))
+}
+
+// What a step of the loop over a page gives: its answer, and the position after it on the new page.
+struct Stepped {
+    answer: u64,
+    position: usize,
+}
+
+// Reads the page at a position and, where it files, adds the record that it gives to the page in the buffer.
+fn step(page: &[u8], at: usize, files: bool, buf: &mut [u8], position: usize) -> Stepped
+    ensures { λ r. ⌜ toldStep r (now (buf .exit)) ≡ stepBy files (openPage (now (buf .entry)) position) (readHere (now (page .entry)) at) ⌝ }
+{
+    let mut record = [0; RECORD_SIZE];
+    let answer = yewdome_page_read(page, at, &mut record);
+    if 65536 <= answer {
+        return Stepped { answer, position };
+    }
+    if files {
+        let added = yewdome_page_add(&record, buf, position);
+        if added < 65536 {
+            return Stepped {
+                answer,
+                position: added as usize,
+            };
+        }
+        return Stepped {
+            answer: (added as u64) * 4294967296 + answer,
+            position,
+        };
+    }
+    Stepped { answer, position }
+}
+
+// How many answers the loop over a page gave, and the position to close the new page at.
+struct Walked {
+    count: usize,
+    position: usize,
+}
+
+// Reads the page from its start, read after read, up to the last: the end, or one that does not move on. Where it files, adds the record of
+// each to the page in the buffer. Stores the answers.
+fn walk(page: &[u8], files: bool, buf: &mut [u8], answers: &mut [u64]) -> Walked
+    requires { ⌜ length (now page) < length (now answers) ⌝ }
+    ensures { λ r. ⌜ Walks files (now (page .entry)) (now (buf .entry)) (now (answers .entry)) r (now (buf .exit)) (now (answers .exit)) ⌝ }
+{
+    let mut at = 0;
+    let mut position = 0;
+    let mut count = 0;
+    loop {
+        let stepped = step(page, at, files, buf, position);
+        let answer = stepped.answer;
+        position = stepped.position;
+        answers[count] = answer;
+        count += 1;
+        if answer / 65536 == 1 {
+            break;
+        }
+        let moved = (answer % 65536) as usize;
+        if moved == 0 {
+            break;
+        }
+        at += moved;
+    }
+    Walked { count, position }
+}
+
+// Reads the page from its start to the last read, and stores what `yewdome_page_read` gives of each. Gives how many there are.
+#[no_mangle]
+pub extern "C" fn yewdome_page_answers(page: &[u8], answers: &mut [u64]) -> u32
+    ensures { λ r. ⌜ (record { code = r; answers = now (answers .exit) }) ≡ pageAnswers (now (page .entry)) (now (answers .entry)) ⌝ }
+{
+    if answers.len() <= page.len() {
+        return SHORT_ANSWERS;
+    }
+    let mut none = [0; 0];
+    walk(page, false, &mut none, answers).count as u32
+}
+
+// Files the records that a page's reads give on a new page in the buffer, and closes that. Stores the answers as `yewdome_page_answers` does, but
+// that of a record which is not filed is the refusal to add it. Gives how many there are × 4,294,967,296, and the new page's length, or
+// the refusal to close it.
+#[no_mangle]
+pub extern "C" fn yewdome_page_file(page: &[u8], buf: &mut [u8], answers: &mut [u64]) -> u64
+    ensures { λ r. ⌜ (record { code = r; bytes = now (buf .exit); answers = now (answers .exit) }) ≡ pageFile (now (page .entry)) (now (buf .entry)) (now (answers .entry)) ⌝ }
+{
+    if answers.len() <= page.len() {
+        return SHORT_ANSWERS as u64;
+    }
+    let walked = walk(page, true, buf, answers);
+    let code = yewdome_page_close(buf, walked.position);
+    (walked.count as u64) * 4294967296 + (code as u64)
 }

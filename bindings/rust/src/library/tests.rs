@@ -1,10 +1,11 @@
-//! Calls that no type makes, and the header.
+//! Calls that no type makes, whole pages, and the header.
 
 use super::*;
 use crate::pages::{LONGEST_BODY, LONGEST_PAGE};
 use crate::record::LENGTH;
 
 const STALE: u8 = 0xa5;
+const STALE_NUMBER: u64 = u64::from_be_bytes([STALE; 8]);
 const BODY: &[u8] = b"/12\nACME";
 const FIELD: &[u8] = b":50K:/12\nACME";
 const PAGE: &[u8] = b":50K:/12\nACME\n-\n";
@@ -106,6 +107,99 @@ fn a_presence_that_is_neither_0_nor_1_is_22() {
         assert_eq!(refused_twice(&record, 0), 22);
         assert_eq!(refused(page_add(&record, &mut [STALE; 64], 1)), 21, "21 comes before 22");
     }
+}
+
+/// Pages with every kind of read, the longest among them and one that is too long.
+fn pages() -> Vec<Vec<u8>> {
+    let mixed = b"junk\n:52A:X\n:59F:2/A\n:59F:/1\n1/A\n:50K:\n:50K:/\nA\n:50C:BNPAFRPP\n-\n:50:A";
+    let mut pages = [&b""[..], b":", b":\n:", b"-", b"-\n", b":50C:BNPAFRPP", PAGE, mixed]
+        .map(<[u8]>::to_vec)
+        .to_vec();
+    pages.push(b":50K:A\n".repeat(LONGEST_PAGE / 7 + 1)[..LONGEST_PAGE].to_vec());
+    pages.push(vec![b'\n'; LONGEST_PAGE + 1]);
+    pages
+}
+
+/// What the reads of a page give, each at the next position that the last gave, and the records.
+fn by_reads(page: &[u8]) -> Vec<(u64, [u8; LENGTH])> {
+    let (mut at, mut reads) = (0, Vec::new());
+    loop {
+        let mut record = [STALE; LENGTH];
+        let read = page_read(page, at, &mut record);
+        reads.push((read, record));
+        let (outcome, moved) = told(read);
+        if outcome == Outcome::End || moved == 0 {
+            return reads;
+        }
+        at += moved;
+    }
+}
+
+/// The same where each record is added to a page in a buffer; and what closing that page gives.
+fn by_adds(page: &[u8], buffer: &mut [u8]) -> (Vec<u64>, u32) {
+    let (mut position, mut answers) = (0, Vec::new());
+    for (mut answer, record) in by_reads(page) {
+        if told(answer).0 == Outcome::Record {
+            let added = page_add(&record, buffer, position);
+            match accepted(added) {
+                Ok(next) => position = next,
+                Err(_) => answer |= u64::from(added) << 32,
+            }
+        }
+        answers.push(answer);
+    }
+    (answers, page_close(buffer, position))
+}
+
+/// So many numbers, the first of which are these.
+fn numbers(first: &[u64], count: usize) -> Vec<u64> {
+    let mut numbers = first.to_vec();
+    numbers.resize(count, STALE_NUMBER);
+    numbers
+}
+
+#[test]
+fn a_whole_page_is_read_as_by_its_reads() {
+    for page in pages() {
+        let due: Vec<u64> = by_reads(&page).iter().map(|&(read, _)| read).collect();
+        for count in [page.len() + 1, page.len() + 2, LONGEST_PAGE + 100] {
+            let mut answers = numbers(&[], count);
+            assert_eq!(page_answers(&page, &mut answers), due.len() as u32);
+            assert_eq!(answers, numbers(&due, count));
+        }
+    }
+}
+
+#[test]
+fn a_whole_page_is_filed_as_by_its_adds() {
+    for page in pages() {
+        for length in (0..64).chain([LONGEST_PAGE - 1, LONGEST_PAGE, LONGEST_PAGE + 100]) {
+            let mut due_buffer = vec![STALE; length];
+            let (due, closed) = by_adds(&page, &mut due_buffer);
+            let mut buffer = vec![STALE; length];
+            let mut answers = numbers(&[], page.len() + 2);
+            let filed = halves(page_file(&page, &mut buffer, &mut answers));
+            assert_eq!(filed, [due.len() as u32, closed]);
+            assert_eq!(answers, numbers(&due, page.len() + 2));
+            assert_eq!(buffer, due_buffer);
+        }
+    }
+}
+
+#[test]
+fn too_few_numbers_are_43() {
+    for page in pages() {
+        let counts = (0..page.len().min(64)).chain([page.len().saturating_sub(1), page.len()]);
+        for count in counts {
+            let mut answers = numbers(&[], count);
+            let mut buffer = [STALE; 64];
+            assert_eq!(refused(page_answers(&page, &mut answers)), 43);
+            let [filed, answer] = halves(page_file(&page, &mut buffer, &mut answers));
+            assert_eq!((filed, refused(answer)), (0, 43));
+            assert_eq!((answers, buffer), (numbers(&[], count), [STALE; 64]));
+        }
+    }
+    assert_eq!(halves(page_file(PAGE, &mut [], &mut [])), [0, 43 << 16], "43 comes before 24");
 }
 
 const HEADER: &str = include_str!("../../../c/yewdome.h");

@@ -1,0 +1,65 @@
+-- `yewdome::step` meets its contract, by what the read and the add give. Assumes nothing.
+use denote.Ref.{now}
+use Prim.Native.Nat.{_≤_}
+use lib.ListN.{length, replicate}
+use Rattle.flat.specs.Flat.{recordSize}
+use native.Mathlib.Omega.{arith}
+use borrow.Author.Needs.{needs}
+use Rattle.yewdome.specs.Filing.{openPage}
+use Rattle.yewdome.proofs.Steps.{Given, none-given, not-filed, was-filed, was-refused}
+use Rattle.yewdome.proofs.step.Statement.{statement}
+use Rattle.yewdome.proofs.step.Tie as tie
+
+-- the lent record keeps its length
+size : (k : tie.After-yewdome-page-read) → recordSize ≤ length (k .yewdome-page-read .last .1 .1 .0)
+size k = omega (arith, k .yewdome-page-read .kept)
+
+read : (k : tie.After-yewdome-page-read) → let a = k .before .before .before .before .args in Given (now (a .page)) (a .at) (k .yewdome-page-read .result) (k .yewdome-page-read .last .1 .1 .0)
+read k = record { bytes = replicate 237 0; room = omega arith; call = k .yewdome-page-read .ensures }
+
+returns : tie.Need-returns
+returns c =
+    let k = c .before .before in
+    let a = k .before .before .before .before .args in
+    none-given (read k) (a .files) (openPage (now (a .buf)) (a .position)) (c .if1 .taken)
+
+returns-2 : tie.Need-returns-2
+returns-2 c =
+    let y = c .before .before .before in
+    let t = y .before .before .before in
+    let k = t .before .before .before in
+    let a = k .before .before .before .before .args in
+    was-filed (read k) (a .files) (openPage (now (a .buf)) (a .position)) (t .if2 .taken) (t .before .if1 .left) (size k) (y .yewdome-page-add .ensures) (c .if3 .taken)
+
+returns-3 : tie.Need-returns-3
+returns-3 c =
+    let y = c .before .before .before in
+    let t = y .before .before .before in
+    let k = t .before .before .before in
+    let a = k .before .before .before .before .args in
+    was-refused (read k) (a .files) (openPage (now (a .buf)) (a .position)) (t .if2 .taken) (t .before .if1 .left) (size k) (y .yewdome-page-add .ensures) (c .if3 .left)
+
+returns-4 : tie.Need-returns-4
+returns-4 c =
+    let k = c .before .before .before in
+    let a = k .before .before .before .before .args in
+    not-filed (read k) (a .files) (openPage (now (a .buf)) (a .position)) (c .if2 .left)
+
+pub step-spec : {M : Type 1} → statement M
+step-spec =
+    tie.close
+    (tie.spec
+    (λ c. search needs)
+    (λ c κs. search needs)
+    returns
+    (λ c. search needs)
+    (λ c κs. search needs)
+    (λ c. search needs)
+    (λ c. search needs)
+    returns-2
+    (λ c. search needs)
+    (λ c. search needs)
+    (λ c. search needs)
+    (λ c. search needs)
+    returns-3
+    returns-4)
