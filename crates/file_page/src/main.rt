@@ -47,9 +47,12 @@ fn run(room: &mut [u8], buf: &mut [u8], answers: &mut [u64])
     file_page(&room[..len], buf, answers);
 }
 
+// Numbers for the answers of any page: one more than it has bytes.
+const ANSWERS: usize = PAGE_MOST + 1;
+
 fn main() {
     let mut room = io::large_buffer();
     let mut buf = io::large_buffer();
-    let mut answers = [0; 32769];
+    let mut answers = [0; ANSWERS];
     run(&mut room, &mut buf, &mut answers);
 }

@@ -1,7 +1,8 @@
 // What is said on standard error.
 use libc::STDERR_FILENO;
 
-// Says which of the answers of a page are refusals, and how many records were filed and how many answers refused. The end is neither.
+// Says which of the answers of a page are refusals, and how many records were filed and how many answers refused. An answer from
+// 4,294,967,296 on is a refusal and one below 65,536 a record; the end is neither.
 pub(crate) fn say_answers(answers: &[u64]) {
     let mut filed = 0;
     let mut refused = 0;
@@ -9,7 +10,7 @@ pub(crate) fn say_answers(answers: &[u64]) {
     while i < answers.len() {
         let answer = answers[i];
         i += 1;
-        if 281474976710656 <= answer {
+        if 4294967296 <= answer {
             refused += 1;
             say_refusal(i, answer / 4294967296);
         } else if answer < 65536 {

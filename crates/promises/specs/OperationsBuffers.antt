@@ -170,6 +170,8 @@ pub record YewdomeOperations : Type 0 where
   -- leaves the new page open, or gives its length alone
   pub page-file-leaves-it-open : pageFile (bytes ":50K:A\n-\n") (replicate 10 0) (replicate 10 7)
       ≡ record { code = 2 * 4294967296 + 9; bytes = bytes ":50K:A\n-\n" ++ 0 ∷ []; answers = 7 ∷ (65536 + 2) ∷ replicate 8 7 }
+  -- adds every record at the start, or the first over and over
+  pub page-file-starts-anew : pageFile (bytes ":50:A\n:50:B\n-\n") (replicate 14 0) (replicate 15 7) .bytes ≡ bytes ":50:A\n:50:B\n-\n"
   -- tells what the read says where the add refuses
   pub page-file-tells-the-read : pageFile (bytes ":50K:A\n-\n") (replicate 8 0) (replicate 10 7) .answers ≡ (24 * 65536 * 4294967296 + 7) ∷ (65536 + 2) ∷ replicate 8 7
   -- closes the new page without a test of the numbers
@@ -203,6 +205,7 @@ yewdome-operations = record {
   page-answers-goes-on = refl;
   page-answers-stores-a-part = refl;
   page-file-leaves-it-open = refl;
+  page-file-starts-anew = refl;
   page-file-tells-the-read = refl;
   page-file-tests-late = refl;
 }

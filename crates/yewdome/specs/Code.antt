@@ -1,5 +1,5 @@
 -- The working forms of the private functions: what keeps a number within 32 bits, and the loop over a page.
-use Prim.Native.Nat.{ℕ, _-_, _≤_}
+use Prim.Native.Nat.{ℕ, _≤_}
 use mathlib.Core.Path.{_≡_}
 use mathlib.Core.Bool.{Bool, true, false}
 use mathlib.Core.List.{List}
@@ -13,7 +13,7 @@ use Rattle.page_writer.specs.WholePage.{OpenPage}
 use Rattle.yewdome.specs.declared.Stepped.{Stepped}
 use Rattle.yewdome.specs.declared.Walked.{Walked}
 use Rattle.yewdome.specs.Filing.{Read, reads, fileOutcome, openPage}
-use Rattle.yewdome.specs.Interface.{readCode}
+use Rattle.yewdome.specs.Interface.{numberOf}
 
 -- a refusal has a number from 1 on, and a line of at most 2,048
 abbrev pub Named : Reply → Type 0
@@ -34,7 +34,7 @@ outcomeBy false s x = record { state = s; answer = x }
 abbrev pub stepBy : Bool → OpenPage → Read → Step OpenPage ℕ
 stepBy files s r =
     let c = outcomeBy files s (r .gave .outcome) in
-    record { state = c .state; answer = readCode (c .answer) (r .gave .next - r .at) }
+    record { state = c .state; answer = numberOf r (c .answer) }
 
 -- the whole loop
 abbrev pub walkBy : Bool → List ℕ → List ℕ → Run OpenPage ℕ

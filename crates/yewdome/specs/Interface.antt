@@ -143,9 +143,13 @@ pageClose buffer at = filed (close buffer at)
 abbrev pub answersReply : List ℕ → List ℕ → Reply
 answersReply page answers = must (ltb (length page) (length answers)) 43 0
 
--- a read as `yewdome_page_read` gives it
+-- an answer to a read as a number, with the bytes that the read moved past
+abbrev pub numberOf : Read → ReadOutcome → ℕ
+numberOf r x = readCode x (r .gave .next - r .at)
+
+-- the read's own, as `yewdome_page_read` gives it
 abbrev pub readNumber : Read → ℕ
-readNumber r = readCode (r .gave .outcome) (r .gave .next - r .at)
+readNumber r = numberOf r (r .gave .outcome)
 
 -- what listing a page gives: how many answers it has, or the refusal, and the lent numbers after it
 pub record Listing : Type 0 where
@@ -165,7 +169,7 @@ pageAnswers page answers = listing (answersReply page answers) (map readNumber (
 abbrev pub numberStep : OpenPage → Read → Step OpenPage ℕ
 numberStep s r =
     let c = fileStep s r in
-    record { state = c .state; answer = readCode (c .answer) (r .gave .next - r .at) }
+    record { state = c .state; answer = numberOf r (c .answer) }
 
 -- the reads of a page as a run of these, from an empty page in a buffer
 abbrev pub fileNumbers : List ℕ → List ℕ → Run OpenPage ℕ

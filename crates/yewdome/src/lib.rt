@@ -1,6 +1,6 @@
 // Party fields and pages of them for programs in other languages, on numbers and lent bytes. A record is 237 bytes, as crate flat lays it
-// out. The number that a call gives is the refusal's number × 65,536 and its line, or below 65,536 where it accepts; `yewdome_page_read`
-// gives more beside it. A refusal changes no byte.
+// out. The number that a call gives is the refusal's number × 65,536 and its line, or below 65,536 where it accepts; the reads and
+// the filing of a page give more beside it. A refusal changes no byte and no number that is lent.
 use choices::Choice;
 use choices::parse;
 use choices::parse_with_variant;
