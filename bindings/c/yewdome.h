@@ -135,6 +135,12 @@ uint32_t yewdome_party_write(const uint8_t *record, size_t record_length,
                              uint8_t *buffer, size_t buffer_length);
 
 /*
+ * A page is fields, each opened by its tag at the start of a line, and an end line, `-` or `-}`. Its
+ * lines end in LF or CR LF: one CR directly before the LF that closes a field or an end line is no
+ * part of it. What is added and closed has LF and `-`.
+ */
+
+/*
  * Reads the page at a position, 0 at first, and stores the record, if it gives one; the end changes
  * no byte. The functions below take apart what it gives. The next read is at the position and the
  * bytes moved past; 17, 18, 21 and 42 move past none.

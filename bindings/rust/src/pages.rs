@@ -1,5 +1,8 @@
 //! Pages of fields: a field to a line or more, each opened by its tag, and a line `-` at the end.
 //!
+//! A page that is read may also end its lines in CR LF and close with the line `-}`: one CR directly
+//! before the LF that closes a field is no part of the body. What is written has LF and `-`.
+//!
 //! Reading a closed page from the start gives the records that were added, in their order, and then
 //! the end. A page is the bytes of a buffer before the position that the last call gave: it starts
 //! at 0, each call takes the position that the last one gave, and nothing is added after closing. A
@@ -91,7 +94,7 @@ pub struct Read {
     /// empty where there is none: at the end, and at the refusals 15 to 18 and 21.
     pub body: Range<usize>,
     /// The position of the next read; `at` where the refusal is 17, 18 or 21. At the end it is past
-    /// the line `-`.
+    /// the end line.
     pub next: usize,
 }
 
@@ -150,7 +153,7 @@ pub struct Listed {
     /// What it answers.
     pub outcome: Outcome,
     /// The position of the next read; `at` where the refusal is 17 or 18. At the end it is past the
-    /// line `-`.
+    /// end line.
     pub next: usize,
 }
 

@@ -53,6 +53,18 @@ yewdome: standard input: 11 filed, 4 refused
 }
 
 #[test]
+fn the_example_page_with_cr_lf_is_filed_alike() {
+    let page = fs::read_to_string(example("stdin")).expect("the example is there");
+    let filed = fs::read_to_string(example("stdout")).expect("the example is there");
+    let due = told(&["file"], page.as_bytes());
+    assert_eq!(due.1, filed);
+    for end in ["-\r\n", "-}\r\n", "-}\n", "-}"] {
+        let lines = page.strip_suffix("-\n").expect("the page is closed").replace('\n', "\r\n");
+        assert_eq!(told(&["file"], format!("{lines}{end}").as_bytes()), due);
+    }
+}
+
+#[test]
 fn a_page_is_listed() {
     let page = b"junk\n:50K:/\n\"A\"\n:50:\n:59F:2/A\nB\n:52A:X\n:50A:/C/1\nDEUTDEFF\n:50H:/\x01\\\nA\n-\n";
     let listing = r#"1  page line  1  refused with 16

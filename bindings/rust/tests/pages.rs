@@ -132,6 +132,61 @@ fn a_body_runs_to_the_length_of_a_page_without_an_end() {
     }
 }
 
+/// A text with CR LF for each LF.
+fn crlf(text: &[u8]) -> Vec<u8> {
+    text.iter()
+        .flat_map(|&byte| if byte == b'\n' { vec![b'\r', b'\n'] } else { vec![byte] })
+        .collect()
+}
+
+#[test]
+fn a_page_with_cr_lf_reads_as_its_twin() {
+    let mut buffer = [STALE; LONGEST_PAGE];
+    let mut position = 0;
+    for party in all() {
+        position = add(&party, &mut buffer, position).expect("a page carries it");
+    }
+    let told = |page: &[u8]| answers(page).map(|read| read.answer).collect::<Vec<_>>();
+    let due = told(&[&buffer[..position], b"-\n"].concat());
+    assert_eq!(due.len(), all().len() + 1);
+    for end in [&b"-"[..], b"-\n", b"-\r\n", b"-}", b"-}\n", b"-}\r\n"] {
+        let page = [&crlf(&buffer[..position])[..], end].concat();
+        assert_eq!(told(&page), due);
+        let last = answers(&page).last().expect("a page has an answer");
+        assert_eq!((last.answer, last.next), (Answer::End, page.len()));
+        let mut new = [STALE; LONGEST_PAGE];
+        assert_eq!(file(&page, &mut new).closed, Ok(position + 2));
+        assert_eq!(&new[..position], &buffer[..position]);
+        assert_eq!(&new[position..position + 2], b"-\n");
+    }
+}
+
+#[test]
+fn one_cr_before_the_lf_that_closes_a_field_is_left_off() {
+    for (page, body) in [
+        (&b":50K:A\r\n-\n"[..], &b"A"[..]),
+        (b":50K:A\r\r\n-\n", b"A\r"),
+        (b":50K:A\rB\r\n-\n", b"A\rB"),
+        (b":50K:A\r\nB\r\n-\n", b"A\r\nB"),
+        (b":50K:A\r\n", b"A"),
+        (b":50K:A\r", b"A\r"),
+        (b":50K:\r\n-\n", b""),
+    ] {
+        assert_eq!(&page[read_at(page, 0).body], body, "{page:?}");
+    }
+    let long = |more| [&b":50A:BNPAFRPP\n"[..], &vec![b'A'; more], b"\r\n-\n"].concat();
+    let room = LONGEST_BODY - b"BNPAFRPP\n".len();
+    assert!(matches!(read_at(&long(room), 0).answer, Answer::Record(_)));
+    assert_eq!(first(&long(room + 1)), (12, 0, LONGEST_BODY + 8));
+}
+
+#[test]
+fn what_only_looks_like_an_end_line_is_none() {
+    for line in [&b"-\r"[..], b"-}\r", b"-\r\r\n", b"-}x\n", b"- }\n", b"--\n", b"}\n", b"-}}\n"] {
+        assert_eq!(first(line), (16, 0, line.len()), "{line:?}");
+    }
+}
+
 #[test]
 fn the_reads_stop_where_they_cannot_go_on() {
     let page = b":50C:BNPAFRPP\n";
@@ -184,9 +239,14 @@ fn refusals_of_an_add() {
         assert_eq!(refused_add(&bad, &mut buffer, 1), 21, "21 comes before 22: {bad:?}");
         assert_eq!(refused_add(&bad, &mut [STALE; 1], 0), 22, "22 comes before 24: {bad:?}");
     }
-    for not_carried in [of_50k("12", &["A", ""]), of_50k("12", &["A", "-"]), of_50k("1", &[":"])] {
+    for names in
+        [&["A", ""][..], &["A", "-"], &["A", "-}"], &[":"], &["A\r"], &["A\r", "B"], &["A", "B\r"]]
+    {
+        let not_carried = of_50k("12", names);
         assert_eq!(refused_add(&not_carried, &mut buffer, 0), 23, "{not_carried:?}");
     }
+    let unlike: Field50K = parsed("-}\n-}A");
+    assert_eq!(add(&unlike, &mut buffer.clone(), 0), Ok(b":50K:-}\n-}A\n".len()));
     let with_identifier: Field59F = parsed("/1\n1/A");
     assert_eq!(refused_add(&with_identifier, &mut buffer, 0), 23);
     assert_eq!(refused_add(&good, &mut buffer[..field.len() + 1], 0), 24);

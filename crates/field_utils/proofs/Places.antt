@@ -13,8 +13,8 @@ use borrow.Author.Tests.{ltb-true, ltb-false, eqb-true, lt-ltb, le-ltb, eq-eqb, 
 use Rattle.swift_utils.proofs.Parts.{part, part-length, part-at, part-end}
 use Rattle.field_utils.specs.declared.lines.Line.{Line}
 use Rattle.field_utils.specs.declared.lines.Line.the-variants.{Next, Done}
-use Rattle.field_utils.specs.Lines.{upto, onto, starts, lines}
-use Rattle.field_utils.specs.Cursor.{withoutCr, lineOf, nextLine}
+use Rattle.field_utils.specs.Lines.{upto, onto, starts, lines, withoutCr}
+use Rattle.field_utils.specs.Cursor.{lineOf, nextLine}
 
 -- a list by its first b: how many bytes stand before it, or how many there are
 pub data Upto (b : ℕ) : List ℕ → ℕ → Type 0 where
@@ -91,7 +91,7 @@ withoutCr-part (b ∷ []) = go (eqb b 13) refl
     go false e = rw (e, withoutCr)
 withoutCr-part (b ∷ a ∷ l) = ap (_∷_ b) (withoutCr-part (a ∷ l))
 
-withoutCr-short : (l : List ℕ) → length (withoutCr l) ≤ length l
+pub withoutCr-short : (l : List ℕ) → length (withoutCr l) ≤ length l
 withoutCr-short l = omega (arith, ap length (withoutCr-part l), length-take (length (withoutCr l)) l)
 
 -- its length, by whether its last byte is a CR
@@ -191,10 +191,10 @@ next-fits s at = go (ltb at (length s)) refl
 pub found : (s : List ℕ) (at : ℕ) {r x : Line} → r ≡ nextLine s at → r ≡ x → Fits s at x
 found s at e f = subst (Fits s at) (sym e ∙ f) (next-fits s at)
 
--- where a line ends that an LF at a place closes, by whether the byte before that place is a CR
-pub line-end : (s : List ℕ) (start lf : ℕ) (t : Bool) → start < lf → lf ≤ length s → eqb (getD s (lf - 1) 0) 13 ≡ t
-    → start + length (withoutCr (part start lf s)) + elim t [ true ↦ 1 | false ↦ 0 ] ≡ lf
-line-end s start lf t h k e =
-    let n = lf - start - 1 in
-    let p : start + n ≡ lf - 1 = omega arith in
-    omega (arith, withoutCr-length (part start lf s) n t (omega (arith, part-length start lf s k)) (rw (part-at start lf s n (omega arith), p) e))
+-- where a line ends that runs to a place, by whether the byte before that place is a CR
+pub line-end : (s : List ℕ) (start to : ℕ) (t : Bool) → start < to → to ≤ length s → eqb (getD s (to - 1) 0) 13 ≡ t
+    → start + length (withoutCr (part start to s)) + elim t [ true ↦ 1 | false ↦ 0 ] ≡ to
+line-end s start to t h k e =
+    let n = to - start - 1 in
+    let p : start + n ≡ to - 1 = omega arith in
+    omega (arith, withoutCr-length (part start to s) n t (omega (arith, part-length start to s k)) (rw (part-at start to s n (omega arith), p) e))

@@ -1,18 +1,12 @@
 -- The lines by their places, as the cursor of the code finds them: a working form of `lines`.
 use Prim.Native.Nat.{ℕ, _+_}
 use mathlib.Core.Bool.{true, false}
-use mathlib.Core.List.{List, [], _∷_}
-use lib.Dec.{ltb, eqb}
+use mathlib.Core.List.{List}
+use lib.Dec.{ltb}
 use lib.ListN.{length, take, drop}
 use Rattle.field_utils.specs.declared.lines.Line.{Line}
 use Rattle.field_utils.specs.declared.lines.Line.the-variants.{Next, Done}
-use Rattle.field_utils.specs.Lines.{upto}
-
--- a line without one CR at its end
-unfoldable pub withoutCr : List ℕ → List ℕ
-withoutCr [] = []
-withoutCr (b ∷ []) = elim (eqb b 13) [ true ↦ [] | false ↦ b ∷ [] ]
-withoutCr (b ∷ a ∷ l) = b ∷ withoutCr (a ∷ l)
+use Rattle.field_utils.specs.Lines.{upto, withoutCr}
 
 -- a line from a place on whose LF stands n bytes further; where that is the end, no LF closes it
 unfoldable pub lineOf : List ℕ → ℕ → ℕ → Line

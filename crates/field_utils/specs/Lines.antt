@@ -33,3 +33,9 @@ lines (b ∷ l) =
       | true ↦ [] ∷ lines l
       | false ↦ elim (eqb b 13 && starts 10 l) [ true ↦ lines l | false ↦ onto b (lines l) ]
     ]
+
+-- what is left of a line where one CR just before its LF is dropped
+unfoldable pub withoutCr : List ℕ → List ℕ
+withoutCr [] = []
+withoutCr (b ∷ []) = elim (eqb b 13) [ true ↦ [] | false ↦ b ∷ [] ]
+withoutCr (b ∷ a ∷ l) = b ∷ withoutCr (a ∷ l)

@@ -1,9 +1,9 @@
 // What the Rust has of std: the lines of a text by a cursor, and a text trimmed.
 ghost use mathlib.Core.Path.{_≡_};
-ghost use Prim.Native.Nat.{_+_, _-_, _≤_, _<_};
+ghost use Prim.Native.Nat.{_+_, _-_, _≤_};
 ghost use lib.ListN.{length, take, drop};
-ghost use Rattle.field_utils.specs.Lines.{upto, lines};
-ghost use Rattle.field_utils.specs.Cursor.{withoutCr, nextLine};
+ghost use Rattle.field_utils.specs.Lines.{upto, lines, withoutCr};
+ghost use Rattle.field_utils.specs.Cursor.{nextLine};
 ghost use Rattle.field_utils.specs.Trim.{white, trimmed, trimmedEnd};
 
 // Where a byte first stands from a place on, or the length where it does not; a place past the length is given back.
@@ -61,24 +61,32 @@ impl Lines {
         }
         Line::Next {
             start: at,
-            end: without_cr(s, at, lf),
+            end: line_end(s, at, lf),
             rest: Lines { at: lf + 1 },
         }
     }
 }
 
-// The end of a line that an LF closes: the place of that LF, or of a CR just before it.
-fn without_cr(s: &[u8], start: usize, lf: usize) -> usize
-    requires { ⌜ (start ≤ lf) × (lf < length (now s)) ⌝ }
-    ensures { λ r. ⌜ r ≡ start + length (withoutCr (take (lf - start) (drop start (now (s .entry))))) ⌝ }
+// Where a line ends that starts at a place and runs to another: there, or at a CR just before it.
+fn line_end(s: &[u8], start: usize, to: usize) -> usize
+    requires { ⌜ (start ≤ to) × (to ≤ length (now s)) ⌝ }
+    ensures { λ r. ⌜ r ≡ start + length (withoutCr (take (to - start) (drop start (now (s .entry))))) ⌝ }
 {
-    if lf <= start {
-        return lf;
+    if to <= start {
+        return to;
     }
-    if s[lf - 1] == b'\r' {
-        return lf - 1;
+    if s[to - 1] == b'\r' {
+        return to - 1;
     }
-    lf
+    to
+}
+
+// A line without one CR at its end, as a part of it.
+pub fn without_cr(line: &[u8]) -> &[u8]
+    ensures { λ r. ⌜ now r ≡ withoutCr (now (line .entry)) ⌝ }
+{
+    let end = line_end(line, 0, line.len());
+    &line[..end]
 }
 
 // How many lines there are.

@@ -41,13 +41,13 @@ fn put(text: &[u8], out: &mut [u8], at: usize) -> usize {
     to
 }
 
-// Every fifth field is overwritten, in five ways.
+// Every fifth field is overwritten, in five ways, each with a CR before its LF.
 pub(crate) fn is_overwritten(k: usize) -> bool {
     k % 5 == 3
 }
 
 // The new field, and how many bytes it has: the old one with another tag, with an illegal byte or one above 127, cut short, or with a line
-// more. No line after the first starts with a colon or is a lone hyphen.
+// more. No line after the first starts with a colon or would be an end line.
 fn new_field(k: usize, room: &mut [u8; 256]) -> usize {
     let party = record(k);
     put_field(party, room, 0);
@@ -101,7 +101,7 @@ fn copy(page: &[u8], k: usize, out: &mut [u8], at: usize) -> usize {
     let mut room = [0u8; 256];
     let n = new_field(k, &mut room);
     let to = put(part_of(&room, 0, n), out, at);
-    put(b"\n", out, to)
+    put(b"\r\n", out, to)
 }
 
 // Copies the page of the first so many records, some overwritten, and gives the length of the new page.

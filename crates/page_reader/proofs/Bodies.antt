@@ -1,20 +1,22 @@
 -- The bytes at a body's place are the body that the read hands back. Assumes nothing.
-use mathlib.Core.Path.{_≡_, refl, sym, _∙_, ap}
+use mathlib.Core.Path.{_≡_, refl, sym, _∙_, ap, subst}
 use mathlib.Core.Bool.{Bool, true, false}
 use mathlib.Core.List.{List, [], _∷_}
 use Prim.Native.Nat.{ℕ, _+_, _-_, _≤_}
 use native.Mathlib.Omega.{arith}
-use lib.Dec.{leb}
-use lib.ListN.{length, take, drop, length-drop}
+use lib.Dec.{ltb, leb}
+use lib.ListN.{length, take, drop, length-take, length-drop}
+use lib.Seq.{take-all, take-take}
 use borrow.Author.Tests.{leb-true, leb-false}
 use Rattle.party.specs.declared.PartyOption.{PartyOption}
 use Rattle.party.specs.Limits.{options}
 use Rattle.swift_utils.proofs.Parts.{part, part-length, part-none, part-drop}
 use Rattle.field_utils.specs.Tags.{tagOf}
+use Rattle.field_utils.proofs.Places.{withoutCr-part}
 use Rattle.page_reader.specs.declared.BodyPlace.{BodyPlace}
 use Rattle.page_reader.specs.declared.ReadCase.{ReadCase}
 use Rattle.page_reader.specs.declared.ReadCase.the-variants.{TooLong, NoStart, AtLength, Opening, Ending, Stray}
-use Rattle.page_reader.specs.Pages.{pageMost, past, begins, Tagged, untagged, tagged, tagIn, readTagged, readField, textIn, readCase, readBy, readAt, noBody, bodyIn, placeBy, bodyPlace}
+use Rattle.page_reader.specs.Pages.{pageMost, lessCr, past, begins, Tagged, untagged, tagged, tagIn, readTagged, readField, textIn, readCase, readBy, readAt, noBody, bodyIn, placeBy, bodyPlace}
 use Rattle.page_reader.proofs.Cases.{case-long, Ends, stands}
 
 -- a body is what follows some bytes of its field's text
@@ -39,6 +41,27 @@ tag-rest (o ∷ os) text = go (begins (tagOf o) text) (tag-rest os text)
 pub record There (page : List ℕ) (place : BodyPlace) (body : List ℕ) : Type 0 where
   pub within : place .start + place .len ≤ length page
   pub bytes : take (place .len) (drop (place .start) page) ≡ body
+
+-- ---- a field's text is a part of the page
+less-part : (t : Bool) (l : List ℕ) → lessCr t l ≡ take (length (lessCr t l)) l
+less-part true l = withoutCr-part l
+less-part false l = sym (take-all (length l) l (omega arith))
+
+less-short : (t : Bool) (l : List ℕ) → length (lessCr t l) ≤ length l
+less-short t l = omega (arith, ap length (less-part t l), length-take (length (lessCr t l)) l)
+
+module _ (page : List ℕ) (at to : ℕ) (h : at ≤ to) (w : to ≤ length page) where
+  abbrev text : List ℕ
+  text = textIn page at to
+
+  pub text-within : at + length text ≤ to
+  text-within = omega (arith, less-short (ltb to (length page)) (part at to page), part-length at to page w)
+
+  text-part : text ≡ part at (at + length text) page
+  text-part =
+      less-part (ltb to (length page)) (part at to page)
+      ∙ take-take (length text) (to - at) (drop at page) (omega (arith, text-within))
+      ∙ ap (λ (n : ℕ). take n (drop at page)) (let z : length text ≡ at + length text - at = omega arith in z)
 
 module _ (page : List ℕ) (at to : ℕ) (h : at ≤ to) (w : to ≤ length page) where
   rest-there : (body : List ℕ) → Rest (part at to page) body → There page (record { start = to - length body; len = length body }) body
@@ -80,7 +103,11 @@ module _ (page : List ℕ) (at : ℕ) where
       go TooLong h = nothing
       go NoStart h = nothing
       go AtLength h = nothing
-      go (Opening to) h = let text = textIn page at to in tagged-there page at to (h .from) (h .most) (tagIn options text) (past page to) (tag-rest options text)
+      go (Opening to) h =
+          let x = textIn page at to in
+          let n = text-within page at to (h .from) (h .most) in
+          tagged-there page at (at + length x) (omega arith) (omega (arith, n, h .most)) (tagIn options x) (past page to)
+          (subst (λ (y : List ℕ). RestOf y (tagIn options x)) (text-part page at to (h .from) (h .most)) (tag-rest options x))
       go (Ending to) h = nothing
       go (Stray to) h = nothing
 

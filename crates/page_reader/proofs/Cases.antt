@@ -1,6 +1,6 @@
 -- Which case a read is, byte by byte, and what an answer of the code says of it. Assumes nothing.
 use mathlib.Core.Path.{_≡_, refl, sym, _∙_, ap, subst}
-use mathlib.Core.Bool.{Bool, true, false, _&&_, _||_, or-true, and-false, true≢false, false≢true}
+use mathlib.Core.Bool.{Bool, true, false, _&&_, _||_, or-true, true≢false}
 use mathlib.Core.List.{List, [], _∷_}
 use Prim.Native.Nat.{ℕ, zero, suc, _+_, _-_, _≤_, _<_}
 use native.Mathlib.Omega.{arith}
@@ -17,7 +17,6 @@ use Rattle.party.specs.Party.{blank}
 use Rattle.party.specs.Limits.{options, limitsOf}
 use Rattle.field_utils.specs.Lines.{upto, starts, isEmpty}
 use Rattle.field_utils.proofs.Places.{upto-length}
-use Rattle.field_utils.proofs.Tests.{both-left}
 use Rattle.reader.specs.declared.Answer.{Answer as ReaderAnswer}
 use Rattle.reader.specs.Reading.{Reading, giving, toldAnswer, partyOf}
 use Rattle.reader.specs.Options.{foundBy, bodyReply, read}
@@ -26,8 +25,9 @@ use Rattle.page_reader.specs.declared.ReadOutcome.{ReadOutcome as Outcom
 use Rattle.page_reader.specs.declared.ReadOutcome.the-variants.{End, Refused}
 use Rattle.page_reader.specs.declared.ReadCase.{ReadCase}
 use Rattle.page_reader.specs.declared.ReadCase.the-variants.{TooLong, NoStart, AtLength, Opening, Ending, Stray}
-use Rattle.page_reader.specs.Pages.{pageMost, lineAt, opens, endsPage, runs, Tagged, untagged, tagged, tagIn, ReadOutcome, theEnd, aRefusal, PageRead, bodiless, outcomeOf, readTagged, readField, readable, lineCase, restCase, readCase, readBy, readAt, toldOutcome, toldRead, partyBeside}
-use Rattle.page_reader.proofs.Runs.{line-length, followed, runs-end, runs-lf, runs-more}
+use Rattle.page_reader.specs.Pages.{pageMost, lineAt, opens, hasLf, endsAt, runs, Tagged, untagged, tagged, tagIn, ReadOutcome, theEnd, aRefusal, PageRead, bodiless, outcomeOf, readTagged, readField, readable, lineCase, restCase, readCase, readBy, readAt, toldOutcome, toldRead, partyBeside}
+use Rattle.page_reader.proofs.EndLines.{not-both}
+use Rattle.page_reader.proofs.Runs.{followed, runs-end, runs-lf, runs-more}
 
 -- ---- the first line of a text
 opens-cons : (b : ℕ) (s : List ℕ) → opens (lineAt (b ∷ s)) ≡ eqb b 58
@@ -38,39 +38,6 @@ opens-cons b s = go (eqb b 10) refl
     go true e = rw (e, upto) (sym (ne-eqb b 58 (λ f. omega (arith, f, eqb-true b 10 e))))
     go false e = rw (e, upto)
 
-empty-line : (s : List ℕ) → isEmpty (lineAt s) ≡ (isEmpty s || starts 10 s)
-unfolding lineAt upto starts
-empty-line [] = refl
-empty-line (a ∷ s) = go (eqb a 10) refl
-  where
-    go : (t : Bool) → eqb a 10 ≡ t → isEmpty (lineAt (a ∷ s)) ≡ (isEmpty (a ∷ s) || starts 10 (a ∷ s))
-    go true e = rw (e, upto)
-    go false e = rw (e, upto)
-
-ends-cons : (b : ℕ) (s : List ℕ) → endsPage (lineAt (b ∷ s)) ≡ (eqb b 45 && (isEmpty s || starts 10 s))
-unfolding lineAt upto endsPage
-ends-cons b s = go (eqb b 10) refl
-  where
-    go : (t : Bool) → eqb b 10 ≡ t → endsPage (lineAt (b ∷ s)) ≡ (eqb b 45 && (isEmpty s || starts 10 s))
-    go true e = rw (e, upto) (let z : eqb b 45 ≡ false = ne-eqb b 45 (λ f. omega (arith, f, eqb-true b 10 e)) in rw z)
-    go false e = rw (e, upto) (ap (λ (t : Bool). eqb b 45 && t) (empty-line s))
-
--- an end line opens no field
-not-both : (l : List ℕ) → endsPage l ≡ true → opens l ≡ false
-unfolding endsPage starts
-not-both [] e = refl
-not-both (b ∷ l) e = ne-eqb b 58 (λ f. let g = eqb-true b 45 (both-left (eqb b 45) (isEmpty l) e) in omega (arith, f, g))
-
--- it is one byte
-ends-one : (l : List ℕ) → endsPage l ≡ true → length l ≡ 1
-unfolding endsPage
-ends-one [] e = absurd (false≢true e)
-ends-one (b ∷ []) e = refl
-ends-one (b ∷ c ∷ l) e = absurd (false≢true (sym (and-false (eqb b 45)) ∙ e))
-
-pub end-length : (s : List ℕ) → endsPage (lineAt s) ≡ true → upto 10 s ≡ 1
-end-length s e = sym (line-length s) ∙ ends-one (lineAt s) e
-
 module _ (page : List ℕ) (at : ℕ) where
   abbrev line : List ℕ
   line = lineAt (drop at page)
@@ -79,26 +46,8 @@ module _ (page : List ℕ) (at : ℕ) where
   unfolding lineAt upto starts
   opens-none h = rw (drop-of-length-le page h)
 
-  pub ends-none : length page ≤ at → endsPage line ≡ false
-  unfolding lineAt upto endsPage
-  ends-none h = rw (drop-of-length-le page h)
-
-  module _ (h : at < length page) where
-    pub opens-first : opens line ≡ eqb (getD page at 0) 58
-    opens-first = ap (λ (s : List ℕ). opens (lineAt s)) (drop-cons page at 0 h) ∙ opens-cons (getD page at 0) (drop (suc at) page)
-
-    ends-first : endsPage line ≡ (eqb (getD page at 0) 45 && (isEmpty (drop (suc at) page) || starts 10 (drop (suc at) page)))
-    ends-first = ap (λ (s : List ℕ). endsPage (lineAt s)) (drop-cons page at 0 h) ∙ ends-cons (getD page at 0) (drop (suc at) page)
-
-    pub ends-other : (getD page at 0 ≡ 45 → ⊥) → endsPage line ≡ false
-    ends-other n = ends-first ∙ rw (ne-eqb (getD page at 0) 45 n)
-
-    pub ends-last : getD page at 0 ≡ 45 → length page ≤ suc at → endsPage line ≡ true
-    ends-last e k = ends-first ∙ rw (eq-eqb (getD page at 0) 45 e, drop-of-length-le page k)
-
-    pub ends-lf : getD page at 0 ≡ 45 → suc at < length page → endsPage line ≡ eqb (getD page (suc at) 0) 10
-    unfolding starts
-    ends-lf e k = ends-first ∙ rw (eq-eqb (getD page at 0) 45 e, drop-cons page (suc at) 0 k)
+  pub opens-first : at < length page → opens line ≡ eqb (getD page at 0) 58
+  opens-first h = ap (λ (s : List ℕ). opens (lineAt s)) (drop-cons page at 0 h) ∙ opens-cons (getD page at 0) (drop (suc at) page)
 
 -- ---- how far a field runs
 pub runs-most : (s : List ℕ) → runs s ≤ length s
@@ -136,7 +85,7 @@ module _ (page : List ℕ) (at : ℕ) where
   pub followed-none : length page ≤ at → followed (drop at page) ≡ true
   followed-none h = rw (drop-of-length-le page h)
 
-  pub followed-line : {a b : Bool} → at < length page → opens (lineAt (drop at page)) ≡ a → endsPage (lineAt (drop at page)) ≡ b → followed (drop at page) ≡ (a || b)
+  pub followed-line : {a b : Bool} → at < length page → opens (lineAt (drop at page)) ≡ a → endsAt (drop at page) ≡ b → followed (drop at page) ≡ (a || b)
   followed-line h p q =
       let s : isEmpty (drop at page) ≡ false = ap isEmpty (drop-cons page at 0 h) in
       rw (s, p, q)
@@ -190,11 +139,11 @@ module _ (page : List ℕ) (at : ℕ) where
         unfolding readCase
         case-opening e = rw (fits, readCase) (rw r (left-over ∙ rw (e, lineCase)))
 
-        pub case-ending : endsPage (lineAt (drop at page)) ≡ true → readCase page at ≡ Ending (at + upto 10 (drop at page))
+        pub case-ending : endsAt (drop at page) ≡ true → readCase page at ≡ Ending (at + upto 10 (drop at page))
         unfolding readCase
-        case-ending f = rw (fits, readCase) (rw r (left-over ∙ rw (not-both (lineAt (drop at page)) f, lineCase) (rw f)))
+        case-ending f = rw (fits, readCase) (rw r (left-over ∙ rw (not-both (hasLf (drop at page)) (lineAt (drop at page)) f, lineCase) (rw f)))
 
-        pub case-stray : opens (lineAt (drop at page)) ≡ false → endsPage (lineAt (drop at page)) ≡ false → readCase page at ≡ Stray (at + runs (drop at page))
+        pub case-stray : opens (lineAt (drop at page)) ≡ false → endsAt (drop at page) ≡ false → readCase page at ≡ Stray (at + runs (drop at page))
         unfolding readCase
         case-stray e f = rw (fits, readCase) (rw r (left-over ∙ rw (e, lineCase) (rw f)))
 
@@ -231,7 +180,7 @@ module _ (page : List ℕ) (at : ℕ) where
       go false b s e = tt
       go true false s e = tt
       go true true [] e = tt
-      go true true (c ∷ s) e = line (c ∷ s) e (omega arith) (opens (lineAt (c ∷ s))) (endsPage (lineAt (c ∷ s)))
+      go true true (c ∷ s) e = line (c ∷ s) e (omega arith) (opens (lineAt (c ∷ s))) (endsAt (c ∷ s))
 
 -- ---- what an answer of the code says of a read
 abbrev pub Tells : Answer → PageRead → Type 0

@@ -1,4 +1,5 @@
 pub mod Runs
+pub mod EndLines
 pub mod Cases
 pub mod Bodies
 pub mod Tags

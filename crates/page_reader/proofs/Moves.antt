@@ -5,7 +5,7 @@ use mathlib.Core.List.{List}
 use Prim.Native.Nat.{ℕ, _+_, _-_, _≤_, _<_}
 use native.Mathlib.Omega.{arith}
 use lib.Dec.{leb}
-use lib.ListN.{length, take, drop}
+use lib.ListN.{length, drop}
 use borrow.Author.Tests.{leb-true, leb-false}
 use mathlib.Core.Logic.{_⊎_, inl, inr, ⊎-elim}
 use Rattle.party.specs.declared.PartyOption.{PartyOption}
@@ -65,7 +65,7 @@ tagged-read t o body next e = rw e
 
 -- the text of the field at a position
 abbrev pub fieldAt : List ℕ → ℕ → List ℕ
-fieldAt page at = take (runs (drop at page)) (drop at page)
+fieldAt page at = textIn page at (at + runs (drop at page))
 
 -- where a field opens at a position, and its tag is that of one of the eleven options, the read is that option's of the part handed back
 pub read-part : (page : List ℕ) (at : ℕ) (o : PartyOption) (body : List ℕ) → length page ≤ pageMost → readable page at ≡ true → opens (lineAt (drop at page)) ≡ true
@@ -73,10 +73,8 @@ pub read-part : (page : List ℕ) (at : ℕ) (o : PartyOption) (body : List ℕ)
 unfolding readField
 read-part page at o body m r q e =
     let within : at < length page = go (leb (length page) at) refl in
-    let to = at + runs (drop at page) in
-    let t : textIn page at to ≡ fieldAt page at = ap (λ (n : ℕ). take n (drop at page)) (let z : to - at ≡ runs (drop at page) = omega arith in z) in
     subst (λ (x : PageRead). x .outcome ≡ outcomeOf (read o (x .body) .reply) (read o (x .body) .party)) (sym (by-case page at (case-opening page at m r within q)))
-    (tagged-read (tagIn options (textIn page at to)) o body _ (ap (tagIn options) t ∙ e))
+    (tagged-read (tagIn options (fieldAt page at)) o body _ e)
   where
     go : (t : Bool) → leb (length page) at ≡ t → at < length page
     go true h = absurd (false≢true (sym (opens-none page at (leb-true (length page) at h)) ∙ q))

@@ -3,13 +3,14 @@ use mathlib.Core.Path.{_≡_, refl, ap, subst, sym, _∙_}
 use mathlib.Core.List.{List, _∷_, _++_, []}
 use Prim.Native.Nat.{ℕ, suc, _≤_, _<_, _+_}
 use native.Mathlib.Omega.{arith}
+use lib.Dec.{eqb}
 use lib.ListN.{length, take, drop}
 use lib.Seq.{take-all, length-take-le, take-at}
 use Rattle.field_utils.specs.Lines.{upto, isEmpty}
 use Rattle.field_utils.proofs.Places.{Upto, none, here, past, by-upto, upto-length}
 use Rattle.field_utils.proofs.Tests.{none-more, Line, first-not, rest-not}
-use Rattle.page_reader.specs.Pages.{lineAt, isBoundary, runs}
-use mathlib.Core.Bool.{Bool, true, false, _||_}
+use Rattle.page_reader.specs.Pages.{lineAt, hasLf, isBoundary, runs}
+use mathlib.Core.Bool.{Bool, true, false, _||_, or-true}
 use native.Mathlib.Nat.{zero-add}
 
 -- ---- up to the first LF
@@ -26,7 +27,7 @@ pub first-line : (s : List ℕ) → FirstLine s
 unfolding lineAt
 first-line s = let f = split (by-upto 10 s) in record { line = f .0; splits = f .1 }
 
-pub line-length : (s : List ℕ) → length (lineAt s) ≡ upto 10 s
+line-length : (s : List ℕ) → length (lineAt s) ≡ upto 10 s
 unfolding lineAt
 line-length s = length-take-le (upto 10 s) s (upto-length 10 s)
 
@@ -49,11 +50,21 @@ pub line-at : (l s : List ℕ) → Line l → lineAt (l ++ 10 ∷ s) ≡ l
 unfolding lineAt
 line-at l s h = take-at l (10 ∷ s) (upto 10 (l ++ 10 ∷ s)) (sym (upto-at l s h))
 
+-- of one without LF
+pub line-whole : (l : List ℕ) → Line l → lineAt l ≡ l
+unfolding lineAt upto
+line-whole [] h = refl
+line-whole (b ∷ l) h = rw (first-not b l h, upto) (ap (_∷_ b) (line-whole l (rest-not b l h)))
+
+pub lf-at : (l s : List ℕ) → hasLf (l ++ 10 ∷ s) ≡ true
+lf-at [] s = refl
+lf-at (b ∷ l) s = rw (lf-at l s) (or-true (eqb 10 b))
+
 -- ---- a field of one line and what follows it
 abbrev pub followed : List ℕ → Bool
-followed s = isEmpty s || isBoundary (lineAt s)
+followed s = isEmpty s || isBoundary (hasLf s) (lineAt s)
 
-pub followed-is : (s : List ℕ) {t : Bool} → isEmpty s ≡ false → isBoundary (lineAt s) ≡ t → followed s ≡ t
+pub followed-is : (s : List ℕ) {t : Bool} → isEmpty s ≡ false → isBoundary (hasLf s) (lineAt s) ≡ t → followed s ≡ t
 followed-is s e q = rw e q
 
 pub runs-stop : (l s : List ℕ) → Line l → followed s ≡ true → runs (l ++ 10 ∷ s) ≡ length l

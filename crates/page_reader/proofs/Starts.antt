@@ -1,15 +1,15 @@
 -- A read where a line starts after other bytes. Assumes nothing.
 use mathlib.Core.Path.{_≡_, refl, _∙_, ap}
-use mathlib.Core.Bool.{true, _||_, or-true}
+use mathlib.Core.Bool.{Bool, true, _||_, or-true}
 use mathlib.Core.List.{List, [], _∷_, _++_}
 use Prim.Native.Nat.{ℕ, _+_, _-_, _≤_, _<_}
 use native.Mathlib.Omega.{arith}
-use lib.Dec.{leb, eqb}
+use lib.Dec.{ltb, leb, eqb}
 use lib.ListN.{length, take, drop, length-append, List·getD-append}
 use lib.Seq.{drop-append-seam}
-use borrow.Author.Tests.{le-leb}
-use Rattle.field_utils.specs.Lines.{upto}
-use Rattle.page_reader.specs.Pages.{pageMost, lineAt, opens, endsPage, runs, past, theEnd, aRefusal, bodiless, readField, startsLine, readable, readAt}
+use borrow.Author.Tests.{le-leb, lt-ltb}
+use Rattle.field_utils.specs.Lines.{upto, withoutCr}
+use Rattle.page_reader.specs.Pages.{pageMost, lineAt, opens, lessCr, endsAt, runs, past, theEnd, aRefusal, bodiless, readField, startsLine, readable, readAt}
 use Rattle.page_reader.proofs.Cases.{case-length, case-opening, case-ending, by-case}
 
 pub starts-prefix : (pre s : List ℕ) → startsLine (pre ++ s) (length pre) ≡ startsLine pre (length pre)
@@ -37,14 +37,17 @@ module _ (pre s : List ℕ) (a : startsLine pre (length pre) ≡ true) (m : leng
     inside : at < length (pre ++ s)
     inside = omega (arith, k, length-append pre s)
 
-    pub read-opening : opens (lineAt s) ≡ true → readAt (pre ++ s) at ≡ readField (take (runs s) s) (past (pre ++ s) (at + runs s))
-    read-opening o =
-        let n : at + runs (drop at (pre ++ s)) - at ≡ runs (drop at (pre ++ s)) = omega arith in
+    -- a field that an LF closes
+    pub read-opening : opens (lineAt s) ≡ true → runs s < length s → readAt (pre ++ s) at ≡ readField (withoutCr (take (runs s) s)) (past (pre ++ s) (at + runs s))
+    read-opening o w =
+        let n : at + runs s - at ≡ runs s = omega arith in
+        let lf : ltb (at + runs s) (length (pre ++ s)) ≡ true = lt-ltb (at + runs s) (length (pre ++ s)) (let k = length-append pre s in omega arith) in
         by-case (pre ++ s) at (case-opening (pre ++ s) at m readable-at inside (ap (λ (x : List ℕ). opens (lineAt x)) rest ∙ o))
-        ∙ ap (λ (x : ℕ). readField (take x (drop at (pre ++ s))) (past (pre ++ s) (at + runs (drop at (pre ++ s))))) n
-        ∙ ap (λ (x : List ℕ). readField (take (runs x) x) (past (pre ++ s) (at + runs x))) rest
+        ∙ ap (λ (x : List ℕ). readField (lessCr (ltb (at + runs x) (length (pre ++ s))) (take (at + runs x - at) x)) (past (pre ++ s) (at + runs x))) rest
+        ∙ ap (λ (t : Bool). readField (lessCr t (take (at + runs s - at) s)) (past (pre ++ s) (at + runs s))) lf
+        ∙ ap (λ (x : ℕ). readField (withoutCr (take x s)) (past (pre ++ s) (at + runs s))) n
 
-    pub read-ending : endsPage (lineAt s) ≡ true → readAt (pre ++ s) at ≡ bodiless theEnd (past (pre ++ s) (at + upto 10 s))
+    pub read-ending : endsAt s ≡ true → readAt (pre ++ s) at ≡ bodiless theEnd (past (pre ++ s) (at + upto 10 s))
     read-ending e =
-        by-case (pre ++ s) at (case-ending (pre ++ s) at m readable-at inside (ap (λ (x : List ℕ). endsPage (lineAt x)) rest ∙ e))
+        by-case (pre ++ s) at (case-ending (pre ++ s) at m readable-at inside (ap endsAt rest ∙ e))
         ∙ ap (λ (x : List ℕ). bodiless theEnd (past (pre ++ s) (at + upto 10 x))) rest

@@ -6,9 +6,14 @@ use lib.Dec.{eqb}
 use lib.ListN.{drop}
 use Rattle.party.specs.declared.PartyOption.{PartyOption}
 use Rattle.party.specs.Limits.{limitsOf}
+use Rattle.field_utils.specs.Lines.{isEmpty}
 use Rattle.page_reader.specs.declared.Tag.{Tag}
 use Rattle.page_reader.specs.declared.Tag.the-variants.{Unknown, Known}
-use Rattle.page_reader.specs.Pages.{Tagged, untagged, tagged}
+use Rattle.page_reader.specs.Pages.{lineAt, hasLf, lessCr, Tagged, untagged, tagged}
+
+-- nothing is left of the first line of a rest
+abbrev pub isOver : List ℕ → Bool
+isOver s = isEmpty (lessCr (hasLf s) (lineAt s))
 
 -- a tag found in a text, whose body starts after so many bytes
 abbrev pub toldTag : List ℕ → Tag → Tagged

@@ -1,15 +1,17 @@
--- Pages: lines, fields, and a read at a position (document 01, 'Pages (added)'). What follows a position is the rest of the page from there.
+-- Pages: lines, fields, and a read at a position (document 01, 'Pages (added)'; CR and `-}`, document 02, One). What follows a position is
+-- the rest of the page from there.
 use Prim.Native.Nat.{ℕ, zero, suc, _+_, _-_, min}
 use mathlib.Core.Bool.{Bool, true, false, _&&_, _||_}
 use mathlib.Core.List.{List, [], _∷_}
-use lib.Dec.{leb, eqb}
+use lib.Dec.{ltb, leb, eqb}
 use lib.ListN.{length, take, drop, getD}
 use Rattle.errors.specs.Refusals.{Reply, accepted, refused, refusalOf}
 use Rattle.party.specs.declared.PartyOption.{PartyOption}
 use Rattle.party.specs.declared.Party.{Party}
 use Rattle.party.specs.Limits.{options}
 use Rattle.party.specs.Party.{blank}
-use Rattle.field_utils.specs.Lines.{upto, starts, isEmpty}
+use Rattle.swift_utils.specs.Bytes.{among}
+use Rattle.field_utils.specs.Lines.{upto, starts, isEmpty, withoutCr}
 use Rattle.field_utils.specs.Tags.{tagOf}
 use Rattle.reader.specs.Options.{read}
 use Rattle.page_reader.specs.declared.PageRead.{PageRead as ReadAt}
@@ -31,20 +33,39 @@ lineAt s = take (upto 10 s) s
 abbrev pub opens : List ℕ → Bool
 opens l = starts 58 l
 
--- a line that is just `-` ends the page
-unfoldable pub endsPage : List ℕ → Bool
-endsPage [] = false
-endsPage (b ∷ l) = eqb b 45 && isEmpty l
+-- whether an LF closes the first line of a rest
+abbrev pub hasLf : List ℕ → Bool
+hasLf s = among s 10
+
+-- a text without one CR directly before the LF that closes it; where none closes it, a CR stays
+abbrev pub lessCr : Bool → List ℕ → List ℕ
+lessCr true l = withoutCr l
+lessCr false l = l
+
+-- `-` or `-}`
+unfoldable pub isEnd : List ℕ → Bool
+isEnd [] = false
+isEnd (b ∷ []) = eqb b 45
+isEnd (b ∷ c ∷ []) = eqb b 45 && eqb c 125
+isEnd (b ∷ c ∷ d ∷ l) = false
+
+-- a line that is just one of these ends the page; where an LF closes it, also with one CR before that LF
+unfoldable pub endsPage : Bool → List ℕ → Bool
+endsPage lf l = isEnd (lessCr lf l)
 
 -- an opening or end line
-abbrev pub isBoundary : List ℕ → Bool
-isBoundary l = opens l || endsPage l
+abbrev pub isBoundary : Bool → List ℕ → Bool
+isBoundary lf l = opens l || endsPage lf l
+
+-- the first line of a rest ends the page
+abbrev pub endsAt : List ℕ → Bool
+endsAt s = endsPage (hasLf s) (lineAt s)
 
 -- how far a field runs: to before the LF that precedes the next opening or end line; where none follows, to the page's length, less a
 -- last LF
 unfoldable pub runs : List ℕ → ℕ
 runs [] = 0
-runs (b ∷ s) = elim (eqb b 10 && (isEmpty s || isBoundary (lineAt s))) [ true ↦ 0 | false ↦ suc (runs s) ]
+runs (b ∷ s) = elim (eqb b 10 && (isEmpty s || isBoundary (hasLf s) (lineAt s))) [ true ↦ 0 | false ↦ suc (runs s) ]
 
 -- the position past an LF, at most the page's length
 abbrev pub past : List ℕ → ℕ → ℕ
@@ -111,7 +132,7 @@ abbrev pub lineCase : List ℕ → ℕ → ReadCase
 lineCase s at =
     elim (opens (lineAt s)) [
       | true ↦ Opening (at + runs s)
-      | false ↦ elim (endsPage (lineAt s)) [ true ↦ Ending (at + upto 10 s) | false ↦ Stray (at + runs s) ]
+      | false ↦ elim (endsAt s) [ true ↦ Ending (at + upto 10 s) | false ↦ Stray (at + runs s) ]
     ]
 
 -- there is none at the page's length
@@ -127,9 +148,9 @@ readCase page at =
       | false ↦ TooLong
     ]
 
--- a field's text: the page from one position to another
+-- a field's text: the page from one position to another, without one CR directly before the LF there
 abbrev pub textIn : List ℕ → ℕ → ℕ → List ℕ
-textIn page at to = take (to - at) (drop at page)
+textIn page at to = lessCr (ltb to (length page)) (take (to - at) (drop at page))
 
 -- what each case reads: 18, 21, 17; a field, the end, or 16
 abbrev pub readBy : ReadCase → List ℕ → ℕ → PageRead
@@ -148,7 +169,7 @@ readAt page at = readBy (readCase page at) page at
 abbrev pub noBody : BodyPlace
 noBody = record { start = 0; len = 0 }
 
--- where a body stands in the page, by its field's tag and the position to which the field runs: the rest after the tag
+-- where a body stands in the page, by its field's tag and the position where the field's text ends: the rest after the tag
 abbrev pub bodyIn : Tagged → ℕ → BodyPlace
 bodyIn untagged to = noBody
 bodyIn (tagged o body) to = record { start = to - length body; len = length body }
@@ -158,7 +179,7 @@ abbrev pub placeBy : ReadCase → List ℕ → ℕ → BodyPlace
 placeBy TooLong page at = noBody
 placeBy NoStart page at = noBody
 placeBy AtLength page at = noBody
-placeBy (Opening to) page at = bodyIn (tagIn options (textIn page at to)) to
+placeBy (Opening to) page at = let text = textIn page at to in bodyIn (tagIn options text) (at + length text)
 placeBy (Ending to) page at = noBody
 placeBy (Stray to) page at = noBody
 

@@ -2,6 +2,7 @@
 use errors::Outcome;
 use errors::ParseError;
 use field_utils::lines::find_lf;
+use field_utils::lines::without_cr;
 use party::OPTION_COUNT;
 use party::Party;
 use party::PartyOption;
@@ -18,8 +19,8 @@ ghost use Rattle.party.specs.Party.{blank as blankParty};
 ghost use Rattle.party.specs.Limits.{options};
 ghost use Rattle.page_reader.specs.declared.Tag.the-variants.{Known};
 ghost use Rattle.page_reader.specs.declared.ReadOutcome.the-variants.{End, Refused};
-ghost use Rattle.page_reader.specs.Pages.{lineAt, opens, endsPage, runs, past as pastLf, tagIn, readField, readable, readCase, readAt, toldRead, partyBeside, noBody, bodyIn, bodyPlace};
-ghost use Rattle.page_reader.specs.Code.{toldTag, hasTag, knownIn};
+ghost use Rattle.page_reader.specs.Pages.{lineAt, opens, endsAt, runs, past as pastLf, tagIn, readField, readable, textIn, readCase, readAt, toldRead, partyBeside, noBody, bodyIn, bodyPlace};
+ghost use Rattle.page_reader.specs.Code.{isOver, toldTag, hasTag, knownIn};
 
 // A read gives a record, the end, or a refusal.
 pub enum ReadOutcome {
@@ -71,9 +72,26 @@ pub fn opens_at(page: &[u8], at: usize) -> bool
     page[at] == b':'
 }
 
-// Whether the line at a position is a lone hyphen.
+// Whether nothing is left of a line at a position: an LF or the page's end is there, or one CR and then an LF.
+fn is_over(page: &[u8], at: usize) -> bool
+    ensures { λ r. ⌜ r ≡ isOver (drop at (now (page .entry))) ⌝ }
+{
+    if page.len() <= at {
+        return true;
+    }
+    if page[at] != b'\r' {
+        return page[at] == b'\n';
+    }
+    let next = at + 1;
+    if page.len() <= next {
+        return false;
+    }
+    page[next] == b'\n'
+}
+
+// Whether the line at a position is a lone `-` or `-}`, also with one CR before its LF.
 pub fn ends_at(page: &[u8], at: usize) -> bool
-    ensures { λ r. ⌜ r ≡ endsPage (lineAt (drop at (now (page .entry)))) ⌝ }
+    ensures { λ r. ⌜ r ≡ endsAt (drop at (now (page .entry))) ⌝ }
 {
     if page.len() <= at {
         return false;
@@ -82,10 +100,13 @@ pub fn ends_at(page: &[u8], at: usize) -> bool
         return false;
     }
     let next = at + 1;
-    if page.len() <= next {
+    if is_over(page, next) {
         return true;
     }
-    page[next] == b'\n'
+    if page[next] != b'}' {
+        return false;
+    }
+    is_over(page, next + 1)
 }
 
 // Where the field at a position runs to.
@@ -211,7 +232,7 @@ fn read_case(page: &[u8], at: usize) -> ReadCase
         return ReadCase::AtLength;
     }
     if ends_at(page, at) {
-        let to = at + 1;
+        let to = find_lf(page, at);
         return ReadCase::Ending { to };
     }
     let to = runs_to(page, at);
@@ -219,6 +240,18 @@ fn read_case(page: &[u8], at: usize) -> ReadCase
         return ReadCase::Opening { to };
     }
     ReadCase::Stray { to }
+}
+
+// The text of a field from one position to another, without one CR directly before the LF there.
+fn text_in(page: &[u8], at: usize, to: usize) -> &[u8]
+    requires { ⌜ (at ≤ to) × (to ≤ length (now page)) ⌝ }
+    ensures { λ r. ⌜ now r ≡ textIn (now (page .entry)) at to ⌝ }
+{
+    let text = &page[at..to];
+    if page.len() <= to {
+        return text;
+    }
+    without_cr(text)
 }
 
 // A refusal, with the blank record beside it.
@@ -278,7 +311,7 @@ pub fn read_at(page: &[u8], at: usize) -> PageRead
         ReadCase::TooLong => refuse(ParseError::PageTooLong, at),
         ReadCase::NoStart => refuse(ParseError::Position, at),
         ReadCase::AtLength => refuse(ParseError::PageLength, at),
-        ReadCase::Opening { to } => read_field(&page[at..to], past(page, to)),
+        ReadCase::Opening { to } => read_field(text_in(page, at, to), past(page, to)),
         ReadCase::Ending { to } => end(past(page, to)),
         ReadCase::Stray { to } => refuse(ParseError::StrayLine, past(page, to)),
     }
@@ -291,10 +324,10 @@ fn nowhere() -> BodyPlace
     BodyPlace { start: 0, len: 0 }
 }
 
-// Where the body of a field stands, by the field's text and the position to which it runs.
-fn body_in(text: &[u8], to: usize) -> BodyPlace
-    requires { ⌜ length (now text) ≤ to ⌝ }
-    ensures { λ r. ⌜ r ≡ bodyIn (tagIn options (now (text .entry))) to ⌝ }
+// Where the body of a field stands, by the field's text and the position where it ends.
+fn body_in(text: &[u8], end: usize) -> BodyPlace
+    requires { ⌜ length (now text) ≤ end ⌝ }
+    ensures { λ r. ⌜ r ≡ bodyIn (tagIn options (now (text .entry))) end ⌝ }
 {
     let tag = parse_tag(text);
     let Tag::Known { option: _, skip } = tag else {
@@ -302,7 +335,7 @@ fn body_in(text: &[u8], to: usize) -> BodyPlace
     };
     let len = behind(text, skip).len();
     BodyPlace {
-        start: to - len,
+        start: end - len,
         len,
     }
 }
@@ -315,7 +348,10 @@ pub fn body_place(page: &[u8], at: usize) -> BodyPlace
         ReadCase::TooLong => nowhere(),
         ReadCase::NoStart => nowhere(),
         ReadCase::AtLength => nowhere(),
-        ReadCase::Opening { to } => body_in(&page[at..to], to),
+        ReadCase::Opening { to } => {
+            let text = text_in(page, at, to);
+            body_in(text, at + text.len())
+        }
         ReadCase::Ending { to: _ } => nowhere(),
         ReadCase::Stray { to: _ } => nowhere(),
     }

@@ -20,9 +20,7 @@ use Rattle.writer.specs.Code.{Puts}
 use Rattle.writer.specs.ReadBack.{identified59F}
 use Rattle.writer.proofs.Theorems.{given-exact, written-most}
 use Rattle.writer.proofs.Puts.{put-length, put-take, puts-byte, space, both, placed-here}
-use Rattle.page_writer.specs.Adding.{isCarried, writable, hasSpace, withLf, endLine, positionAfter, refusal, Call, putting, recordSpace, asked, recordReply, add, close}
-use Rattle.page_writer.specs.Code.{linesCarried}
-use Rattle.page_writer.proofs.Carried.{carried-is}
+use Rattle.page_writer.specs.Adding.{linesCarried, isCarried, writable, hasSpace, withLf, endLine, positionAfter, refusal, Call, putting, recordSpace, asked, recordReply, add, close}
 use borrow.Author.Tests.{le-leb}
 
 -- ---- adding
@@ -67,10 +65,12 @@ identified-is p e = rw e (and-true (eqb (placeOf (p .option)) (placeOf Field59F)
 
 -- what a page carries
 pub carried-identified : (s : Said) → identified59F s ≡ true → isCarried s ≡ false
-carried-identified s e = carried-is s ∙ rw e (and-false (linesCarried (pieces (writtenBody s))))
+unfolding isCarried
+carried-identified s e = rw e (and-false (linesCarried (pieces (writtenBody s))))
 
 pub carried-pieces : (s : Said) → identified59F s ≡ false → isCarried s ≡ linesCarried (pieces (writtenBody s))
-carried-pieces s e = carried-is s ∙ rw e (and-true (linesCarried (pieces (writtenBody s))))
+unfolding isCarried
+carried-pieces s e = rw e (and-true (linesCarried (pieces (writtenBody s))))
 
 -- ---- the parts of a field that is written out
 pub tag-within : (p : Party) → length (tagOf (p .option)) ≤ length (writtenField (said p))

@@ -6,4 +6,5 @@ pub mod Records
 pub mod Alone
 pub mod Fold
 pub mod Invariant
+pub mod Delivered
 pub mod Theorems

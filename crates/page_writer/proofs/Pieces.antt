@@ -12,7 +12,7 @@ use Rattle.field_utils.proofs.Tests.{none-more, Line, either-left, either-right
 use Rattle.writer.specs.Writing.{joined, pieces}
 use Rattle.writer.proofs.Relined.{All, pieces-joined}
 use Rattle.page_reader.specs.Pages.{lineAt, isBoundary, runs}
-use Rattle.page_reader.proofs.Runs.{first-line, line-all, no-lf, line-at, followed, followed-is, runs-stop, runs-on}
+use Rattle.page_reader.proofs.Runs.{first-line, line-all, no-lf, line-at, lf-at, followed, followed-is, runs-stop, runs-on}
 use Rattle.page_writer.specs.Adding.{anyBoundary}
 use lib.Seq.{take-at}
 
@@ -81,17 +81,17 @@ first s = go (leb (length s) (upto 10 s)) refl
 -- ---- a field of lines, up to the first that is an opening or end line
 abbrev pub upToBoundary : List (List ℕ) → List (List ℕ)
 upToBoundary [] = []
-upToBoundary (m ∷ ms) = elim (isBoundary m) [ true ↦ [] | false ↦ m ∷ upToBoundary ms ]
+upToBoundary (m ∷ ms) = elim (isBoundary true m) [ true ↦ [] | false ↦ m ∷ upToBoundary ms ]
 
 pub none-cut : (ls : List (List ℕ)) → anyBoundary ls ≡ false → upToBoundary ls ≡ ls
 unfolding anyBoundary
 none-cut [] e = refl
-none-cut (m ∷ ms) e = rw (either-left (isBoundary m) (anyBoundary ms) e, upToBoundary) (ap (_∷_ m) (none-cut ms (either-right (isBoundary m) (anyBoundary ms) e)))
+none-cut (m ∷ ms) e = rw (either-left (isBoundary true m) (anyBoundary ms) e, upToBoundary) (ap (_∷_ m) (none-cut ms (either-right (isBoundary true m) (anyBoundary ms) e)))
 
 -- what follows the part that is cut off
 abbrev afterCut : List (List ℕ) → List ℕ → List ℕ
 afterCut [] rest = rest
-afterCut (m ∷ ms) rest = elim (isBoundary m) [ true ↦ joined (m ∷ ms) ++ 10 ∷ rest | false ↦ afterCut ms rest ]
+afterCut (m ∷ ms) rest = elim (isBoundary true m) [ true ↦ joined (m ∷ ms) ++ 10 ∷ rest | false ↦ afterCut ms rest ]
 
 joined-more : (l m : List ℕ) (ms : List (List ℕ)) (rest : List ℕ) → joined (l ∷ m ∷ ms) ++ 10 ∷ rest ≡ l ++ 10 ∷ (joined (m ∷ ms) ++ 10 ∷ rest)
 unfolding joined
@@ -100,9 +100,9 @@ joined-more l m ms rest = append-assoc l (10 ∷ joined (m ∷ ms)) (10 ∷ rest
 cut-at : (l : List ℕ) (ls : List (List ℕ)) (rest : List ℕ) → joined (l ∷ ls) ++ 10 ∷ rest ≡ joined (l ∷ upToBoundary ls) ++ 10 ∷ afterCut ls rest
 unfolding joined
 cut-at l [] rest = refl
-cut-at l (m ∷ ms) rest = go (isBoundary m) refl (cut-at m ms rest)
+cut-at l (m ∷ ms) rest = go (isBoundary true m) refl (cut-at m ms rest)
   where
-    go : (t : Bool) → isBoundary m ≡ t → joined (m ∷ ms) ++ 10 ∷ rest ≡ joined (m ∷ upToBoundary ms) ++ 10 ∷ afterCut ms rest
+    go : (t : Bool) → isBoundary true m ≡ t → joined (m ∷ ms) ++ 10 ∷ rest ≡ joined (m ∷ upToBoundary ms) ++ 10 ∷ afterCut ms rest
         → joined (l ∷ m ∷ ms) ++ 10 ∷ rest ≡ joined (l ∷ upToBoundary (m ∷ ms)) ++ 10 ∷ afterCut (m ∷ ms) rest
     go true e ih = rw (e, upToBoundary, afterCut) (joined-more l m ms rest)
     go false e ih =
@@ -123,15 +123,15 @@ pub runs-cut : (l : List ℕ) (ls : List (List ℕ)) (rest : List ℕ) → All L
     → runs (joined (l ∷ ls) ++ 10 ∷ rest) ≡ length (joined (l ∷ upToBoundary ls))
 unfolding joined
 runs-cut l [] rest h e = runs-stop l rest (h .0) e
-runs-cut l (m ∷ ms) rest h e = go (isBoundary m) refl (runs-cut m ms rest (h .1) e)
+runs-cut l (m ∷ ms) rest h e = go (isBoundary true m) refl (runs-cut m ms rest (h .1) e)
   where
     s : List ℕ
     s = joined (m ∷ ms) ++ 10 ∷ rest
 
-    by-line : {t : Bool} → isBoundary m ≡ t → followed s ≡ t
-    by-line q = followed-is s (some-not (joined (m ∷ ms)) rest) (ap isBoundary (line-first m ms rest (h .1 .0)) ∙ q)
+    by-line : {t : Bool} → isBoundary true m ≡ t → followed s ≡ t
+    by-line q = followed-is s (some-not (joined (m ∷ ms)) rest) (ap (λ (t : Bool). isBoundary t (lineAt s)) (lf-at (joined (m ∷ ms)) rest) ∙ ap (isBoundary true) (line-first m ms rest (h .1 .0)) ∙ q)
 
-    go : (t : Bool) → isBoundary m ≡ t → runs s ≡ length (joined (m ∷ upToBoundary ms)) → runs (joined (l ∷ m ∷ ms) ++ 10 ∷ rest) ≡ length (joined (l ∷ upToBoundary (m ∷ ms)))
+    go : (t : Bool) → isBoundary true m ≡ t → runs s ≡ length (joined (m ∷ upToBoundary ms)) → runs (joined (l ∷ m ∷ ms) ++ 10 ∷ rest) ≡ length (joined (l ∷ upToBoundary (m ∷ ms)))
     go true q ih = ap runs (joined-more l m ms rest) ∙ rw (q, upToBoundary) (runs-stop l s (h .0) (by-line q))
     go false q ih =
         ap runs (joined-more l m ms rest) ∙ runs-on l s (h .0) (by-line q)

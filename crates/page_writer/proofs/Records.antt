@@ -1,6 +1,6 @@
 -- Which fields keep their neighbours and are read as their records: those that a page carries, and overwritten ones. Assumes nothing.
 use mathlib.Core.Path.{_≡_, refl, sym, _∙_, ap, subst}
-use mathlib.Core.Bool.{Bool, true, false, not}
+use mathlib.Core.Bool.{Bool, true, false, not, _&&_, _||_, or-false}
 use mathlib.Core.List.{List, [], _∷_, _++_, append-assoc}
 use Prim.Native.Nat.{ℕ}
 use native.Mathlib.Omega.{arith}
@@ -11,17 +11,18 @@ use Rattle.party.specs.declared.Party.{Party}
 use Rattle.party.specs.Party.{Said, said, Same}
 use Rattle.party.specs.Limits.{options}
 use Rattle.party.proofs.Options.{by-option}
-use Rattle.field_utils.specs.Lines.{starts}
+use Rattle.field_utils.specs.Lines.{starts, withoutCr}
 use Rattle.field_utils.specs.Tags.{tagOf}
-use Rattle.field_utils.proofs.Tests.{both-left, both-right, not-both, Line}
+use Rattle.field_utils.proofs.Tests.{both-left, both-right, either-left, either-right, Line}
 use Rattle.writer.specs.Writing.{joined, writtenBody, writtenField, pieces}
 use Rattle.writer.specs.Given.{Given}
-use Rattle.writer.specs.ReadBack.{isReadBack}
+use Rattle.writer.specs.ReadBack.{endsCr, lastEmpty, earlierCr, identified59F, isReadBack}
+use Rattle.writer.proofs.Relined.{cr-kept, cr-front, ends-after}
 use Rattle.writer.proofs.Theorems.{reading-back}
 use Rattle.page_reader.specs.Pages.{opens, begins, Tagged, tagged, tagIn, ReadOutcome, aRecord, aRefusal, PageRead, outcomeOf, readTagged, readField}
 use Rattle.page_reader.proofs.Cases.{field-next}
-use Rattle.page_writer.specs.Adding.{anyBoundary, laterBoundary, isCarried}
-use Rattle.page_writer.specs.WholePage.{kept, new, Gives}
+use Rattle.page_writer.specs.Adding.{anyCr, anyBoundary, laterBoundary, linesCarried, isCarried}
+use Rattle.page_writer.specs.WholePage.{kept, new, readNew, Gives}
 use Rattle.page_writer.proofs.Pieces.{pieces-of}
 use Rattle.page_writer.proofs.Structure.{Lined, Sound}
 
@@ -49,6 +50,11 @@ tag-back : (o : PartyOption) (body : List ℕ) → tagIn options (tagOf o ++ bod
 unfolding tagOf tagIn begins
 tag-back o body = by-option (λ (o : PartyOption). tagIn options (tagOf o ++ body) ≡ tagged o body) refl refl refl refl refl refl refl refl refl refl refl o
 
+-- a CR at the end of what follows a tag is left off as without the tag
+pub tag-less : (o : PartyOption) (x : List ℕ) → withoutCr (tagOf o ++ x) ≡ tagOf o ++ withoutCr x
+unfolding tagOf endsCr
+tag-less o x = cr-front (tagOf o) x (by-option (λ (o : PartyOption). endsCr (tagOf o) ≡ false) refl refl refl refl refl refl refl refl refl refl refl o)
+
 -- ---- the lines of a field's text, which begins with a colon
 unfoldable pub front-lined : (t : List ℕ) → ((x : List ℕ) → Line x → Line (t ++ x)) → ((x : List ℕ) → opens (t ++ x) ≡ true) → (body : List ℕ) → Lined (t ++ body)
 front-lined t line colon body =
@@ -72,36 +78,76 @@ unfolding laterBoundary
 later-none text e = ap laterBoundary (sym (pieces-of text .are)) ∙ e
 
 -- ---- new bytes
+pub new-gives : (bytes : List ℕ) (next : ℕ) → Gives (readField (withoutCr (58 ∷ bytes)) next) (new bytes)
+unfolding endsCr
+new-gives bytes next =
+    subst (λ (x : List ℕ). Gives (readField x next) (new bytes)) (sym (cr-front (58 ∷ []) bytes refl)) (ap (readNew bytes) (sym (field-next (58 ∷ withoutCr bytes) next)))
+
 pub new-sound : (bytes : List ℕ) → laterBoundary (pieces bytes) ≡ false → Sound (new bytes)
 unfolding front-lined
-new-sound bytes e = record {
-  lined = new-lined bytes;
-  bounded = later-none bytes e;
-  gives = λ next. ap (readField (58 ∷ bytes)) (sym (field-next (58 ∷ bytes) next));
-}
+new-sound bytes e = record { lined = new-lined bytes; bounded = later-none bytes e; gives = new-gives bytes }
 
 -- ---- fields of records that a page carries
+-- a line ends in CR: an earlier one, or the last, which is the text's end
+any-cr : (l : List ℕ) (ls : List (List ℕ)) → anyCr (l ∷ ls) ≡ (earlierCr (l ∷ ls) || endsCr (joined (l ∷ ls)))
+unfolding anyCr earlierCr joined
+any-cr l [] = or-false (endsCr l)
+any-cr l (m ∷ ls) = rw (ends-after l (joined (m ∷ ls)), any-cr m ls) (or-assoc (endsCr l))
+  where
+    or-assoc : (t : Bool) → (t || (earlierCr (m ∷ ls) || endsCr (joined (m ∷ ls)))) ≡ (t || earlierCr (m ∷ ls) || endsCr (joined (m ∷ ls)))
+    or-assoc true = refl
+    or-assoc false = refl
+
+any-body : (body : List ℕ) → anyCr (pieces body) ≡ (earlierCr (pieces body) || endsCr body)
+any-body body =
+    let p = pieces-of body in
+    ap anyCr (p .are) ∙ any-cr (p .first) (p .later) ∙ ap (λ (ls : List (List ℕ)). earlierCr ls || endsCr (joined (p .first ∷ p .later))) (sym (p .are)) ∙ ap (λ (x : List ℕ). earlierCr (pieces body) || endsCr x) (sym (p .joins))
+
 module _ (s : Said) where
-  abbrev bounded : Bool
-  bounded = not (laterBoundary (pieces (writtenBody s)))
+  abbrev body : List ℕ
+  body = writtenBody s
+
+  abbrev ls : List (List ℕ)
+  ls = pieces body
+
+  carried-lines : isCarried s ≡ true → linesCarried ls ≡ true
+  unfolding isCarried
+  carried-lines e = both-left (linesCarried ls) (not (identified59F s)) e
+
+  pub carried-bounded : isCarried s ≡ true → laterBoundary ls ≡ false
+  carried-bounded e = not-true _ (both-right (not (anyCr ls) && not (lastEmpty ls)) (not (laterBoundary ls)) (carried-lines e))
+
+  pub carried-any : isCarried s ≡ true → anyCr ls ≡ false
+  carried-any e = not-true _ (both-left (not (anyCr ls)) (not (lastEmpty ls)) (both-left (not (anyCr ls) && not (lastEmpty ls)) (not (laterBoundary ls)) (carried-lines e)))
+
+  pub carried-earlier : isCarried s ≡ true → earlierCr ls ≡ false
+  carried-earlier e = either-left (earlierCr ls) (endsCr body) (sym (any-body body) ∙ carried-any e)
+
+  carried-end : isCarried s ≡ true → endsCr body ≡ false
+  carried-end e = either-right (earlierCr ls) (endsCr body) (sym (any-body body) ∙ carried-any e)
+
+  -- where neither a boundary nor a CR at the end cuts the body, a page carries what is read back
+  carried-is : laterBoundary ls ≡ false → endsCr body ≡ false → isCarried s ≡ isReadBack s
+  unfolding isCarried isReadBack
+  carried-is m c = rw (any-body body, m, c) (go (earlierCr ls) (lastEmpty ls))
+    where
+      go : (a b : Bool) → (not (a || false) && not b && true && not (identified59F s)) ≡ (not b && not a && not (identified59F s))
+      go true true = refl
+      go true false = refl
+      go false true = refl
+      go false false = refl
 
   pub carried-back : isCarried s ≡ true → isReadBack s ≡ true
-  unfolding isCarried
-  carried-back e = both-left (isReadBack s) bounded e
+  carried-back e = sym (carried-is (carried-bounded e) (carried-end e)) ∙ e
 
-  carried-bounded : isCarried s ≡ true → laterBoundary (pieces (writtenBody s)) ≡ false
-  unfolding isCarried
-  carried-bounded e = not-true _ (both-right (isReadBack s) bounded e)
-
-  pub not-back : isCarried s ≡ false → laterBoundary (pieces (writtenBody s)) ≡ false → isReadBack s ≡ false
-  unfolding isCarried
-  not-back e m = not-both (isReadBack s) bounded e (ap not m)
+  pub not-back : isCarried s ≡ false → laterBoundary ls ≡ false → endsCr body ≡ false → isReadBack s ≡ false
+  not-back e m c = sym (carried-is m c) ∙ e
 
 -- an accepted reading, and what a read gives of it
 abbrev pub IsRecord : ReadOutcome → Party → Type 0
 IsRecord x p = (q : Party) × (x ≡ aRecord q) × Same q p
 
-accepted-record : (r : Reply) (q p : Party) → r ≡ accepted → Same q p → IsRecord (outcomeOf r q) p
+pub accepted-record : (r : Reply) (q p : Party) → r ≡ accepted → Same q p → IsRecord (outcomeOf r q) p
 accepted-record r q p e h = (q, ap (λ (x : Reply). outcomeOf x q) e, h)
 
 pub record-accepted : (r : Reply) (q p : Party) → IsRecord (outcomeOf r q) p → (r ≡ accepted) × Same q p
@@ -118,8 +164,9 @@ unfolding writtenField said front-lined
 kept-sound p g e =
     let o = p .option in
     let b = reading-back p g .yes (carried-back (said p) e) in
+    let x : withoutCr (tagOf o ++ writtenBody (said p)) ≡ tagOf o ++ writtenBody (said p) = tag-less o (writtenBody (said p)) ∙ ap (_++_ (tagOf o)) (cr-kept (writtenBody (said p)) (carried-end (said p) e)) in
     record {
       lined = tagged-lined o (writtenBody (said p));
       bounded = later-none (writtenBody (said p)) (carried-bounded (said p) e);
-      gives = λ next. subst (λ (r : PageRead). Gives r (kept p)) (sym (field-read p (writtenBody (said p)) next)) (accepted-record _ _ p (b .accepts) (b .same));
+      gives = λ next. subst (λ (r : PageRead). Gives r (kept p)) (sym (ap (λ (t : List ℕ). readField t next) x ∙ field-read p (writtenBody (said p)) next)) (accepted-record _ _ p (b .accepts) (b .same));
     }

@@ -7,15 +7,16 @@ use native.Mathlib.Omega.{arith}
 use lib.Dec.{eqb}
 use lib.ListN.{length, length-append}
 use lib.Seq.{getD-append-seam, getD-append-add}
-use Rattle.field_utils.specs.Lines.{upto, starts, isEmpty}
+use Rattle.field_utils.specs.Lines.{upto, starts, isEmpty, withoutCr}
 use Rattle.field_utils.proofs.Tests.{Line}
 use Rattle.writer.specs.Writing.{joined}
 use Rattle.writer.proofs.Relined.{All}
-use Rattle.page_reader.specs.Pages.{pageMost, lineAt, opens, endsPage, runs, past, ReadOutcome, theEnd, aRefusal, PageRead, bodiless, readField, startsLine, readAt}
+use Rattle.page_reader.specs.Pages.{pageMost, lineAt, opens, isEnd, endsPage, endsAt, runs, past, ReadOutcome, theEnd, aRefusal, PageRead, bodiless, readField, startsLine, readAt}
 use Rattle.page_reader.proofs.Cases.{field-next}
 use Rattle.page_reader.proofs.Starts.{read-length, read-opening, read-ending}
 use Rattle.page_reader.proofs.Runs.{followed}
 use Rattle.page_writer.specs.Adding.{anyBoundary, withLf, endLine}
+use Rattle.page_writer.specs.Delivered.{IsEndLine}
 use Rattle.page_writer.specs.WholePage.{Field, textOf, pageOf, Gives, ReadsAs}
 use Rattle.page_writer.proofs.Pieces.{upToBoundary, none-cut, runs-cut, text-cut, cut-within, first-cut}
 
@@ -50,12 +51,14 @@ module _ (l : List ℕ) (ls : List (List ℕ)) (rest : List ℕ) (h : All Line (
   abbrev cut : List ℕ
   cut = joined (l ∷ upToBoundary ls)
 
-  pub read-cut : length (pre ++ t) ≤ pageMost → readAt (pre ++ t) (length pre) ≡ readField cut (length pre + suc (length cut))
+  pub read-cut : length (pre ++ t) ≤ pageMost → readAt (pre ++ t) (length pre) ≡ readField (withoutCr cut) (length pre + suc (length cut))
   read-cut m =
       let at = length pre in
       let f : opens (lineAt t) ≡ true = ap opens (first-cut l ls rest h e) ∙ o in
-      let y : past (pre ++ t) (at + runs t) ≡ at + suc (length cut) = omega (arith, length-append pre t, cut-within l ls rest h e, runs-cut l ls rest h e) in
-      read-opening pre t a m (joined-some l ls (10 ∷ rest) o) f ∙ ap (λ (z : List ℕ). readField z (past (pre ++ t) (at + runs t))) (text-cut l ls rest h e) ∙ ap (readField cut) y
+      let w = cut-within l ls rest h e in
+      let y : past (pre ++ t) (at + runs t) ≡ at + suc (length cut) = omega (arith, length-append pre t, w, runs-cut l ls rest h e) in
+      read-opening pre t a m (joined-some l ls (10 ∷ rest) o) f (omega (arith, w)) ∙ ap (λ (z : List ℕ). readField (withoutCr z) (past (pre ++ t) (at + runs t))) (text-cut l ls rest h e)
+      ∙ ap (readField (withoutCr cut)) y
 
 -- ---- fields
 -- a text of lines that opens a field
@@ -66,11 +69,11 @@ pub record Lined (text : List ℕ) : Type 0 where
   pub lines : All Line (first ∷ later)
   pub opening : opens first ≡ true
 
--- a field that keeps its neighbours: no later line is an opening or end line, and its text is read as the field says
+-- a field that keeps its neighbours: no later line is an opening or end line, and its text without a CR is read as the field says
 pub record Sound (f : Field) : Type 0 where
   pub lined : Lined (textOf f)
   pub bounded : anyBoundary (lined .later) ≡ false
-  pub gives : (next : ℕ) → Gives (readField (textOf f) next) f
+  pub gives : (next : ℕ) → Gives (readField (withoutCr (textOf f)) next) f
 
 -- ---- the fields of a page, and its tail
 pub page-append : (fs gs : List Field) (tail : List ℕ) → pageOf (fs ++ gs) tail ≡ pageOf fs [] ++ pageOf gs tail
@@ -92,22 +95,31 @@ pub lined-page : (f : Field) (d : Lined (textOf f)) (fs : List Field) (tail : Li
 unfolding pageOf
 lined-page f d fs tail = append-assoc (textOf f) (10 ∷ []) (pageOf fs tail) ∙ ap (λ (x : List ℕ). x ++ 10 ∷ pageOf fs tail) (d .joins)
 
--- what may follow fields, and what reading it gives: nothing and 17, or the end line and more and the end
+-- what may follow fields, and what reading it gives: nothing and 17; our end line and more, or any end line, and the end
 pub data Tail : List ℕ → ReadOutcome → ℕ → Type 0 where
   nothing : Tail [] (aRefusal 17 0) 0
   ending : (more : List ℕ) → Tail (endLine ++ more) theEnd 2
+  whole : (e : List ℕ) → IsEndLine e → Tail e theEnd (length e)
 
 pub tail-followed : {tail : List ℕ} {last : ReadOutcome} {n : ℕ} → Tail tail last n → followed tail ≡ true
-unfolding lineAt upto starts endsPage
+unfolding lineAt upto starts withoutCr isEnd endsPage
 tail-followed nothing = refl
 tail-followed (ending more) = refl
+tail-followed (whole e h) = rw (h .ends, or-true (opens (lineAt e))) (or-true (isEmpty e))
+
+ends-some : (e : List ℕ) → endsAt e ≡ true → 0 < length e
+unfolding lineAt upto isEnd endsPage
+ends-some [] h = absurd (false≢true h)
+ends-some (b ∷ e) h = omega arith
 
 tail-read : {tail : List ℕ} {last : ReadOutcome} {n : ℕ} → Tail tail last n → (pre : List ℕ) → startsLine pre (length pre) ≡ true → length (pre ++ tail) ≤ pageMost
     → readAt (pre ++ tail) (length pre) ≡ bodiless last (length pre + n)
-unfolding lineAt upto starts endsPage
+unfolding lineAt upto starts withoutCr isEnd endsPage
 tail-read nothing pre a m = read-length pre [] a m refl ∙ ap (bodiless (aRefusal 17 0)) (let z : length pre ≡ length pre + 0 = omega arith in z)
 tail-read (ending more) pre a m =
     read-ending pre (endLine ++ more) a m (omega arith) refl ∙ ap (bodiless theEnd) (let z : past (pre ++ (endLine ++ more)) (length pre + 1) ≡ length pre + 2 = omega (arith, length-append pre (endLine ++ more)) in z)
+tail-read (whole e h) pre a m =
+    read-ending pre e a m (ends-some e (h .ends)) (h .ends) ∙ ap (bodiless theEnd) (let z : past (pre ++ e) (length pre + upto 10 e) ≡ length pre + length e = omega (arith, length-append pre e, h .whole) in z)
 
 module _ {tail : List ℕ} {last : ReadOutcome} {n : ℕ} (t : Tail tail last n) where
   -- a page begins with an opening or end line, or is empty
@@ -121,9 +133,9 @@ module _ {tail : List ℕ} {last : ReadOutcome} {n : ℕ} (t : Tail tail last n)
       let m : lineAt s ≡ d .first = first-cut (d .first) (d .later) (pageOf fs tail) (d .lines) (page-followed fs (h .1)) in
       ap followed q ∙ rw m (rw (d .opening) (or-true (isEmpty s)))
 
-  -- where a field opens after other bytes, its read is that of its text, and the next position is past its LF
+  -- where a field opens after other bytes, its read is that of its text without a CR, and the next position is past its LF
   read-field : (f : Field) → Sound f → (fs : List Field) → All Sound fs → (pre : List ℕ) → startsLine pre (length pre) ≡ true
-      → length (pre ++ pageOf (f ∷ fs) tail) ≤ pageMost → readAt (pre ++ pageOf (f ∷ fs) tail) (length pre) ≡ readField (textOf f) (length pre + length (withLf (textOf f)))
+      → length (pre ++ pageOf (f ∷ fs) tail) ≤ pageMost → readAt (pre ++ pageOf (f ∷ fs) tail) (length pre) ≡ readField (withoutCr (textOf f)) (length pre + length (withLf (textOf f)))
   read-field f s fs h pre a m =
       let d = s .lined in
       let at = length pre in
@@ -132,13 +144,13 @@ module _ {tail : List ℕ} {last : ReadOutcome} {n : ℕ} (t : Tail tail last n)
       let k : at + suc (length (textOf f)) ≡ at + length (withLf (textOf f)) = omega (arith, length-append (textOf f) (10 ∷ [])) in
       ap (λ (y : List ℕ). readAt (pre ++ y) at) q
       ∙ read-cut (d .first) (d .later) (pageOf fs tail) (d .lines) (d .opening) (page-followed fs h) pre a (subst (λ (y : List ℕ). length (pre ++ y) ≤ pageMost) q m)
-      ∙ ap (λ (y : List ℕ). readField y (at + suc (length y))) x ∙ ap (readField (textOf f)) k
+      ∙ ap (λ (y : List ℕ). readField (withoutCr y) (at + suc (length y))) x ∙ ap (readField (withoutCr (textOf f))) k
 
--- the structure of a page of fields and a tail: each field opens at the length of those before it, its read is that of its text, and the
--- next opens past its LF; the tail is read after them
+-- the structure of a page of fields and a tail: each field opens at the length of those before it, its read is that of its text without a
+-- CR before its LF, and the next opens past that; the tail is read after them
 pub record Structure (fs : List Field) (tail : List ℕ) (last : ReadOutcome) (n : ℕ) : Type 0 where
   pub field : (before : List Field) (f : Field) (later : List Field) → fs ≡ before ++ f ∷ later → let at = length (pageOf before []) in
-      readAt (pageOf fs tail) at ≡ readField (textOf f) (at + length (withLf (textOf f)))
+      readAt (pageOf fs tail) at ≡ readField (withoutCr (textOf f)) (at + length (withLf (textOf f)))
   pub after : let at = length (pageOf fs []) in readAt (pageOf fs tail) at ≡ bodiless last (at + n)
 
 sound-later : (fs gs : List Field) → All Sound (fs ++ gs) → All Sound gs
@@ -171,7 +183,7 @@ module _ {tail : List ℕ} {last : ReadOutcome} {n : ℕ} (t : Tail tail last n)
       let next = at + length (withLf (textOf f)) in
       let x : next ≡ length (pageOf (before ++ f ∷ []) []) =
       omega (arith, ap length (page-append before (f ∷ []) []), length-append (pageOf before []) (pageOf (f ∷ []) []), ap length (append-nil (withLf (textOf f)))) in
-      let y : readAt (pageOf fs tail) at .next ≡ length (pageOf (before ++ f ∷ []) []) = ap (λ (z : PageRead). z .next) r ∙ field-next (textOf f) next ∙ x in (
+      let y : readAt (pageOf fs tail) at .next ≡ length (pageOf (before ++ f ∷ []) []) = ap (λ (z : PageRead). z .next) r ∙ field-next (withoutCr (textOf f)) next ∙ x in (
         subst (λ (z : PageRead). Gives z f) (sym r) (s .0 .gives next),
         subst (λ (z : ℕ). ReadsAs (pageOf fs tail) z later last) (sym y) (reads-from h (before ++ f ∷ []) later (e ∙ sym (append-assoc before (f ∷ []) later))),
       )

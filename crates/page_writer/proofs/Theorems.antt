@@ -23,12 +23,14 @@ use Rattle.page_writer.specs.Adding.{isCarried, hasSpace, withLf, endLin
 use Rattle.page_writer.specs.Fold.{Run, run, acceptedOf}
 use Rattle.page_writer.specs.WholePage.{OpenPage, addStep, isAccepted, Model, Field, kept, new, pageOf, ReadsAs, Alone, Overwrites}
 use Rattle.page_writer.specs.Demand3.{adds, model, acceptedAdds, closing, page, OpenReads, ClosedPage, WholePage}
+use Rattle.page_writer.specs.Delivered.{DeliveredPage}
 use Rattle.page_writer.proofs.Structure.{Sound, page-tail, nothing, ending, reads}
 use Rattle.page_writer.proofs.Records.{carried-back, new-sound, kept-sound}
 use Rattle.page_writer.proofs.Alone.{alone-exact}
 use Rattle.page_writer.proofs.Addings.{close-by}
 use Rattle.page_writer.proofs.Fold.{run-append}
 use Rattle.page_writer.proofs.Invariant.{add-is, adds-untouched, Fit, fieldsOf, Invariant, ready, ran, listed}
+use Rattle.page_writer.proofs.Delivered.{delivered}
 
 position≢refusal : {m k n : ℕ} → positionAfter m ≡ refusal k n → ⊥
 position≢refusal e = let z : _≡_ {A = ℕ} 0 1 = cc in omega arith
@@ -209,6 +211,10 @@ turn-in : (before : List Party) (p : Party) (later : List Party) (buffer : List 
 unfolding run
 turn-in before p later buffer e =
     ap (λ (x : List Party). adds x buffer .answers) e ∙ ap (λ (r : Run OpenPage Filed). r .answers) (run-append addStep (record { buffer = buffer; position = 0 }) before (p ∷ later))
+
+-- a closed page with CR LF and any end line
+pub delivered-page : (ps : List Party) (buffer e : List ℕ) → DeliveredPage ps buffer e
+delivered-page ps buffer e d m = delivered (acceptedAdds ps buffer) (all-fit ps buffer) e d m
 
 -- demand 3: for every list of adds and every buffer
 pub whole-page : (ps : List Party) (buffer : List ℕ) → WholePage ps buffer

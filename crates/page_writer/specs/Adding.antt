@@ -1,6 +1,6 @@
 -- Adding to a page and closing it (document 01, 'Pages (added)' and 'From the state').
 use Prim.Native.Nat.{ℕ, _+_, min}
-use mathlib.Core.Bool.{Bool, false, not, _&&_, _||_}
+use mathlib.Core.Bool.{Bool, true, false, not, _&&_, _||_}
 use mathlib.Core.List.{List, [], _∷_, _++_}
 use lib.Dec.{leb}
 use lib.ListN.{length}
@@ -9,25 +9,33 @@ use Rattle.party.specs.Party.{Said}
 use Rattle.swift_utils.specs.Bytes.{bytes}
 use Rattle.writer.specs.Writing.{writtenBody, writtenField, pieces, put}
 use Rattle.writer.specs.Given.{isGiven}
-use Rattle.writer.specs.ReadBack.{isReadBack}
+use Rattle.writer.specs.ReadBack.{endsCr, lastEmpty, identified59F}
 use Rattle.page_reader.specs.Pages.{pageMost, opens, endsPage, startsLine}
 use Rattle.page_writer.specs.declared.Filed.{Filed as FiledAt}
 use Rattle.page_writer.specs.declared.Filed.the-variants.{Position, Refused}
 
--- a line starts with `:` or is `-`
+-- a line, any of them, ends in CR
+unfoldable pub anyCr : List (List ℕ) → Bool
+anyCr [] = false
+anyCr (l ∷ ls) = endsCr l || anyCr ls
+
+-- a line starts with `:` or is an end line, each closed by an LF
 unfoldable pub anyBoundary : List (List ℕ) → Bool
 anyBoundary [] = false
-anyBoundary (l ∷ ls) = opens l || endsPage l || anyBoundary ls
+anyBoundary (l ∷ ls) = opens l || endsPage true l || anyBoundary ls
 
 -- a line after the first does
 unfoldable pub laterBoundary : List (List ℕ) → Bool
 laterBoundary [] = false
 laterBoundary (l ∷ ls) = anyBoundary ls
 
--- a record that a page can carry, else 23: its last written line is not empty, no earlier one ends in CR and it is no 59F with identifier
--- (`isReadBack` has these three), and no written line after the first starts with `:` or is `-`
+-- lines that a page can carry: none ends in CR, the last is not empty, and none after the first starts with `:` or is `-` or `-}`
+abbrev pub linesCarried : List (List ℕ) → Bool
+linesCarried ls = not (anyCr ls) && not (lastEmpty ls) && not (laterBoundary ls)
+
+-- a record that a page can carry, else 23 (document 02, One): its written lines are such, and it is no 59F with identifier
 unfoldable pub isCarried : Said → Bool
-isCarried s = isReadBack s && not (laterBoundary (pieces (writtenBody s)))
+isCarried s = linesCarried (pieces (writtenBody s)) && not (identified59F s)
 
 -- a position to write at, else 21: within the buffer, and 0 or after an LF
 unfoldable pub writable : List ℕ → ℕ → Bool

@@ -1,20 +1,14 @@
 -- The working forms of the private functions of page_writer.
 use Prim.Native.Nat.{ℕ, _+_}
 use mathlib.Core.Path.{_≡_}
-use mathlib.Core.Bool.{Bool, not, _&&_}
 use mathlib.Core.List.{List}
 use lib.ListN.{length, take}
 use Rattle.errors.specs.Refusals.{accepted, refused, must, refusalOf}
 use Rattle.party.specs.Party.{Said}
 use Rattle.writer.specs.Writing.{writtenField, fieldMost}
-use Rattle.writer.specs.ReadBack.{lastEmpty, earlierCr}
 use Rattle.page_writer.specs.declared.Measured.{Measured}
 use Rattle.page_writer.specs.declared.Measured.the-variants.{Length, Refused}
-use Rattle.page_writer.specs.Adding.{laterBoundary, hasSpace, withLf, Call, putting, asked}
-
--- none of 23's clauses on lines holds
-abbrev pub linesCarried : List (List ℕ) → Bool
-linesCarried ls = not (lastEmpty ls) && not (earlierCr ls) && not (laterBoundary ls)
+use Rattle.page_writer.specs.Adding.{hasSpace, withLf, Call, putting, asked}
 
 -- the first bytes of a room are a field
 pub record Holds (s : Said) (room : List ℕ) (n : ℕ) : Type 0 where

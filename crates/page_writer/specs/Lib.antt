@@ -2,4 +2,5 @@ pub mod Adding
 pub mod Fold
 pub mod WholePage
 pub mod Demand3
+pub mod Delivered
 pub mod Code

@@ -8,7 +8,7 @@ use Rattle.errors.specs.Refusals.{Reply, accepted, refused}
 use Rattle.party.specs.declared.Party.{Party}
 use Rattle.party.specs.Party.{said, Same}
 use Rattle.writer.specs.Writing.{writtenField, pieces}
-use Rattle.page_reader.specs.Pages.{ReadOutcome, aRecord, theEnd, PageRead, bodiless, readField, readAt}
+use Rattle.page_reader.specs.Pages.{lessCr, ReadOutcome, aRecord, theEnd, PageRead, bodiless, readField, readAt}
 use Rattle.page_writer.specs.Adding.{laterBoundary, withLf, endLine, Filed, positionAfter, refusal, recordReply, add}
 use Rattle.page_writer.specs.Fold.{Step}
 
@@ -64,10 +64,14 @@ unfoldable pub pageOf : List Field → List ℕ → List ℕ
 pageOf [] tail = tail
 pageOf (f ∷ fs) tail = withLf (textOf f) ++ pageOf fs tail
 
+-- what document 01 says of new bytes, with the next position: a field of a colon and them, without one CR before the LF that closes it
+abbrev pub readNew : List ℕ → ℕ → PageRead
+readNew bytes next = readField (58 ∷ lessCr true bytes) next
+
 -- a read gives a record the same as the field's; of new bytes, what document 01 says of them
 abbrev pub Gives : PageRead → Field → Type 0
 Gives r (kept p) = (q : Party) × (r .outcome ≡ aRecord q) × Same q p
-Gives r (new bytes) = r ≡ readField (58 ∷ bytes) (r .next)
+Gives r (new bytes) = r ≡ readNew bytes (r .next)
 
 -- each read at the next position that the last gave: read k answers field k, and the one after them `last`, with the page's length
 unfoldable pub ReadsAs : List ℕ → ℕ → List Field → ReadOutcome → Type 0
@@ -78,7 +82,7 @@ ReadsAs page at (f ∷ fs) last = Gives (readAt page at) f × ReadsAs page (read
 abbrev pub Alone : Party → Type 0
 Alone p = ReadsAs (pageOf (kept p ∷ []) endLine) 0 (kept p ∷ []) theEnd
 
--- the fields of a list in their order, each kept, or new bytes of which no line after the first starts with a colon or is a lone hyphen
+-- the fields of a list in their order, each kept, or new bytes of which no line after the first starts with a colon or would be an end line
 unfoldable pub Overwrites : List Party → List Field → Type 0
 Overwrites [] [] = Unit {0}
 Overwrites [] (f ∷ fs) = ⊥

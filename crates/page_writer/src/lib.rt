@@ -22,8 +22,8 @@ ghost use Rattle.writer.specs.Writing.{pieces, writtenField, fieldMost};
 ghost use Rattle.writer.specs.Code.{Puts};
 ghost use Rattle.writer.specs.ReadBack.{endsCr, identified59F};
 ghost use Rattle.page_reader.specs.Pages.{pageMost};
-ghost use Rattle.page_writer.specs.Adding.{isCarried, writable, hasSpace, withLf, add as addTo, close as closeAt, toldCall};
-ghost use Rattle.page_writer.specs.Code.{linesCarried, Measures, lineCall};
+ghost use Rattle.page_writer.specs.Adding.{linesCarried, isCarried, writable, hasSpace, withLf, add as addTo, close as closeAt, toldCall};
+ghost use Rattle.page_writer.specs.Code.{Measures, lineCall};
 
 // Adding and closing answer the position after, or a refusal.
 pub enum Filed {
@@ -79,8 +79,8 @@ fn ends_cr(text: &[u8], start: usize, end: usize) -> bool
     text[end - 1] == b'\r'
 }
 
-// Whether the pieces of a field's body, which starts at a position, are lines that a page carries: an earlier one does not end in CR, a
-// later one neither opens a field nor ends the page, and the last is not empty.
+// Whether the pieces of a field's body, which starts at a position, are lines that a page carries: none ends in CR, a later one neither
+// opens a field nor ends the page, and the last is not empty.
 fn are_carried(field: &[u8], start: usize) -> bool
     requires { ⌜ start ≤ length (now field) ⌝ }
     ensures { λ r. ⌜ r ≡ linesCarried (pieces (drop start (now (field .entry)))) ⌝ }
@@ -88,11 +88,11 @@ fn are_carried(field: &[u8], start: usize) -> bool
     let mut i = start;
     loop {
         let lf = find_lf(field, i);
-        if field.len() <= lf {
-            return i < field.len();
-        }
         if ends_cr(field, i, lf) {
             return false;
+        }
+        if field.len() <= lf {
+            return i < field.len();
         }
         let next = lf + 1;
         if opens_at(field, next) {

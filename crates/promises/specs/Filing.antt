@@ -11,15 +11,15 @@ use Rattle.party.specs.Text.{padded, textOf, fourTexts}
 use Rattle.party.specs.Party.{said}
 use Rattle.swift_utils.specs.Bytes.{bytes, letter, digit, alphanumeric, signs, legal}
 use Rattle.swift_utils.specs.Checks.{parseSwiftChars, parseAccount}
-use Rattle.field_utils.specs.Lines.{upto, onto, starts}
+use Rattle.field_utils.specs.Lines.{upto, onto, starts, withoutCr}
 use Rattle.field_utils.specs.Names.{parseLine, parseLines, parseNameAndAddress}
 use Rattle.field_utils.specs.Tags.{tagOf}
 use Rattle.reader.specs.Reading.{partyOf}
 use Rattle.writer.specs.Writing.{nameLines, writtenLines, joined, writtenBody, writtenField, pieces}
 use Rattle.writer.specs.Given.{isLine, areNames, isGiven}
-use Rattle.writer.specs.ReadBack.{endsCr, lastEmpty, earlierCr, identified59F, isReadBack}
-use Rattle.page_reader.specs.Pages.{endsPage}
-use Rattle.page_writer.specs.Adding.{anyBoundary, laterBoundary, isCarried, writable, positionAfter, refusal, asked, recordReply, add, close}
+use Rattle.writer.specs.ReadBack.{endsCr, lastEmpty, identified59F}
+use Rattle.page_reader.specs.Pages.{isEnd, endsPage}
+use Rattle.page_writer.specs.Adding.{anyCr, anyBoundary, laterBoundary, isCarried, writable, positionAfter, refusal, asked, recordReply, add, close}
 use Rattle.page_writer.specs.Fold.{run}
 use Rattle.page_writer.specs.Demand3.{adds}
 use Rattle.promises.specs.Starred.{gives}
@@ -34,23 +34,28 @@ pub record FilingRuledOut : Type 0 where
   -- 24 with bytes free: 9 bytes take a field of 6, its LF and the end; 8 do not
   pub enough : recordReply 9 0 (said (of (bytes "A" ∷ []))) ≡ accepted
   pub short : recordReply 8 0 (said (of (bytes "A" ∷ []))) ≡ refused 24 0
-  -- 23 too wide by one case: a first line like an end line or an opening, a later one that only begins with a hyphen, a CR at the end
+  -- 23 too wide by one case: a first line like an end line or an opening, a later one that only begins like an end line, a CR within
   pub hyphen-first : recordReply 40 0 (said (of (bytes "-" ∷ []))) ≡ accepted
   pub colon-first : recordReply 40 0 (said (of (bytes ":A" ∷ []))) ≡ accepted
   pub hyphen-more : recordReply 40 0 (said (of (bytes "A" ∷ bytes "-B" ∷ []))) ≡ accepted
-  pub cr-last : recordReply 40 0 (said (of (bytes "A" ∷ bytes "B\r" ∷ []))) ≡ accepted
+  pub brace-first : recordReply 40 0 (said (of (bytes "-}" ∷ []))) ≡ accepted
+  pub brace-more : recordReply 40 0 (said (of (bytes "A" ∷ bytes "-}B" ∷ []))) ≡ accepted
+  pub cr-within : recordReply 40 0 (said (of (bytes "A" ∷ bytes "\rB" ∷ []))) ≡ accepted
   -- or too narrow by one
   pub hyphen-later : recordReply 40 0 (said (of (bytes "A" ∷ bytes "-" ∷ []))) ≡ refused 23 0
   pub colon-later : recordReply 40 0 (said (of (bytes "A" ∷ bytes ":B" ∷ []))) ≡ refused 23 0
+  pub brace-later : recordReply 40 0 (said (of (bytes "A" ∷ bytes "-}" ∷ []))) ≡ refused 23 0
+  pub cr-last : recordReply 40 0 (said (of (bytes "A" ∷ bytes "B\r" ∷ []))) ≡ refused 23 0
+  pub cr-only : recordReply 40 0 (said (of (bytes "A\r" ∷ []))) ≡ refused 23 0
   pub cr-earlier : recordReply 40 0 (said (of (bytes "A\r" ∷ bytes "B" ∷ []))) ≡ refused 23 0
   pub empty-last : recordReply 40 0 (said (of (bytes "A" ∷ [] ∷ []))) ≡ refused 23 0
-  -- closing that changes a byte after its LF
+  -- closing that changes a byte after its LF, or writes `-}`
   pub closed : close (bytes "abc") 0 ≡ record { answer = positionAfter 2; buffer = bytes "-\nc" }
   -- 21 before all else: a position within a line
   pub position : add (bytes "abcdefghijkl") 1 (said (of [])) .answer ≡ refusal 21 0
 
 pub filing-ruled-out : FilingRuledOut
-unfolding padded textOf said letter digit alphanumeric signs legal parseSwiftChars parseAccount upto onto starts parseLine parseLines parseNameAndAddress fourTexts partyOf nameLines writtenLines joined writtenBody writtenField pieces isLine areNames isGiven endsCr lastEmpty earlierCr identified59F endsPage isReadBack anyBoundary laterBoundary isCarried writable asked recordReply add close run tagOf
+unfolding padded textOf said letter digit alphanumeric signs legal parseSwiftChars parseAccount upto onto starts parseLine parseLines parseNameAndAddress fourTexts partyOf nameLines writtenLines joined writtenBody writtenField pieces isLine areNames isGiven endsCr lastEmpty identified59F withoutCr isEnd endsPage anyCr anyBoundary laterBoundary isCarried writable asked recordReply add close run tagOf
 filing-ruled-out = record {
   both-filed = refl;
   enough = refl;
@@ -58,9 +63,14 @@ filing-ruled-out = record {
   hyphen-first = refl;
   colon-first = refl;
   hyphen-more = refl;
-  cr-last = refl;
+  brace-first = refl;
+  brace-more = refl;
+  cr-within = refl;
   hyphen-later = refl;
   colon-later = refl;
+  brace-later = refl;
+  cr-last = refl;
+  cr-only = refl;
   cr-earlier = refl;
   empty-last = refl;
   closed = refl;

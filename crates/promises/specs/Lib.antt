@@ -2,6 +2,7 @@ pub mod Starred
 pub mod RuledOut
 pub mod Writes
 pub mod Pages
+pub mod Delivered
 pub mod Filing
 pub mod OperationsLeaves
 pub mod OperationsReaders

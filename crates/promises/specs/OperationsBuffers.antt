@@ -1,4 +1,4 @@
--- Wrong programs that the contracts of `writer`, `page_reader`, `page_writer`, `filing`, `flat` and `yewdome` rule out (document 01, 'For the auditor's form'),
+-- Wrong programs that the contracts of `writer`, `page_reader`, `page_writer`, `flat` and `yewdome` rule out (document 01, 'For the auditor's form'),
 -- each by computation. A field is named after its operation and the mistake, and its comment says what the wrong program does.
 use mathlib.Core.Path.{_≡_, refl}
 use mathlib.Core.Bool.{true, false}
@@ -11,7 +11,7 @@ use Rattle.party.specs.Text.{padded, textOf, fourTexts}
 use Rattle.party.specs.Party.{blank, said}
 use Rattle.swift_utils.specs.Bytes.{bytes, letter, digit, alphanumeric, signs, legal}
 use Rattle.swift_utils.specs.Checks.{parseSwiftChars, parseAccount, bicLength, parseBic}
-use Rattle.field_utils.specs.Lines.{upto, onto, starts, lines}
+use Rattle.field_utils.specs.Lines.{upto, onto, starts, lines, withoutCr}
 use Rattle.field_utils.specs.Trim.{white, trimmedStart, keep, trimmedEnd, trimmed}
 use Rattle.field_utils.specs.Identifier.{isNumbered, secondSlash, identifierReply, parsePartyIdentifier}
 use Rattle.field_utils.specs.Names.{parseLine, parseLines, parseNameAndAddress}
@@ -22,9 +22,9 @@ use Rattle.choices.specs.Detection.{anyNumbered, firstLine, lastLine, bicLike, 
 use Rattle.choices.specs.Choices.{firstThat, parse, pickOf, parseWithVariant}
 use Rattle.writer.specs.Writing.{nameLines, writtenLines, joined, writtenBody, writtenField, fits, placed, pieces}
 use Rattle.writer.specs.Given.{isLine, areNames, isGiven, written}
-use Rattle.writer.specs.ReadBack.{endsCr, lastEmpty, earlierCr, identified59F, isReadBack}
-use Rattle.page_reader.specs.Pages.{lineAt, opens, endsPage, runs, begins, tagIn, readField, readCase, readAt, bodyPlace}
-use Rattle.page_writer.specs.Adding.{anyBoundary, laterBoundary, isCarried, writable, refusal, asked, recordReply, add, close}
+use Rattle.writer.specs.ReadBack.{endsCr, lastEmpty, identified59F}
+use Rattle.page_reader.specs.Pages.{lineAt, opens, isEnd, endsPage, endsAt, runs, begins, tagIn, readField, readCase, readAt, bodyPlace}
+use Rattle.page_writer.specs.Adding.{anyCr, anyBoundary, laterBoundary, isCarried, writable, refusal, asked, recordReply, add, close}
 use Rattle.page_writer.specs.Fold.{run}
 use Rattle.flat.specs.Flat.{recordSize, flatTexts, flatten, stored, textAt, isFlat, partyFrom, unflatten}
 use Rattle.yewdome.specs.Filing.{readsFrom}
@@ -69,9 +69,9 @@ pub record PagesOperations : Type 0 where
   -- takes the line after an empty one
   pub opens-at-takes-the-next-line : opens (lineAt (bytes "\n:50K:A\n")) ≡ false
   -- takes a line that only starts with a hyphen
-  pub ends-at-takes-a-first-hyphen : endsPage (lineAt (bytes "-A\n")) ≡ false
+  pub ends-at-takes-a-first-hyphen : endsAt (bytes "-A\n") ≡ false
   -- asks for an LF after the hyphen
-  pub ends-at-asks-for-an-lf : endsPage (lineAt (bytes "-")) ≡ true
+  pub ends-at-asks-for-an-lf : endsAt (bytes "-") ≡ true
   -- gives the place in the field, and not in the page
   pub body-place-counts-from-the-field : bodyPlace (bytes ":50K:A\n:50:BC\n-\n") 7 ≡ record { start = 11; len = 2 }
   -- counts the LF that closes the field
@@ -80,7 +80,7 @@ pub record PagesOperations : Type 0 where
   pub close-tests-space-first : close (bytes "ab") 1 .answer ≡ refusal 21 0
 
 pub pages-operations : PagesOperations
-unfolding upto starts lineAt endsPage runs begins tagIn readCase bodyPlace writable close tagOf
+unfolding upto starts withoutCr lineAt isEnd endsPage runs begins tagIn readCase bodyPlace writable close tagOf
 pages-operations = record {
   opens-at-takes-any-colon = refl;
   opens-at-takes-the-next-line = refl;
@@ -178,7 +178,7 @@ pub record YewdomeOperations : Type 0 where
   pub page-file-tests-late : pageFile (bytes "-\n") (bytes "ab") [] ≡ record { code = 43 * 65536; bytes = bytes "ab"; answers = [] }
 
 pub yewdome-operations : YewdomeOperations
-unfolding padded textOf said letter digit alphanumeric signs legal parseSwiftChars parseAccount bicLength parseBic upto onto starts lines white trimmedStart keep trimmedEnd trimmed isNumbered secondSlash identifierReply parsePartyIdentifier parseLine parseLines parseNameAndAddress fourTexts partyOf accountHead shortAccountHead afterHead read anyNumbered firstLine lastLine bicLike firstThat pickOf testLine nameLines writtenLines joined writtenBody writtenField pieces isLine areNames isGiven written endsCr lastEmpty earlierCr identified59F lineAt endsPage runs begins tagIn readField readAt isCarried writable asked recordReply add close flatTexts flatten stored optionAt textAt isFlat partyFrom unflatten parse parseWithVariant readCase isReadBack anyBoundary laterBoundary bodyPlace tagOf run readsFrom
+unfolding padded textOf said letter digit alphanumeric signs legal parseSwiftChars parseAccount bicLength parseBic upto onto starts lines white trimmedStart keep trimmedEnd trimmed isNumbered secondSlash identifierReply parsePartyIdentifier parseLine parseLines parseNameAndAddress fourTexts partyOf accountHead shortAccountHead afterHead read anyNumbered firstLine lastLine bicLike firstThat pickOf testLine nameLines writtenLines joined writtenBody writtenField pieces isLine areNames isGiven written endsCr lastEmpty identified59F withoutCr lineAt isEnd endsPage runs begins tagIn readField readAt isCarried writable asked recordReply add close flatTexts flatten stored optionAt textAt isFlat partyFrom unflatten parse parseWithVariant readCase anyCr anyBoundary laterBoundary bodyPlace tagOf run readsFrom
 yewdome-operations = record {
   party-read-drops-the-line = refl;
   party-read-takes-11 = refl;

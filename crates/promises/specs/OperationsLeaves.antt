@@ -18,8 +18,8 @@ use Rattle.swift_utils.specs.Bytes.{bytes, all, letter, digit, alphanumeric, si
 use Rattle.swift_utils.specs.Classes.{classOf, classTable, entryAtLeast}
 use Rattle.swift_utils.specs.Checks.{parseSwiftChars, parseLength, parseAccount, bicLength}
 use Rattle.field_utils.specs.declared.lines.Line.the-variants.{Next, Done}
-use Rattle.field_utils.specs.Lines.{upto, starts}
-use Rattle.field_utils.specs.Cursor.{withoutCr, lineOf, nextLine}
+use Rattle.field_utils.specs.Lines.{upto, starts, withoutCr}
+use Rattle.field_utils.specs.Cursor.{lineOf, nextLine}
 use Rattle.field_utils.specs.Trim.{white, trimmedStart, keep, trimmedEnd, trimmed}
 use Rattle.field_utils.specs.Identifier.{isNumbered, secondSlash, identifierReply}
 use Rattle.field_utils.specs.Names.{skipOf, keptFrom, parseCount}
@@ -159,6 +159,10 @@ pub record FieldUtilsOperations : Type 0 where
   pub next-drops-all-crs : nextLine (bytes "a\r\r\n") 0 ≡ Next 0 2 (record { at = 4 })
   -- gives an empty line after an LF at the end
   pub next-gives-an-empty-line : nextLine (bytes "a\n") 2 ≡ Done
+  -- drops two CRs
+  pub without-cr-drops-two : withoutCr (bytes "A\r\r") ≡ bytes "A\r"
+  -- drops a CR that is not at the end
+  pub without-cr-drops-any : withoutCr (bytes "A\rB") ≡ bytes "A\rB"
   -- trims the start alone
   pub trim-leaves-the-end : trimmed (bytes " A ") ≡ bytes "A"
   -- trims spaces alone
@@ -197,6 +201,8 @@ field-utils-operations = record {
   find-lf-gives-0 = refl;
   next-drops-all-crs = refl;
   next-gives-an-empty-line = refl;
+  without-cr-drops-two = refl;
+  without-cr-drops-any = refl;
   trim-leaves-the-end = refl;
   trim-leaves-tabs = refl;
   starts-with-slash-looks-on = refl;

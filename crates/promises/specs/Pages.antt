@@ -9,12 +9,12 @@ use Rattle.party.specs.declared.PartyOption.the-variants.{Field50K}
 use Rattle.party.specs.Text.{padded, textOf, fourTexts}
 use Rattle.swift_utils.specs.Bytes.{bytes, letter, digit, alphanumeric, signs, legal}
 use Rattle.swift_utils.specs.Checks.{parseSwiftChars, parseAccount, bicLength, parseBic}
-use Rattle.field_utils.specs.Lines.{upto, onto, starts, lines}
+use Rattle.field_utils.specs.Lines.{upto, onto, starts, lines, withoutCr}
 use Rattle.field_utils.specs.Names.{parseLine, parseLines, parseNameAndAddress}
 use Rattle.field_utils.specs.Tags.{tagOf}
 use Rattle.reader.specs.Reading.{partyOf}
 use Rattle.reader.specs.Options.{accountHead, afterHead, read}
-use Rattle.page_reader.specs.Pages.{pageMost, lineAt, endsPage, runs, begins, tagIn, aRecord, theEnd, aRefusal, PageRead, bodiless, readField, readable, restCase, readCase, readBy, readAt}
+use Rattle.page_reader.specs.Pages.{pageMost, lineAt, isEnd, endsPage, runs, begins, tagIn, aRecord, theEnd, aRefusal, PageRead, bodiless, readField, readable, restCase, readCase, readBy, readAt}
 use Rattle.promises.specs.Starred.{gives}
 
 -- so many reads, each at the next position that the last gave
@@ -53,7 +53,7 @@ pub record PageExamples : Type 0 where
   pub unknown : reads 2 (bytes ":50B:A\n:50K:B\n-\n") 0 ≡ refuses 15 7 ∷ named (bytes "B") 14 ∷ []
 
 pub page-examples : PageExamples
-unfolding padded textOf letter digit alphanumeric signs legal parseSwiftChars parseAccount upto onto starts lines parseLine parseLines parseNameAndAddress fourTexts partyOf accountHead afterHead read lineAt endsPage runs begins tagIn readField readCase readAt tagOf
+unfolding padded textOf letter digit alphanumeric signs legal parseSwiftChars parseAccount upto onto starts lines parseLine parseLines parseNameAndAddress fourTexts partyOf accountHead afterHead read withoutCr lineAt isEnd endsPage runs begins tagIn readField readCase readAt tagOf
 page-examples = record {
   one = refl;
   open-end = refl;
@@ -97,5 +97,5 @@ pub record PagesRuledOut : Type 0 where
   pub sixteen : readAt (bytes "X\n-\n") 0 ≡ refuses 16 2
 
 pub pages-ruled-out : PagesRuledOut
-unfolding padded textOf letter digit alphanumeric signs legal parseSwiftChars parseAccount bicLength parseBic upto onto starts lines parseLine parseLines parseNameAndAddress fourTexts partyOf accountHead afterHead read lineAt endsPage runs begins tagIn readField readCase readAt tagOf
+unfolding padded textOf letter digit alphanumeric signs legal parseSwiftChars parseAccount bicLength parseBic upto onto starts lines parseLine parseLines parseNameAndAddress fourTexts partyOf accountHead afterHead read withoutCr lineAt isEnd endsPage runs begins tagIn readField readCase readAt tagOf
 pages-ruled-out = record { not-ended = refl; next-short = refl; hyphen = refl; closing-lf = refl; sixteen = refl }

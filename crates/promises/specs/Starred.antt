@@ -10,7 +10,7 @@ use Rattle.party.specs.Text.{padded, textOf, fourTexts}
 use Rattle.party.specs.Party.{said}
 use Rattle.swift_utils.specs.Bytes.{bytes, letter, digit, alphanumeric, signs, legal}
 use Rattle.swift_utils.specs.Checks.{parseSwiftChars, parseAccount, bicLength, parseBic}
-use Rattle.field_utils.specs.Lines.{upto, onto, starts, lines}
+use Rattle.field_utils.specs.Lines.{upto, onto, starts, lines, withoutCr}
 use Rattle.field_utils.specs.Trim.{white, trimmedStart, keep, trimmedEnd, trimmed}
 use Rattle.field_utils.specs.Identifier.{isNumbered, secondSlash, identifierReply, parsePartyIdentifier}
 use Rattle.field_utils.specs.Names.{parseLine, parseLines, parseNameAndAddress}
@@ -22,9 +22,9 @@ use Rattle.choices.specs.Detection.{anyNumbered, firstLine, lastLine, bicLike}
 use Rattle.choices.specs.Choices.{refusing, firstThat, parse}
 use Rattle.writer.specs.Writing.{nameLines, writtenLines, joined, writtenBody, writtenField, pieces}
 use Rattle.writer.specs.Given.{isLine, areNames, isGiven}
-use Rattle.writer.specs.ReadBack.{endsCr, lastEmpty, earlierCr, identified59F, isReadBack}
-use Rattle.page_reader.specs.Pages.{endsPage}
-use Rattle.page_writer.specs.Adding.{anyBoundary, laterBoundary, isCarried, asked, recordReply}
+use Rattle.writer.specs.ReadBack.{endsCr, lastEmpty, identified59F}
+use Rattle.page_reader.specs.Pages.{isEnd, endsPage}
+use Rattle.page_writer.specs.Adding.{anyCr, anyBoundary, laterBoundary, isCarried, asked, recordReply}
 
 -- what the definitions give, and what document 01 says of it: a reading, a written field, or the refusal of a page
 pub data Case : Type 0 where
@@ -87,5 +87,5 @@ Hold [] = Unit {0}
 Hold (c ∷ cs) = Holds c × Hold cs
 
 pub starred-hold : Hold starred
-unfolding padded textOf letter digit alphanumeric signs legal parseSwiftChars parseAccount bicLength parseBic upto onto starts lines white trimmedStart keep trimmedEnd trimmed isNumbered secondSlash identifierReply parsePartyIdentifier parseLine parseLines parseNameAndAddress fourTexts partyOf accountHead shortAccountHead afterHead read anyNumbered firstLine lastLine bicLike firstThat said nameLines writtenLines joined writtenBody writtenField isLine areNames isGiven pieces endsCr lastEmpty earlierCr identified59F endsPage isCarried asked recordReply parse anyBoundary laterBoundary isReadBack tagOf
+unfolding padded textOf letter digit alphanumeric signs legal parseSwiftChars parseAccount bicLength parseBic upto onto starts lines white trimmedStart keep trimmedEnd trimmed isNumbered secondSlash identifierReply parsePartyIdentifier parseLine parseLines parseNameAndAddress fourTexts partyOf accountHead shortAccountHead afterHead read anyNumbered firstLine lastLine bicLike firstThat said nameLines writtenLines joined writtenBody writtenField isLine areNames isGiven pieces endsCr lastEmpty identified59F withoutCr isEnd endsPage isCarried asked recordReply parse anyCr anyBoundary laterBoundary tagOf
 starred-hold = (refl, (refl, (refl, (refl, (refl, (refl, (refl, (refl, (refl, (refl, (refl, (refl, (refl, (refl, (refl, (refl, tt))))))))))))))))

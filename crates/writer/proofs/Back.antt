@@ -20,8 +20,7 @@ use Rattle.party.specs.declared.Layout.the-variants.{BicOnly, TextOnly, ByLines
 use Rattle.swift_utils.specs.Bytes.{all, between}
 use Rattle.swift_utils.specs.Checks.{parseAccount, bicLength, parseBic}
 use Rattle.swift_utils.proofs.Checks.{bicLength-least}
-use Rattle.field_utils.specs.Lines.{starts, lines, isEmpty}
-use Rattle.field_utils.specs.Cursor.{withoutCr}
+use Rattle.field_utils.specs.Lines.{starts, lines, isEmpty, withoutCr}
 use Rattle.field_utils.specs.Identifier.{isNumbered}
 use Rattle.field_utils.proofs.Tests.{both-left, both-right, not-both, Line}
 use Rattle.reader.specs.Reading.{Found, giving, partyOf}
@@ -30,7 +29,7 @@ use Rattle.reader.specs.Code.{passedHead}
 use Rattle.writer.specs.Writing.{nameLines, headLines, writtenLines, joined, writtenBody, pieces}
 use Rattle.writer.specs.Given.{isAccount, isBic}
 use Rattle.writer.specs.ReadBack.{lastEmpty, earlierCr, identified59F, isReadBack}
-use Rattle.writer.proofs.Relined.{All, weight, relined, lines-joined, relined-same, relined-empty, relined-cr, pieces-joined, cr-all}
+use Rattle.writer.proofs.Relined.{All, weight, relined, lines-at, lines-joined, relined-same, relined-empty, relined-cr, pieces-joined, cr-all}
 use Rattle.writer.proofs.Sayings.{saidWith, bytesOf, said-party, saying, line-free}
 use Rattle.writer.proofs.Facts.{Facts, names-are, account-line, account-passes, bic-passes}
 use Rattle.writer.proofs.Bare.{bareHead, bare, foundOf, Reads, bare-found}
@@ -183,15 +182,28 @@ gap-refused w ls s a e =
     false≢true (p .each .0 .number))
     (λ d. true≢false (sym s ∙ d .none .free))
 
-identified-no : (count : ℕ) (u v : Used) (us : List Used) → Facts (saidWith Field59F true count u v us)
-    → byLines Field59F (lines (writtenBody (saidWith Field59F true count u v us))) .reply ≡ accepted → ⊥
-unfolding writtenBody writtenLines bare nameLines withoutCr
-identified-no count u v [] h e = absurd (omega (arith, names-are Field59F count [] (h .names) .pass refl .least))
-identified-no count u v (w ∷ us) h e =
-    let p = plain Field59F true count u v (w ∷ us) h in
-    let ls : All Line ((47 ∷ u .bytes) ∷ w .bytes ∷ nameLines (limitsOf Field59F .numbering) 2 us) = lines-of (bare (saidWith Field59F true count u v (w ∷ us))) p in
-    let r = lines-joined ((47 ∷ u .bytes) ∷ [] ∷ w .bytes ∷ nameLines (limitsOf Field59F .numbering) 2 us) (ls .0, (refl, ls .1)) in
-    gap-refused (withoutCr (47 ∷ u .bytes)) (relined (w .bytes ∷ nameLines (limitsOf Field59F .numbering) 2 us)) (slash-kept (u .bytes)) (cr-all ascii (47 ∷ u .bytes) (p .0 .bytes)) (ap (λ (x : List (List ℕ)). byLines Field59F x .reply) (sym r) ∙ e)
+module _ (count : ℕ) (u v : Used) (us : List Used) (h : Facts (saidWith Field59F true count u v us)) where
+  abbrev line : List ℕ
+  line = 47 ∷ u .bytes
+
+  abbrev names : List (List ℕ)
+  names = nameLines (limitsOf Field59F .numbering) 1 us
+
+  pub identified-body : writtenBody (saidWith Field59F true count u v us) ≡ line ++ 10 ∷ 10 ∷ joined names
+  unfolding writtenBody writtenLines joined
+  identified-body = go names (names-are Field59F count us (h .names) .pass refl .least)
+    where
+      go : (ws : List (List ℕ)) → 0 < length ws → joined (line ∷ [] ∷ ws) ≡ line ++ 10 ∷ 10 ∷ joined ws
+      go [] n = absurd (omega arith)
+      go (w ∷ ws) n = refl
+
+  -- whatever follows the empty line
+  pub identified-no : (rest : List ℕ) → byLines Field59F (lines (line ++ 10 ∷ 10 ∷ rest)) .reply ≡ accepted → ⊥
+  unfolding lines bare
+  identified-no rest e =
+      let p = plain Field59F true count u v us h in
+      let ls : All Line (line ∷ names) = lines-of (bare (saidWith Field59F true count u v us)) p in
+      gap-refused (withoutCr line) (lines rest) (slash-kept (u .bytes)) (cr-all ascii line (p .0 .bytes)) (ap (λ (x : List (List ℕ)). byLines Field59F x .reply) (sym (lines-at line (10 ∷ rest) (ls .0))) ∙ e)
 
 -- a BIC has a byte, and so has a 50L
 bic-least : (n : ℕ) (x : List ℕ) → parseBic n x ≡ accepted → 8 ≤ length x
@@ -234,5 +246,6 @@ module _ (count : ℕ) (u v : Used) (us : List Used) where
   back-no Field50H present h e a = lines-no Field50H present count u v us h refl e (a .reply) (a .heavy)
   back-no Field59NoOption present h e a = lines-no Field59NoOption present count u v us h refl e (a .reply) (a .heavy)
   back-no Field59A present h e a = lines-no Field59A present count u v us h refl e (a .reply) (a .heavy)
-  back-no Field59F true h e a = identified-no count u v us h (a .reply)
+  back-no Field59F true h e a =
+      identified-no count u v us h _ (ap (λ (b : List ℕ). byLines Field59F (lines b) .reply) (sym (identified-body count u v us h)) ∙ a .reply)
   back-no Field59F false h e a = lines-no Field59F false count u v us h refl e (a .reply) (a .heavy)

@@ -7,8 +7,8 @@ use native.Mathlib.Omega.{arith}
 use lib.Dec.{eqb}
 use lib.ListN.{length}
 use Rattle.swift_utils.specs.Bytes.{all}
-use Rattle.field_utils.specs.Lines.{onto, starts, lines, isEmpty}
-use Rattle.field_utils.specs.Cursor.{withoutCr}
+use Rattle.field_utils.specs.Lines.{onto, starts, lines, isEmpty, withoutCr}
+use Rattle.field_utils.proofs.Places.{withoutCr-short}
 use Rattle.field_utils.proofs.Tests.{first-not, rest-not, none-more, both, both-left, both-right, either-left, either-right, Line}
 use Rattle.writer.specs.Writing.{joined, pieces}
 use Rattle.writer.specs.ReadBack.{endsCr, lastEmpty, earlierCr}
@@ -54,11 +54,34 @@ lines-joined [] h = refl
 lines-joined (l ∷ []) h = lines-rest l (h .0)
 lines-joined (l ∷ m ∷ ls) h = lines-at l (joined (m ∷ ls)) (h .0) ∙ ap (_∷_ (withoutCr l)) (lines-joined (m ∷ ls) (h .1))
 
-cr-kept : (l : List ℕ) → endsCr l ≡ false → withoutCr l ≡ l
+pub cr-kept : (l : List ℕ) → endsCr l ≡ false → withoutCr l ≡ l
 unfolding endsCr withoutCr
 cr-kept [] e = refl
 cr-kept (b ∷ []) e = rw (e, withoutCr)
 cr-kept (b ∷ a ∷ l) e = ap (_∷_ b) (cr-kept (a ∷ l) e)
+
+-- a text in front that does not end in CR stays
+pub cr-front : (t x : List ℕ) → endsCr t ≡ false → withoutCr (t ++ x) ≡ t ++ withoutCr x
+unfolding endsCr withoutCr
+cr-front [] x e = refl
+cr-front (b ∷ []) [] e = rw (e, withoutCr)
+cr-front (b ∷ []) (a ∷ x) e = refl
+cr-front (b ∷ a ∷ t) x e = ap (_∷_ b) (cr-front (a ∷ t) x e)
+
+-- and so does a line in front, with its LF
+pub cr-after : (l x : List ℕ) → withoutCr (l ++ 10 ∷ x) ≡ l ++ 10 ∷ withoutCr x
+unfolding withoutCr
+cr-after [] [] = refl
+cr-after [] (a ∷ x) = refl
+cr-after (b ∷ []) x = ap (_∷_ b) (cr-after [] x)
+cr-after (b ∷ a ∷ l) x = ap (_∷_ b) (cr-after (a ∷ l) x)
+
+pub ends-after : (l x : List ℕ) → endsCr (l ++ 10 ∷ x) ≡ endsCr x
+unfolding endsCr
+ends-after [] [] = refl
+ends-after [] (a ∷ x) = refl
+ends-after (b ∷ []) x = ends-after [] x
+ends-after (b ∷ a ∷ l) x = ends-after (a ∷ l) x
 
 -- they are the same where the last is not empty and no earlier one ends in CR
 pub relined-same : (ls : List (List ℕ)) → lastEmpty ls ≡ false → earlierCr ls ≡ false → relined ls ≡ ls
@@ -76,17 +99,7 @@ abbrev pub weight : List (List ℕ) → ℕ
 weight [] = 0
 weight (l ∷ ls) = suc (length l) + weight ls
 
-cr-short : (l : List ℕ) → length (withoutCr l) ≤ length l
-unfolding withoutCr
-cr-short [] = omega arith
-cr-short (b ∷ []) = go (eqb b 13) refl
-  where
-    go : (t : Bool) → eqb b 13 ≡ t → length (withoutCr (b ∷ [])) ≤ 1
-    go true e = rw (e, withoutCr) (omega arith)
-    go false e = rw (e, withoutCr) (omega arith)
-cr-short (b ∷ a ∷ l) = let h = cr-short (a ∷ l) in omega arith
-
-cr-shorter : (l : List ℕ) → endsCr l ≡ true → length (withoutCr l) < length l
+pub cr-shorter : (l : List ℕ) → endsCr l ≡ true → length (withoutCr l) < length l
 unfolding withoutCr endsCr
 cr-shorter [] e = absurd (false≢true e)
 cr-shorter (b ∷ []) e = rw (e, withoutCr) (omega arith)
@@ -96,7 +109,7 @@ pub relined-most : (ls : List (List ℕ)) → weight (relined ls) ≤ weight ls
 relined-most [] = omega arith
 relined-most ([] ∷ []) = omega arith
 relined-most ((b ∷ l) ∷ []) = omega arith
-relined-most (l ∷ m ∷ ls) = let h = relined-most (m ∷ ls) in omega (arith, h, cr-short l)
+relined-most (l ∷ m ∷ ls) = let h = relined-most (m ∷ ls) in omega (arith, h, withoutCr-short l)
 
 -- and lighter where not
 pub relined-empty : (ls : List (List ℕ)) → 0 < length ls → lastEmpty ls ≡ true → weight (relined ls) < weight ls
@@ -104,7 +117,7 @@ unfolding lastEmpty
 relined-empty [] n e = absurd (omega arith)
 relined-empty ([] ∷ []) n e = omega arith
 relined-empty ((b ∷ l) ∷ []) n e = absurd (false≢true e)
-relined-empty (l ∷ m ∷ ls) n e = let h = relined-empty (m ∷ ls) (omega arith) e in omega (arith, h, cr-short l)
+relined-empty (l ∷ m ∷ ls) n e = let h = relined-empty (m ∷ ls) (omega arith) e in omega (arith, h, withoutCr-short l)
 
 pub relined-cr : (ls : List (List ℕ)) → earlierCr ls ≡ true → weight (relined ls) < weight ls
 unfolding earlierCr
@@ -115,7 +128,7 @@ relined-cr (l ∷ m ∷ ls) e = go (endsCr l) refl (relined-cr (m ∷ ls))
     go : (t : Bool) → endsCr l ≡ t → (earlierCr (m ∷ ls) ≡ true → weight (relined (m ∷ ls)) < weight (m ∷ ls))
         → weight (relined (l ∷ m ∷ ls)) < weight (l ∷ m ∷ ls)
     go true f ih = omega (arith, cr-shorter l f, relined-most (m ∷ ls))
-    go false f ih = let h = ih (rw f at e) in omega (arith, h, cr-short l)
+    go false f ih = let h = ih (rw f at e) in omega (arith, h, withoutCr-short l)
 
 -- ---- the pieces of joined lines are the lines
 pieces-at : (l rest : List ℕ) → Line l → pieces (l ++ 10 ∷ rest) ≡ l ∷ pieces rest
@@ -139,13 +152,13 @@ abbrev pub closed : List (List ℕ) → List ℕ
 closed [] = []
 closed (l ∷ ls) = (l ++ 13 ∷ []) ++ 10 ∷ closed ls
 
-cr-added : (l : List ℕ) → withoutCr (l ++ 13 ∷ []) ≡ l
+pub cr-added : (l : List ℕ) → withoutCr (l ++ 13 ∷ []) ≡ l
 unfolding withoutCr
 cr-added [] = refl
 cr-added (b ∷ []) = refl
 cr-added (b ∷ a ∷ l) = ap (_∷_ b) (cr-added (a ∷ l))
 
-cr-line : (l : List ℕ) → Line l → Line (l ++ 13 ∷ [])
+pub cr-line : (l : List ℕ) → Line l → Line (l ++ 13 ∷ [])
 cr-line [] h = refl
 cr-line (b ∷ l) h = none-more b (l ++ 13 ∷ []) (first-not b l h) (cr-line l (rest-not b l h))
 

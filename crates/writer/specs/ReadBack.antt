@@ -1,4 +1,5 @@
--- When a written body is read back (document 01, 23: its clauses on lines, and 59F).
+-- When a written body, read by itself, is read back. 23 (page_writer/specs/Adding.antt) has its tests of written lines from here
+-- (document 01, 23).
 use Prim.Native.Nat.{ℕ}
 use mathlib.Core.Path.{_≡_}
 use mathlib.Core.Bool.{Bool, true, false, not, _&&_, _||_}

@@ -14,11 +14,11 @@ use Rattle.party.specs.Party.{blank, said, Same}
 use Rattle.field_utils.specs.Names.{parseLines, parseNameAndAddress}
 use Rattle.writer.specs.Writing.{writtenField, nameLines}
 use Rattle.writer.specs.Given.{areNames, isGiven}
-use Rattle.page_reader.specs.Pages.{ReadOutcome, aRecord, theEnd, PageRead, readField, readAt}
+use Rattle.page_reader.specs.Pages.{ReadOutcome, aRecord, theEnd, PageRead, readAt}
 use Rattle.page_reader.proofs.Moves.{next-most}
 use Rattle.page_writer.specs.Adding.{writable, endLine, Filed, positionAfter, refusal, Call, putting, withLf, asked, recordReply, add}
 use Rattle.page_writer.specs.Fold.{Step, Run, acceptedOf}
-use Rattle.page_writer.specs.WholePage.{OpenPage, lastGiven as lastOf, addStep as addParty, isAccepted, Field, kept, new, pageOf, Gives as GivesField, ReadsAs, Overwrites}
+use Rattle.page_writer.specs.WholePage.{OpenPage, lastGiven as lastOf, addStep as addParty, isAccepted, Field, kept, new, pageOf, readNew, Gives as GivesField, ReadsAs, Overwrites}
 use Rattle.page_writer.specs.Demand3.{adds as partyAdds, acceptedAdds, closing as closingOf}
 use Rattle.page_writer.proofs.Fold.{run-map, alike, accepted-map}
 use Rattle.page_writer.proofs.Theorems.{whole-page}
@@ -118,7 +118,7 @@ module _ (page : List ℕ) (at : ℕ) (into : List ℕ) (i : recordSize ≤ leng
 
   field-given : (f : Field) → GivesField (readAt page at) f → Gives (pageRead page at into) at into f
   field-given (kept p) g = record-given (g .0) p (g .1) (g .2)
-  field-given (new bytes) g = read-is (g ∙ ap (readField (58 ∷ bytes)) (sym next-is))
+  field-given (new bytes) g = read-is (g ∙ ap (readNew bytes) (sym next-is))
 
 reads : (page : List ℕ) (at : ℕ) (fs : List Field) → ReadsAs page at fs theEnd → Reads page at fs
 unfolding Reads ReadsAs

@@ -11,10 +11,10 @@ use lib.Dec.{ltb}
 use lib.ListN.{length, take}
 use Rattle.party.specs.declared.Party.{Party}
 use Rattle.party.specs.Party.{Same}
-use Rattle.page_reader.specs.Pages.{pageMost, readField}
+use Rattle.page_reader.specs.Pages.{pageMost}
 use Rattle.page_writer.specs.Adding.{endLine}
 use Rattle.page_writer.specs.Fold.{Step, Run, run, acceptedOf}
-use Rattle.page_writer.specs.WholePage.{OpenPage, Field, kept, new, pageOf, Overwrites}
+use Rattle.page_writer.specs.WholePage.{OpenPage, Field, kept, new, pageOf, readNew, Overwrites}
 use Rattle.flat.specs.Flat.{recordSize, unflatten}
 use Rattle.yewdome.specs.Interface.{Called, readInto, pageRead, pageAdd, pageClose}
 
@@ -58,7 +58,7 @@ movedBy c = c .code % 65536
 -- new bytes, what document 01 says of them
 abbrev pub Gives : Called → ℕ → List ℕ → Field → Type 0
 Gives c at into (kept p) = (isPosition (c .code) ≡ true) × Same (unflatten (c .bytes)) p
-Gives c at into (new bytes) = c ≡ readInto (readField (58 ∷ bytes) (at + movedBy c)) at into
+Gives c at into (new bytes) = c ≡ readInto (readNew bytes (at + movedBy c)) at into
 
 -- reads from a position on, each into any lent record of at least 237 bytes, and at the position and the bytes that the last moved past:
 -- read k answers field k, and the read after them gives the end and moves to the page's length

@@ -16,8 +16,8 @@ use Rattle.page_reader.proofs.body_in.Tie as tie
 returns : tie.Need-returns
 returns c =
     let a = c .before .before .before .before .before .args in
-    c .nowhere .ensures ∙ ap (λ (w : Tag). bodyIn (toldTag (now (a .text)) w) (a .to)) (sym (c .before .enum-told .given .1))
-    ∙ ap (λ (w : Tagged). bodyIn w (a .to)) (c .before .before .before .parse-tag .ensures)
+    c .nowhere .ensures ∙ ap (λ (w : Tag). bodyIn (toldTag (now (a .text)) w) (a .end)) (sym (c .before .enum-told .given .1))
+    ∙ ap (λ (w : Tagged). bodyIn w (a .end)) (c .before .before .before .parse-tag .ensures)
 
 sub-t7 : tie.Need-sub-t7
 sub-t7 c =
@@ -27,9 +27,9 @@ sub-t7 c =
 returns-2 : tie.Need-returns-2
 returns-2 c =
     let a = c .before .before .before .before .before .before .args in
-    ap {B = BodyPlace} (λ (b : List ℕ). record { start = a .to - length b; len = length b }) (c .behind .ensures)
-    ∙ ap (λ (w : Tag). bodyIn (toldTag (now (a .text)) w) (a .to)) (sym (c .before .before .tag .given .1))
-    ∙ ap (λ (w : Tagged). bodyIn w (a .to)) (c .before .before .before .before .parse-tag .ensures)
+    ap {B = BodyPlace} (λ (b : List ℕ). record { start = a .end - length b; len = length b }) (c .behind .ensures)
+    ∙ ap (λ (w : Tag). bodyIn (toldTag (now (a .text)) w) (a .end)) (sym (c .before .before .tag .given .1))
+    ∙ ap (λ (w : Tagged). bodyIn w (a .end)) (c .before .before .before .before .parse-tag .ensures)
 
 pub body-in-spec : {M : Type 1} → statement M
 body-in-spec =

@@ -1,11 +1,12 @@
 -- `page_reader::read_at` meets its contract, by what stands at the position. Assumes nothing.
 use mathlib.Core.Path.{_≡_, sym, _∙_, subst}
+use mathlib.Core.List.{List}
 use Prim.Native.Nat.{ℕ}
 use denote.Ref.{now}
 use borrow.Author.Needs.{needs}
 use Rattle.page_reader.specs.declared.ReadCase.{ReadCase}
 use Rattle.page_reader.specs.Pages.{theEnd, aRefusal, bodiless, textIn, readField, readCase}
-use Rattle.page_reader.proofs.Cases.{ends-by, Tells, tells-refusal, tells-end, tells-by}
+use Rattle.page_reader.proofs.Cases.{Stands, ends-by, Tells, tells-refusal, tells-end, tells-by}
 use Rattle.page_reader.proofs.read_at.Statement.{statement}
 use Rattle.page_reader.proofs.read_at.Tie as tie
 
@@ -13,13 +14,20 @@ use Rattle.page_reader.proofs.read_at.Tie as tie
 case-of : (k : tie.After-read-case) {x : ReadCase} → k .read-case .result ≡ x → let a = k .before .before .args in readCase (now (a .page)) (a .at) ≡ x
 case-of k e = sym (k .read-case .ensures) ∙ e
 
+-- where a field stands
+field-of : (t : tie.After-known-told) → let a = t .before .before .before .before .before .args in Stands (now (a .page)) (a .at) (t .before .to .given .0 .0)
+field-of t = ends-by _ _ (case-of (t .before .before .before) (t .before .to .given .1))
+
 returns-4 : tie.Need-returns-4
 returns-4 c =
-    let t = c .before .before .before .before in
+    let x = c .before .before in
+    let t = x .before .before in
     let k = t .before .before in
     let a = k .before .before .args in
-    tells-by _ _ (case-of k (t .to .given .1)) (c .read-field .result)
-    (subst (λ (n : ℕ). Tells (c .read-field .result) (readField (textIn (now (a .page)) (a .at) (t .to .given .0 .0)) n)) (c .before .past .ensures) (c .read-field .ensures))
+    let r = c .read-field .result in
+    tells-by _ _ (case-of k (t .to .given .1)) r
+    (subst (λ (n : ℕ). Tells r (readField (textIn (now (a .page)) (a .at) (t .to .given .0 .0)) n)) (c .before .past .ensures)
+    (subst (λ (y : List ℕ). Tells r (readField y (c .before .past .result))) (x .text-in .ensures) (c .read-field .ensures)))
 
 returns-5 : tie.Need-returns-5
 returns-5 c =
@@ -45,9 +53,7 @@ read-at-spec =
     (λ c. search needs)
     (λ c κs. search needs)
     (λ c. search needs)
-    (λ c. ends-by _ _ (case-of (c .before .before .before) (c .before .to .given .1)) .from)
-    (λ c. ends-by _ _ (case-of (c .before .before .before) (c .before .to .given .1)) .from)
-    (λ c. ends-by _ _ (case-of (c .before .before .before) (c .before .to .given .1)) .most)
+    (λ c κs. (field-of c .from, field-of c .most))
     (λ c κs. search needs)
     (λ c κs. search needs)
     (λ c. search needs)

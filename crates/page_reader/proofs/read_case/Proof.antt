@@ -2,15 +2,15 @@
 use mathlib.Core.Path.{_≡_, sym, _∙_, ap}
 use mathlib.Core.Bool.{Bool, true}
 use mathlib.Core.List.{List}
-use Prim.Native.Nat.{ℕ, _+_}
+use Prim.Native.Nat.{ℕ}
 use native.Mathlib.Omega.{arith}
 use lib.ListN.{drop}
 use denote.Ref.{now}
 use borrow.Author.Tests.{not-true, not-false}
 use borrow.Author.Needs.{needs}
 use Rattle.page_reader.specs.declared.ReadCase.the-variants.{Opening, Ending, Stray}
-use Rattle.page_reader.specs.Pages.{lineAt, opens, endsPage, readable}
-use Rattle.page_reader.proofs.Cases.{end-length, case-long, case-none, case-length, case-opening, case-ending, case-stray}
+use Rattle.page_reader.specs.Pages.{lineAt, opens, endsAt, readable}
+use Rattle.page_reader.proofs.Cases.{case-long, case-none, case-length, case-opening, case-ending, case-stray}
 use Rattle.page_reader.proofs.read_case.Statement.{statement}
 use Rattle.page_reader.proofs.read_case.Tie as tie
 
@@ -29,7 +29,7 @@ module _ (n : tie.After-ends-at) where
   abbrev at : ℕ
   at = e .before .before .before .before .before .args .at
 
-  ending : {t : Bool} → n .ends-at .result ≡ t → endsPage (lineAt (drop at page)) ≡ t
+  ending : {t : Bool} → n .ends-at .result ≡ t → endsAt (drop at page) ≡ t
   ending q = sym (n .ends-at .ensures) ∙ q
 
 opening : (o : tie.After-opens-at) {t : Bool} → o .opens-at .result ≡ t → let n = o .before .before .before in opens (lineAt (drop (at n) (page n))) ≡ t
@@ -37,9 +37,8 @@ opening o q = sym (o .opens-at .ensures) ∙ q
 
 returns-4 : tie.Need-returns-4
 returns-4 c =
-    let n = c .before in
-    let l = ending n (c .if4 .taken) in
-    ap (λ (k : ℕ). Ending (at n + k)) (sym (end-length (drop (at n) (page n)) l)) ∙ sym (case-ending (page n) (at n) (omega arith) (readable-at (e n .before)) (omega arith) l)
+    let n = c .before .before in
+    ap Ending (c .find-lf .ensures) ∙ sym (case-ending (page n) (at n) (omega arith) (readable-at (e n .before)) (omega arith) (ending n (c .before .if4 .taken)))
 
 returns-5 : tie.Need-returns-5
 returns-5 c =
@@ -62,7 +61,7 @@ read-case-spec =
     (λ c. let a = c .before .before .before .before .args in sym (case-none (now (a .page)) (a .at) (omega arith) (sym (c .before .is-readable .ensures) ∙ not-true _ (c .if2 .taken))))
     (λ c. let a = c .before .before .before .before .before .args in sym (case-length (now (a .page)) (a .at) (omega arith) (readable-at (c .before)) (omega arith)))
     (λ c κs. search needs)
-    (λ c. search needs)
+    (λ c κs. search needs)
     returns-4
     (λ c κs. search needs)
     (λ c κs. search needs)

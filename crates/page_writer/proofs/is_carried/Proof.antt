@@ -8,7 +8,7 @@ use lib.ListN.{length, drop}
 use borrow.Author.Needs.{needs}
 use Rattle.party.specs.Party.{said}
 use Rattle.writer.specs.Writing.{pieces}
-use Rattle.page_writer.specs.Code.{linesCarried}
+use Rattle.page_writer.specs.Adding.{linesCarried}
 use Rattle.page_writer.proofs.Addings.{carried-identified, carried-pieces, tag-within, field-body}
 use Rattle.page_writer.proofs.is_carried.Statement.{statement}
 use Rattle.page_writer.proofs.is_carried.Tie as tie

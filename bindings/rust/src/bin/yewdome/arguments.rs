@@ -16,8 +16,9 @@ usage: yewdome file [-o FILE] [FILE]
 
 const HELP: &str = "\
 Files, reads and checks a page of the party fields 50 and 59 of SWIFT MT messages: fields, each
-opened by its tag, then the line '-', in at most 32,768 bytes. The page is read from FILE, or from
-standard input where FILE is '-' or not given.
+opened by its tag, then the line '-' or '-}', in at most 32,768 bytes. Lines end in LF or CR LF; a
+new page has LF and '-'. The page is read from FILE, or from standard input where FILE is '-' or
+not given.
 
   file      writes a new page of every record that reads and that a page carries
   read      lists every answer: the texts of a record, or the body that is refused

@@ -1,29 +1,30 @@
--- `lines::without_cr` meets its contract, by the byte before the LF. Assumes nothing.
-use mathlib.Core.Path.{_≡_}
-use mathlib.Core.Bool.{true, false}
-use Prim.Native.Nat.{_-_}
+-- `lines::without_cr` meets its contract: it is the part up to where the line ends. Assumes nothing.
+use mathlib.Core.Path.{_≡_, sym, _∙_, ap}
+use mathlib.Core.List.{List}
+use Prim.Native.Nat.{ℕ, _-_}
 use native.Mathlib.Omega.{arith}
+use lib.ListN.{length, take}
+use lib.Seq.{take-all, length-take-le}
 use denote.Ref.{now}
 use borrow.Author.Needs.{needs}
-use borrow.Author.Tests.{eq-eqb, ne-eqb}
-use Rattle.field_utils.specs.Cursor.{withoutCr}
-use Rattle.field_utils.proofs.Places.{line-end}
+use Rattle.field_utils.specs.Lines.{withoutCr}
+use Rattle.field_utils.proofs.Places.{withoutCr-part, withoutCr-short}
 use Rattle.field_utils.proofs.lines.without_cr.Statement.{statement}
 use Rattle.field_utils.proofs.lines.without_cr.Tie as tie
 
-returns : tie.Need-returns
-unfolding withoutCr
-returns c =
-    let a = c .before .args in
-    let e : a .lf - a .start ≡ 0 = omega arith in
-    rw e (omega arith)
+module _ (c : tie.After-line-end) where
+  abbrev line : List ℕ
+  line = now (c .before .before .args .line)
 
-returns-2 : tie.Need-returns-2
-returns-2 c = let a = c .before .before .before .args in omega (arith, line-end (now (a .s)) (a .start) (a .lf) true (omega arith) (omega arith) (eq-eqb _ _ (c .if2 .taken)))
-
-returns-3 : tie.Need-returns-3
-returns-3 c = let a = c .before .before .before .args in omega (arith, line-end (now (a .s)) (a .start) (a .lf) false (omega arith) (omega arith) (ne-eqb _ _ (c .if2 .left)))
+  end-is : c .line-end .result ≡ length (withoutCr line)
+  end-is =
+      let n : take (length line - 0) line ≡ line = take-all (length line - 0) line (omega arith) in
+      omega (arith, c .line-end .ensures, ap (λ (l : List ℕ). length (withoutCr l)) n)
 
 pub without-cr-spec : {M : Type 1} → statement M
 without-cr-spec =
-    tie.close (tie.spec returns (λ c. search needs) (λ c. search needs) (λ c. search needs) returns-2 returns-3)
+    tie.close
+    (tie.spec
+    (λ c κs. search needs)
+    (λ c. sym (length-take-le _ _ (omega (arith, end-is (c .before), withoutCr-short (line (c .before))))))
+    (λ c. ap (λ (n : ℕ). take n (line (c .before))) (end-is (c .before)) ∙ sym (withoutCr-part (line (c .before)))))

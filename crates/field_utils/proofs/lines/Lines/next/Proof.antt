@@ -19,7 +19,7 @@ returns-2 c =
 returns-3 : tie.Need-returns-3
 returns-3 c =
     let a = c .before .before .before .before .before .args in
-    rw (c .without-cr .ensures, c .before .before .find-lf .ensures, add-sub-cancel-left) (sym (next-lf (now (a .s)) (a .self .at) (omega arith) (omega arith)))
+    rw (c .line-end .ensures, c .before .before .find-lf .ensures, add-sub-cancel-left) (sym (next-lf (now (a .s)) (a .self .at) (omega arith) (omega arith)))
 
 pub next-spec : {M : Type 1} → statement M
 next-spec =
