@@ -128,10 +128,17 @@ uint32_t yewdome_party_parse_with_variant(uint8_t choice, const uint8_t *body, s
                                           uint8_t letter, uint8_t *record, size_t record_length);
 
 /*
- * Writes the field of a record, tag and body, at the start of a buffer. Gives its length, or the
- * refusal: 42, 41, 22, 24.
+ * Measures a record: gives the length of its field, tag and body, or the refusal: 42, 41, 22. So the
+ * space that it needs is known before it is placed, or added to a page, which needs 3 bytes more: its
+ * LF, and 2 for the end of the page.
  */
-uint32_t yewdome_party_write(const uint8_t *record, size_t record_length,
+uint32_t yewdome_party_measure(const uint8_t *record, size_t record_length);
+
+/*
+ * Places the field of a record at the start of a buffer, and changes no byte after it. It measures
+ * for itself. Gives the length of the field, or the refusal: 42, 41, 22, 24.
+ */
+uint32_t yewdome_party_place(const uint8_t *record, size_t record_length,
                              uint8_t *buffer, size_t buffer_length);
 
 /*

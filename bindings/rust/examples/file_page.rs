@@ -22,14 +22,19 @@ fn parties() -> Result<Vec<Party>> {
     Ok(vec![customer.into(), holder.into(), bank.into(), beneficiary.into()])
 }
 
+/// The page, in just the space that it takes: each field with its LF, and 2 bytes for the end.
 fn page() -> Result<Vec<u8>> {
-    let mut buffer = vec![0; pages::LONGEST_PAGE];
-    let mut position = 0;
-    for party in parties()? {
-        position = pages::add(&party, &mut buffer, position)?;
+    let parties = parties()?;
+    let mut space = 2;
+    for party in &parties {
+        space += pages::measure(party)? + 1;
     }
-    let length = pages::close(&mut buffer, position)?;
-    buffer.truncate(length);
+    let mut buffer = vec![0; space];
+    let mut position = 0;
+    for party in &parties {
+        position = pages::add(party, &mut buffer, position)?;
+    }
+    pages::close(&mut buffer, position)?;
     Ok(buffer)
 }
 

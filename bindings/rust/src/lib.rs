@@ -45,6 +45,9 @@
 //!     name_and_address: vec!["BENEFICIARY SA".to_string()],
 //! };
 //!
+//! // the space that each needs is known before it is filed: its field, LF, and 2 for the end
+//! assert_eq!(pages::measure(&sender)?, ":50C:BNPAFRPPXXX".len());
+//!
 //! let mut buffer = [0; pages::LONGEST_PAGE];
 //! let position = pages::add(&sender, &mut buffer, 0)?;
 //! let position = pages::add(&receiver, &mut buffer, position)?;

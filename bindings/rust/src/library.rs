@@ -3,8 +3,8 @@
 //! What each function takes and gives is in `bindings/c/yewdome.h`.
 
 use crate::errors::{ErrorKind, ParseError, Result};
-use crate::pages::{Filing, Listed, Outcome, LONGEST_FIELD, LONGEST_PAGE};
-use crate::record::{text_of, Record};
+use crate::pages::{Filing, Listed, Outcome, LONGEST_PAGE};
+use crate::record::Record;
 use std::ops::Range;
 
 #[cfg(test)]
@@ -33,7 +33,8 @@ extern "C" {
         record: *mut u8,
         record_length: usize,
     ) -> u32;
-    fn yewdome_party_write(
+    fn yewdome_party_measure(record: *const u8, record_length: usize) -> u32;
+    fn yewdome_party_place(
         record: *const u8,
         record_length: usize,
         buffer: *mut u8,
@@ -93,9 +94,13 @@ fn party_parse_with_variant(choice: u8, body: &[u8], letter: u8, record: &mut [u
     unsafe { yewdome_party_parse_with_variant(choice, text, length, letter, out, room) }
 }
 
-fn party_write(record: &[u8], buffer: &mut [u8]) -> u32 {
+fn party_measure(record: &[u8]) -> u32 {
+    unsafe { yewdome_party_measure(record.as_ptr(), record.len()) }
+}
+
+fn party_place(record: &[u8], buffer: &mut [u8]) -> u32 {
     let (out, room) = (buffer.as_mut_ptr(), buffer.len());
-    unsafe { yewdome_party_write(record.as_ptr(), record.len(), out, room) }
+    unsafe { yewdome_party_place(record.as_ptr(), record.len(), out, room) }
 }
 
 fn page_read(page: &[u8], at: usize, record: &mut [u8]) -> u64 {
@@ -143,11 +148,16 @@ pub(crate) fn parse_with_variant(choice: u8, body: &[u8], letter: u8) -> Result<
     record_of(|out| party_parse_with_variant(choice, body, letter, out))
 }
 
-/// The field of a record, tag and body.
+/// The length of the field of a record, tag and body.
+pub(crate) fn measure(record: &Record) -> Result<usize> {
+    accepted(party_measure(record.bytes()))
+}
+
+/// The field of a record, tag and body, in one allocation of just its length.
 pub(crate) fn write(record: &Record) -> Result<String> {
-    let mut field = [0; LONGEST_FIELD];
-    let length = accepted(party_write(record.bytes(), &mut field))?;
-    Ok(text_of(&field[..length]))
+    let mut field = vec![0; measure(record)?];
+    accepted(party_place(record.bytes(), &mut field))?;
+    Ok(String::from_utf8(field).expect("a written field is ASCII"))
 }
 
 /// What a page's read gave.

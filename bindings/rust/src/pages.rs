@@ -163,6 +163,15 @@ pub fn listed(page: &[u8]) -> Vec<Listed> {
     library::list(page)
 }
 
+/// The length of the field of a struct of an option, an enum of a choice or a [`Party`], tag and body,
+/// as [`to_swift_string`](crate::SwiftField::to_swift_string) writes it; nothing is written.
+///
+/// Refused with 22 where no reader gives the value, and with nothing else: so the space that a value
+/// needs is known before it is filed. [`add`] needs its LF besides, and 2 bytes for the end of the page.
+pub fn measure<P: Recorded>(party: &P) -> Result<usize> {
+    library::measure(&party.record())
+}
+
 /// Adds a struct of an option, an enum of a choice or a [`Party`] to the page in a buffer at a
 /// position, and gives the position after.
 ///

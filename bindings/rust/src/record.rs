@@ -72,7 +72,7 @@ fn length_of<T>(list: &[T]) -> u8 {
 }
 
 /// Bytes of the library as text. They are ASCII, of which this is exact.
-pub(crate) fn text_of(bytes: &[u8]) -> String {
+fn text_of(bytes: &[u8]) -> String {
     String::from_utf8_lossy(bytes).into_owned()
 }
 

@@ -61,6 +61,7 @@ fn what_is_filed_reads_back() {
     for party in all() {
         let next = add(&party, &mut buffer, position).expect("a page carries it");
         let field = party.to_swift_string().expect("a reader gave it");
+        assert_eq!(measure(&party), Ok(field.len()));
         assert_eq!(&buffer[position..next], format!("{field}\n").as_bytes());
         let tag = field[1..].find(':').expect("a field has a tag") + 2;
         let body = position + tag..position + field.len();
@@ -72,6 +73,19 @@ fn what_is_filed_reads_back() {
     assert!(buffer[length..].iter().all(|&byte| byte == STALE));
     expected.push(Read { at: position, answer: Answer::End, body: 0..0, next: length });
     assert_eq!(answers(&buffer[..length]).collect::<Vec<_>>(), expected);
+}
+
+/// The field's length, its LF and 2 for the end: one byte less is 24.
+#[test]
+fn what_is_measured_has_space() {
+    for party in all() {
+        let space = measure(&party).expect("a reader gave it") + 3;
+        let mut buffer = vec![STALE; space];
+        assert_eq!(refused(add(&party, &mut buffer[..space - 1], 0)), 24);
+        assert!(buffer.iter().all(|&byte| byte == STALE));
+        let position = add(&party, &mut buffer, 0).expect("there is space");
+        assert_eq!(close(&mut buffer, position), Ok(space));
+    }
 }
 
 #[test]

@@ -4,7 +4,7 @@
 
 use std::collections::BTreeMap;
 use yewdome::fields::*;
-use yewdome::pages::{Party, LONGEST_BODY};
+use yewdome::pages::{measure, Party, LONGEST_BODY};
 use yewdome::{ParseError, SwiftField};
 
 /// The record and what is written of it, or the refusal's number and line.
@@ -235,6 +235,7 @@ fn every_record_is_written_as_expected() {
             continue;
         };
         let ours = party.to_swift_string().map_err(told);
+        assert_eq!(measure(&party).map_err(told), ours.as_ref().map(String::len).map_err(|it| *it));
         if written.is_ascii() {
             assert_eq!(ours, Ok(written), "{}", case.row);
             as_the_rust += 1;

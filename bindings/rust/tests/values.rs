@@ -2,7 +2,7 @@
 
 use std::collections::HashSet;
 use yewdome::fields::*;
-use yewdome::pages::{Party, LONGEST_BODY, LONGEST_FIELD};
+use yewdome::pages::{measure, Party, LONGEST_BODY, LONGEST_FIELD};
 use yewdome::{ErrorKind, Result, SwiftField};
 
 fn names(names: &[&str]) -> Vec<String> {
@@ -40,6 +40,7 @@ fn the_longest_field_is_written() {
     let due = format!(":59F:/{identifier}\n\n{}", names.join("\n"));
     assert_eq!(due.len(), LONGEST_FIELD);
     let field = Field59F { party_identifier: Some(identifier), name_and_address: names };
+    assert_eq!(measure(&field), Ok(LONGEST_FIELD));
     assert_eq!(field.to_swift_string(), Ok(due));
 }
 
@@ -67,6 +68,7 @@ fn values_that_no_reader_gives_are_22() {
         Field59F { party_identifier: None, name_and_address: names(&["2/A"]) }.into(),
     ];
     for value in values {
+        assert_eq!(refused(measure(&value)), (22, 0), "{value:?}");
         assert_eq!(refused(value.to_swift_string()), (22, 0), "{value:?}");
     }
 }
@@ -85,6 +87,7 @@ fn texts_that_are_too_long_are_22() {
             Field50C { bic: text.clone() }.into(),
         ];
         for value in values {
+            assert_eq!(refused(measure(&value)), (22, 0), "{length}: {value:?}");
             assert_eq!(refused(value.to_swift_string()), (22, 0), "{length}: {value:?}");
         }
     }

@@ -9,8 +9,8 @@ use party::limits_of;
 use reader::Answer;
 use reader::read;
 use reader::refuse;
-use writer::put_field;
-use writer::written_length;
+use writer::Measured;
+use writer::place;
 
 // The part of a slice from one place to another, or none where the slice has no such part.
 pub(crate) fn part(s: &[u8], from: usize, to: usize) -> &[u8] {
@@ -46,12 +46,18 @@ pub(crate) fn is_overwritten(k: usize) -> bool {
     k % 5 == 3
 }
 
+// Places the field of a record in the room, which has space for any, and gives its length.
+fn old_field(k: usize, room: &mut [u8; 256]) -> usize {
+    match place(record(k), room) {
+        Measured::Length(n) => n,
+        Measured::Refused(_) => 0,
+    }
+}
+
 // The new field, and how many bytes it has: the old one with another tag, with an illegal byte or one above 127, cut short, or with a line
 // more. No line after the first starts with a colon or would be an end line.
 fn new_field(k: usize, room: &mut [u8; 256]) -> usize {
-    let party = record(k);
-    put_field(party, room, 0);
-    let n = written_length(party);
+    let n = old_field(k, room);
     match k % 25 {
         3 => {
             room[1] = b'7';

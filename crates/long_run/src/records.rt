@@ -5,7 +5,8 @@ use party::TEXT_MOST;
 use party::Text;
 use party::limits_of;
 use party::text_of;
-use writer::written_length;
+use writer::Measured;
+use writer::measure;
 
 pub(crate) fn option_of(k: usize) -> PartyOption {
     match k % 11 {
@@ -87,15 +88,19 @@ pub(crate) fn answer_to(k: usize) -> u8 {
     if k % 11 == 10 && is_present(k) { 23 } else { 0 }
 }
 
-// The same at a position of a page of 32,768 bytes: 24 where the field, its LF and the end do not fit.
+// The same at a position of a page of 32,768 bytes: 24 where the field, its LF and the end do not fit, by what measuring says.
 pub(crate) fn answer_at(k: usize, position: usize) -> u8 {
     let answer = answer_to(k);
     if answer != 0 {
         return answer;
     }
-    if position <= 32765 && written_length(record(k)) <= 32765 - position {
-        0
-    } else {
-        24
+    match measure(record(k)) {
+        Measured::Length(n) => {
+            if position <= 32765 && n <= 32765 - position {
+                return 0;
+            }
+            24
+        }
+        Measured::Refused(e) => e.refusal().number,
     }
 }

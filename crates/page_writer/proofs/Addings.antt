@@ -3,25 +3,25 @@ use mathlib.Core.Path.{_≡_, refl, sym, _∙_, ap}
 use mathlib.Core.Bool.{Bool, true, false, and-false, and-true}
 use mathlib.Core.List.{List, [], _∷_, _++_}
 use Prim.Native.Nat.{ℕ, _+_, _≤_, _<_}
-use native.Mathlib.Nat.{zero-add}
 use native.Mathlib.Omega.{arith}
 use lib.Dec.{eqb}
-use lib.ListN.{length, take, drop, set, length-append}
-use lib.Seq.{drop-append-seam}
+use lib.ListN.{length, take, drop, set, length-append, length-drop}
+use lib.Seq.{take-at, drop-append-seam}
 use Rattle.errors.specs.Refusals.{Reply, accepted, refused, must, _then_}
 use Rattle.party.specs.declared.PartyOption.the-variants.{Field59F}
 use Rattle.party.specs.declared.Party.{Party}
 use Rattle.party.specs.Limits.{placeOf}
 use Rattle.party.specs.Party.{Said, said}
 use Rattle.field_utils.specs.Tags.{tagOf}
-use Rattle.writer.specs.Writing.{writtenBody, writtenField, pieces, put, placed, fieldMost}
+use Rattle.writer.specs.Writing.{writtenBody, writtenField, pieces, placed, fieldMost}
 use Rattle.writer.specs.Given.{isGiven}
+use Rattle.writer.specs.Placing.{Measured, lengthIs, refusedWith, Placing, measure, place}
 use Rattle.writer.specs.Code.{Puts}
 use Rattle.writer.specs.ReadBack.{identified59F}
-use Rattle.writer.proofs.Theorems.{given-exact, written-most}
-use Rattle.writer.proofs.Puts.{put-length, put-take, puts-byte, space, both, placed-here}
+use Rattle.writer.proofs.Theorems.{given-exact, written-most, measure-and-place}
+use Rattle.writer.proofs.Pairs.{measure-22, measured, unmeasured}
+use Rattle.writer.proofs.Puts.{puts-byte, space, both, placed-here}
 use Rattle.page_writer.specs.Adding.{linesCarried, isCarried, writable, hasSpace, withLf, endLine, positionAfter, refusal, Call, putting, recordSpace, asked, recordReply, add, close}
-use borrow.Author.Tests.{le-leb}
 
 -- ---- adding
 module _ (buffer : List ℕ) (at : ℕ) (s : Said) where
@@ -46,9 +46,12 @@ module _ (buffer : List ℕ) (at : ℕ) where
   close-by w = rw w
 
 -- ---- what a page asks of a record
-pub asked-22 : (s : Said) → isGiven s ≡ false → asked s ≡ refused 22 0
+pub asked-unmeasured : (s : Said) {k l : ℕ} → measure s ≡ refusedWith k l → asked s ≡ refused k l
 unfolding asked
-asked-22 s g = rw g
+asked-unmeasured s {k} {l} m =
+    let e = unmeasured s m in
+    let same : refusedWith 22 0 ≡ refusedWith k l = measure-22 s e ∙ m in
+    rw e cc
 
 pub asked-by : (s : Said) {t : Bool} → isGiven s ≡ true → isCarried s ≡ t → asked s ≡ must t 23 0
 unfolding asked
@@ -81,24 +84,33 @@ pub field-body : (p : Party) {field : List ℕ} → field ≡ writtenField (said
 unfolding writtenField said
 field-body p e = ap (drop (length (tagOf (p .option)))) e ∙ drop-append-seam (tagOf (p .option)) (writtenBody (said p))
 
--- ---- a field written out in a room for it
-module _ (p : Party) (g : isGiven (said p) ≡ true) where
-  abbrev field : List ℕ
-  field = writtenField (said p)
+-- ---- a record placed in a room for it
+-- the record is given, and the first n bytes of the room are its field
+pub record Held (p : Party) (room : List ℕ) (n : ℕ) : Type 0 where
+  pub given : isGiven (said p) ≡ true
+  pub size : length room ≡ fieldMost
+  pub len : n ≡ length (writtenField (said p))
+  pub text : take n room ≡ writtenField (said p)
 
-  pub field-most : length field ≤ fieldMost
-  field-most = written-most p (given-exact p .yes g)
+module _ (p : Party) (d : List ℕ) (z : length d ≡ fieldMost) {e : List ℕ} where
+  -- what is answered there is what measuring answers
+  pub room-measured : {m : Measured} → (record { answer = m; buffer = e }) ≡ place (said p) d → measure (said p) ≡ m
+  room-measured q = sym (measure-and-place p d .agrees (omega (arith, z))) ∙ ap (λ (x : Placing). x .answer) (sym q)
 
-  module _ (d e : List ℕ) (n : length d ≡ fieldMost) (q : e ≡ placed d 0 field) where
-    put-out : e ≡ put d 0 field
-    put-out = q ∙ rw (le-leb (0 + length field) (length d) (omega (arith, field-most, n)), placed)
-
-    pub room-length : length e ≡ fieldMost
-    room-length = ap length put-out ∙ put-length d 0 field (omega (arith, field-most, n)) ∙ n
-
-    pub room-field : take (length field) e ≡ field
-    room-field =
-        ap (take (length field)) put-out ∙ ap (λ (k : ℕ). take k (put d 0 field)) (sym (zero-add (length field))) ∙ put-take d 0 field (omega (arith, field-most, n))
+  pub room-held : {n : ℕ} → (record { answer = lengthIs n; buffer = e }) ≡ place (said p) d → Held p e n
+  room-held {n} q =
+      let f = writtenField (said p) in
+      let m = room-measured q in
+      let s = measure-and-place p d .measured m in
+      let g = measured (said p) m .0 in
+      let most = written-most p (given-exact p .yes g) in
+      let b : e ≡ f ++ drop n d = ap (λ (x : Placing). x .buffer) (q ∙ s .enough (omega (arith, s .exact))) in
+      record {
+        given = g;
+        size = ap length b ∙ omega (arith, s .exact, length-append f (drop n d), length-drop n d);
+        len = s .exact;
+        text = ap (take n) b ∙ take-at f (drop n d) n (sym (s .exact));
+      }
 
 -- ---- a text that was put, and the LF after it
 pub line-puts : (d : List ℕ) (at : ℕ) (f : List ℕ) → at + length f < length d → {e : List ℕ} → e ≡ placed d at f → Puts d at (withLf f) (set e (at + length f) 10) (at + length f + 1)

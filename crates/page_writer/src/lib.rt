@@ -8,11 +8,10 @@ use party::Party;
 use party::PartyOption;
 use party::index_of;
 use writer::FIELD_MOST;
-use writer::is_given;
-use writer::put_field;
+use writer::Measured;
+use writer::place;
 use writer::put_text;
 use writer::tag_length;
-use writer::written_length;
 ghost use mathlib.Core.Path.{_≡_};
 ghost use mathlib.Core.Bool.{false, true};
 ghost use Prim.Native.Nat.{_+_, _-_, _≤_, _<_, min};
@@ -23,17 +22,11 @@ ghost use Rattle.writer.specs.Code.{Puts};
 ghost use Rattle.writer.specs.ReadBack.{endsCr, identified59F};
 ghost use Rattle.page_reader.specs.Pages.{pageMost};
 ghost use Rattle.page_writer.specs.Adding.{linesCarried, isCarried, writable, hasSpace, withLf, add as addTo, close as closeAt, toldCall};
-ghost use Rattle.page_writer.specs.Code.{Measures, lineCall};
+ghost use Rattle.page_writer.specs.Code.{lineCall};
 
 // Adding and closing answer the position after, or a refusal.
 pub enum Filed {
     Position(usize),
-    Refused(ParseError),
-}
-
-// What a page asks of a record is refused, or the record's field has a length.
-enum Measured {
-    Length(usize),
     Refused(ParseError),
 }
 
@@ -139,23 +132,6 @@ fn put_line(buf: &mut [u8], at: usize, text: &[u8]) -> usize
     end + 1
 }
 
-// Measures what a page asks of a record, wherever it is added: 22, 23, or the length of its field, which is written out in the room, to see
-// the lines as they would stand.
-fn measure(p: Party, room: &mut [u8]) -> Measured
-    requires { ⌜ length (now room) ≡ fieldMost ⌝ }
-    ensures { λ r. ⌜ Measures (said p) (now (room .exit)) r ⌝ }
-{
-    if !is_given(p) {
-        return Measured::Refused(ParseError::NoSuchRecord);
-    }
-    let n = written_length(p);
-    put_field(p, room, 0);
-    if !is_carried(p, &room[..n]) {
-        return Measured::Refused(ParseError::NotCarried);
-    }
-    Measured::Length(n)
-}
-
 // Files a text and an LF at a position, where they and so many spare bytes have space; else 24.
 fn file_line(buf: &mut [u8], at: usize, text: &[u8], spare: usize) -> Filed
     requires { ⌜ (length (now text) ≤ fieldMost) × (spare ≤ 2) ⌝ }
@@ -168,7 +144,7 @@ fn file_line(buf: &mut [u8], at: usize, text: &[u8], spare: usize) -> Filed
     Filed::Position(end)
 }
 
-// Adds a record to the page at a position: 21, 22, 23, 24.
+// Adds a record to the page at a position: 21, 22, 23, 24. Its field is placed in a room first, to see the lines as they would stand.
 pub fn add(p: Party, buf: &mut [u8], at: usize) -> Filed
     ensures { λ r. ⌜ toldCall r (now (buf .exit)) ≡ addTo (now (buf .entry)) at (said p) ⌝ }
 {
@@ -176,8 +152,13 @@ pub fn add(p: Party, buf: &mut [u8], at: usize) -> Filed
     if !is_writable(buf, at) {
         return Filed::Refused(ParseError::Position);
     }
-    match measure(p, &mut room) {
-        Measured::Length(n) => file_line(buf, at, &room[..n], 2),
+    match place(p, &mut room) {
+        Measured::Length(n) => {
+            if !is_carried(p, &room[..n]) {
+                return Filed::Refused(ParseError::NotCarried);
+            }
+            file_line(buf, at, &room[..n], 2)
+        }
         Measured::Refused(e) => Filed::Refused(e),
     }
 }

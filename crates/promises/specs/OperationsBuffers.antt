@@ -2,10 +2,11 @@
 -- each by computation. A field is named after its operation and the mistake, and its comment says what the wrong program does.
 use mathlib.Core.Path.{_≡_, refl}
 use mathlib.Core.Bool.{true, false}
-use mathlib.Core.List.{List, [], _∷_, _++_}
+use mathlib.Core.List.{List, [], _∷_, _++_, map}
 use Prim.Native.Nat.{ℕ, _+_, _*_}
 use lib.ListN.{length, getD, drop, replicate}
 use Rattle.party.specs.declared.PartyOption.the-variants.{Field50NoOption, Field50A, Field50F, Field50C, Field59NoOption, Field59A, Field59F}
+use Rattle.party.specs.declared.Party.{Party}
 use Rattle.party.specs.Limits.{placeOf, optionAt}
 use Rattle.party.specs.Text.{padded, textOf, fourTexts}
 use Rattle.party.specs.Party.{blank, said}
@@ -20,45 +21,62 @@ use Rattle.reader.specs.Reading.{partyOf}
 use Rattle.reader.specs.Options.{accountHead, shortAccountHead, afterHead, read}
 use Rattle.choices.specs.Detection.{anyNumbered, firstLine, lastLine, bicLike, testLine}
 use Rattle.choices.specs.Choices.{firstThat, parse, pickOf, parseWithVariant}
-use Rattle.writer.specs.Writing.{nameLines, writtenLines, joined, writtenBody, writtenField, fits, placed, pieces}
-use Rattle.writer.specs.Given.{isLine, areNames, isGiven, written}
+use Rattle.writer.specs.Writing.{nameLines, writtenLines, joined, writtenBody, writtenField, fieldMost, fits, placed, pieces}
+use Rattle.writer.specs.Given.{isLine, areNames, isGiven}
+use Rattle.writer.specs.Placing.{lengthIs, refusedWith, measure, place}
 use Rattle.writer.specs.ReadBack.{endsCr, lastEmpty, identified59F}
 use Rattle.page_reader.specs.Pages.{lineAt, opens, isEnd, endsPage, endsAt, runs, begins, tagIn, readField, readCase, readAt, bodyPlace}
 use Rattle.page_writer.specs.Adding.{anyCr, anyBoundary, laterBoundary, isCarried, writable, refusal, asked, recordReply, add, close}
 use Rattle.page_writer.specs.Fold.{run}
 use Rattle.flat.specs.Flat.{recordSize, flatTexts, flatten, stored, textAt, isFlat, partyFrom, unflatten}
 use Rattle.yewdome.specs.Filing.{readsFrom}
-use Rattle.yewdome.specs.Interface.{partyRead, partyParse, partyParseWithVariant, partyWrite, pageRead, pageBody, pageAdd, pageClose, pageAnswers, pageFile}
-use Rattle.promises.specs.Starred.{gives, fieldOf}
+use Rattle.yewdome.specs.Interface.{partyRead, partyParse, partyParseWithVariant, partyMeasure, partyPlace, pageRead, pageBody, pageAdd, pageClose, pageAnswers, pageFile}
+use Rattle.promises.specs.Starred.{gives}
 use Rattle.promises.specs.Filing.{of}
+
+-- 59F with an identifier and texts that are the longest, as its field is then
+abbrev longest : Party
+longest = gives Field59F true (bytes "AA/" ++ replicate 34 65) [] (map (λ (k : ℕ). (48 + k) ∷ 47 ∷ replicate 33 65) (1 ∷ 2 ∷ 3 ∷ 4 ∷ [])) .party
 
 pub record WriterOperations : Type 0 where
   -- counts a letter in every tag
   pub tag-length-counts-a-letter : length (tagOf Field50NoOption) ≡ 4
   -- leaves the closing colon out
   pub tag-length-leaves-the-colon : length (tagOf Field59A) ≡ 5
+  -- is one byte short, or one long
+  pub measure-is-one-off : measure (said (of (bytes "A" ∷ []))) ≡ lengthIs 6
   -- leaves out the empty line after 59F's identifier
-  pub written-length-leaves-the-gap : length (fieldOf (gives Field59F true (bytes "1") [] (bytes "1/A" ∷ []))) ≡ length (bytes ":59F:/1\n\n1/A")
+  pub measure-leaves-the-gap : measure (said (gives Field59F true (bytes "1") [] (bytes "1/A" ∷ []) .party)) ≡ lengthIs (length (bytes ":59F:/1\n\n1/A"))
   -- leaves out the numbers of 50F
-  pub written-length-leaves-numbers : length (fieldOf (gives Field50F true (bytes "X") [] (bytes "A" ∷ []))) ≡ length (bytes ":50F:X\n1/A")
-  -- has no space for a field that fills the buffer to its end
-  pub put-field-asks-for-more : fits (bytes "abcdef") 0 (writtenField (said (of (bytes "A" ∷ [])))) ≡ true
-  -- writes at the start, whatever the place
-  pub put-field-starts-anew : placed (bytes "abcdefgh") 1 (writtenField (said (of (bytes "A" ∷ [])))) ≡ bytes "a:50K:Ah"
+  pub measure-leaves-numbers : measure (said (gives Field50F true (bytes "X") [] (bytes "A" ∷ []) .party)) ≡ lengthIs (length (bytes ":50F:X\n1/A"))
+  -- refuses with 24 the longest field that there is
+  pub measure-refuses-with-24 : measure (said longest) ≡ lengthIs fieldMost
+  -- gives a length for a record that no reader gives
+  pub measure-takes-all : measure (said (of [])) ≡ refusedWith 22 0
+  -- believes that the field is as long as the buffer: tells 8, or changes a byte after the field
+  pub place-believes-the-buffer : place (said (of (bytes "A" ∷ []))) (bytes "abcdefgh") ≡ record { answer = lengthIs 6; buffer = bytes ":50K:Agh" }
+  -- believes that it takes the most that a field can, or one byte more than it does: 24 with bytes free
+  pub place-believes-the-most : place (said (of (bytes "A" ∷ []))) (bytes "abcdef") ≡ record { answer = lengthIs 6; buffer = bytes ":50K:A" }
+  -- believes that it takes one byte less, and puts what there is space for
+  pub place-believes-less : place (said (of (bytes "A" ∷ []))) (bytes "abcde") ≡ record { answer = refusedWith 24 0; buffer = bytes "abcde" }
   -- has no space for a text that fills the buffer to its end
   pub put-text-asks-for-more : fits (bytes "abc") 1 (bytes "AB") ≡ true
   -- changes the byte after the text
   pub put-text-writes-on : placed (bytes "abcd") 1 (bytes "AB") ≡ bytes "aABd"
 
 pub writer-operations : WriterOperations
-unfolding padded textOf said fourTexts partyOf nameLines writtenLines joined writtenBody writtenField tagOf
+unfolding padded textOf said letter digit alphanumeric signs legal parseSwiftChars parseAccount upto starts isNumbered secondSlash identifierReply parseLine parseLines parseNameAndAddress fourTexts partyOf nameLines writtenLines joined writtenBody writtenField isLine areNames isGiven measure place tagOf
 writer-operations = record {
   tag-length-counts-a-letter = refl;
   tag-length-leaves-the-colon = refl;
-  written-length-leaves-the-gap = refl;
-  written-length-leaves-numbers = refl;
-  put-field-asks-for-more = refl;
-  put-field-starts-anew = refl;
+  measure-is-one-off = refl;
+  measure-leaves-the-gap = refl;
+  measure-leaves-numbers = refl;
+  measure-refuses-with-24 = refl;
+  measure-takes-all = refl;
+  place-believes-the-buffer = refl;
+  place-believes-the-most = refl;
+  place-believes-less = refl;
   put-text-asks-for-more = refl;
   put-text-writes-on = refl;
 }
@@ -131,16 +149,26 @@ pub record YewdomeOperations : Type 0 where
   pub party-parse-with-variant-stores : partyParseWithVariant 2 (bytes "A") 97 lent .bytes ≡ lent
   -- detects without a letter, and stores a 59A
   pub party-parse-with-variant-detects : getD (partyParseWithVariant 5 (bytes "ABCDEFGH") 0 lent .bytes) 0 0 ≡ placeOf Field59NoOption
-  -- tests 24 before 22
-  pub party-write-tests-space-first : partyWrite (replicate recordSize 0) [] .code ≡ 22 * 65536
+  -- gives what a record takes on a page, with its LF and the end
+  pub party-measure-counts-the-end : partyMeasure flatA ≡ 6
+  -- gives a length for a record that no reader gives
+  pub party-measure-takes-all : partyMeasure (replicate recordSize 0) ≡ 22 * 65536
   -- refuses a lent record of over 237 bytes
-  pub party-write-refuses-238 : partyWrite (flatA ++ 7 ∷ []) (replicate 6 0) .code ≡ 6
+  pub party-measure-refuses-238 : partyMeasure (flatA ++ 7 ∷ []) ≡ 6
   -- tests 41 before 42
-  pub party-write-tests-the-option-first : partyWrite (11 ∷ []) [] .code ≡ 42 * 65536
+  pub party-measure-tests-the-option-first : partyMeasure (11 ∷ []) ≡ 42 * 65536
+  -- measures by the first option where there is none
+  pub party-measure-takes-11 : partyMeasure (11 ∷ replicate recordSize 0) ≡ 41 * 65536
+  -- tests 24 before 22
+  pub party-place-tests-space-first : partyPlace (replicate recordSize 0) [] .code ≡ 22 * 65536
+  -- refuses a lent record of over 237 bytes
+  pub party-place-refuses-238 : partyPlace (flatA ++ 7 ∷ []) (replicate 6 0) .code ≡ 6
+  -- tests 41 before 42
+  pub party-place-tests-the-option-first : partyPlace (11 ∷ []) [] .code ≡ 42 * 65536
   -- writes by the first option where there is none
-  pub party-write-takes-11 : partyWrite (11 ∷ replicate recordSize 0) [] .code ≡ 41 * 65536
+  pub party-place-takes-11 : partyPlace (11 ∷ replicate recordSize 0) [] .code ≡ 41 * 65536
   -- gives 0 where it accepts
-  pub party-write-gives-0 : partyWrite flatA (replicate 6 0) ≡ record { code = 6; bytes = bytes ":50K:A" }
+  pub party-place-gives-0 : partyPlace flatA (replicate 6 0) ≡ record { code = 6; bytes = bytes ":50K:A" }
   -- does not tell the end from a record
   pub page-read-hides-the-end : pageRead (bytes "-\n") 0 lent .code ≡ 65536 + 2
   -- gives the next position, and not how far it is
@@ -178,7 +206,7 @@ pub record YewdomeOperations : Type 0 where
   pub page-file-tests-late : pageFile (bytes "-\n") (bytes "ab") [] ≡ record { code = 43 * 65536; bytes = bytes "ab"; answers = [] }
 
 pub yewdome-operations : YewdomeOperations
-unfolding padded textOf said letter digit alphanumeric signs legal parseSwiftChars parseAccount bicLength parseBic upto onto starts lines white trimmedStart keep trimmedEnd trimmed isNumbered secondSlash identifierReply parsePartyIdentifier parseLine parseLines parseNameAndAddress fourTexts partyOf accountHead shortAccountHead afterHead read anyNumbered firstLine lastLine bicLike firstThat pickOf testLine nameLines writtenLines joined writtenBody writtenField pieces isLine areNames isGiven written endsCr lastEmpty identified59F withoutCr lineAt isEnd endsPage runs begins tagIn readField readAt isCarried writable asked recordReply add close flatTexts flatten stored optionAt textAt isFlat partyFrom unflatten parse parseWithVariant readCase anyCr anyBoundary laterBoundary bodyPlace tagOf run readsFrom
+unfolding padded textOf said letter digit alphanumeric signs legal parseSwiftChars parseAccount bicLength parseBic upto onto starts lines white trimmedStart keep trimmedEnd trimmed isNumbered secondSlash identifierReply parsePartyIdentifier parseLine parseLines parseNameAndAddress fourTexts partyOf accountHead shortAccountHead afterHead read anyNumbered firstLine lastLine bicLike firstThat pickOf testLine nameLines writtenLines joined writtenBody writtenField pieces isLine areNames isGiven measure place endsCr lastEmpty identified59F withoutCr lineAt isEnd endsPage runs begins tagIn readField readAt isCarried writable asked recordReply add close flatTexts flatten stored optionAt textAt isFlat partyFrom unflatten parse parseWithVariant readCase anyCr anyBoundary laterBoundary bodyPlace tagOf run readsFrom
 yewdome-operations = record {
   party-read-drops-the-line = refl;
   party-read-takes-11 = refl;
@@ -186,11 +214,16 @@ yewdome-operations = record {
   party-parse-tests-space-last = refl;
   party-parse-with-variant-stores = refl;
   party-parse-with-variant-detects = refl;
-  party-write-tests-space-first = refl;
-  party-write-refuses-238 = refl;
-  party-write-tests-the-option-first = refl;
-  party-write-takes-11 = refl;
-  party-write-gives-0 = refl;
+  party-measure-counts-the-end = refl;
+  party-measure-takes-all = refl;
+  party-measure-refuses-238 = refl;
+  party-measure-tests-the-option-first = refl;
+  party-measure-takes-11 = refl;
+  party-place-tests-space-first = refl;
+  party-place-refuses-238 = refl;
+  party-place-tests-the-option-first = refl;
+  party-place-takes-11 = refl;
+  party-place-gives-0 = refl;
   page-read-hides-the-end = refl;
   page-read-gives-the-position = refl;
   page-body-leaves-the-empty = refl;

@@ -1,4 +1,4 @@
--- What writing a field promises of every buffer, and records at the edge of 22 (document 01, 'From the state').
+-- What placing a field promises of every buffer, and records at the edge of 22 (document 01, 'From the state'; document 02, Two).
 use mathlib.Core.Path.{_≡_, refl, sym, _∙_, ap}
 use mathlib.Core.Bool.{true, false}
 use mathlib.Core.List.{List, [], _∷_}
@@ -8,7 +8,7 @@ use native.Mathlib.Omega.{arith}
 use lib.ListN.{length, take, drop, replicate}
 use lib.Seq.{take-at, drop-at, take-length}
 use borrow.Author.Tests.{le-leb, lt-leb}
-use Rattle.errors.specs.Refusals.{Reply, accepted, refused}
+use Rattle.errors.specs.Refusals.{Reply, accepted, refused, must, _then_}
 use Rattle.party.specs.declared.PartyOption.the-variants.{Field50K}
 use Rattle.party.specs.declared.Party.{Party}
 use Rattle.party.specs.declared.Text.{Text}
@@ -18,55 +18,57 @@ use Rattle.swift_utils.specs.Bytes.{bytes, letter, digit, alphanumeric, signs, 
 use Rattle.swift_utils.specs.Checks.{parseSwiftChars, parseAccount}
 use Rattle.field_utils.specs.Lines.{starts}
 use Rattle.field_utils.specs.Names.{parseLine, parseLines, parseNameAndAddress}
-use Rattle.writer.specs.Writing.{Writing, writing, nameLines, writtenField, put}
-use Rattle.writer.specs.Given.{isLine, areNames, isGiven, writeReply, written}
+use Rattle.writer.specs.Writing.{nameLines, writtenField, put, fits}
+use Rattle.writer.specs.Given.{isLine, areNames, isGiven}
+use Rattle.writer.specs.Placing.{lengthIs, refusedWith, placing, place}
 
--- writing what s says into a buffer
+-- placing what s says in a buffer
 pub record Writes (s : Said) (buffer : List ℕ) : Type 0 where
   -- 22, whatever the space; then 24 exactly where the field passes the buffer: exactly enough space is enough
-  pub none : isGiven s ≡ false → written s buffer .reply ≡ refused 22 0
-  pub enough : isGiven s ≡ true → length (writtenField s) ≤ length buffer → written s buffer .reply ≡ accepted
-  pub short : isGiven s ≡ true → length buffer < length (writtenField s) → written s buffer .reply ≡ refused 24 0
+  pub none : isGiven s ≡ false → place s buffer .answer ≡ refusedWith 22 0
+  pub enough : isGiven s ≡ true → length (writtenField s) ≤ length buffer → place s buffer .answer ≡ lengthIs (length (writtenField s))
+  pub short : isGiven s ≡ true → length buffer < length (writtenField s) → place s buffer .answer ≡ refusedWith 24 0
   -- a refusal changes no byte
-  pub kept : {k n : ℕ} → written s buffer .reply ≡ refused k n → written s buffer .buffer ≡ buffer
+  pub kept : {k l : ℕ} → place s buffer .answer ≡ refusedWith k l → place s buffer .buffer ≡ buffer
   -- an accepted field stands at the start, with its length, and no byte after it changes
-  pub start : written s buffer .reply ≡ accepted → take (length (writtenField s)) (written s buffer .buffer) ≡ writtenField s
-  pub rest : written s buffer .reply ≡ accepted → drop (length (writtenField s)) (written s buffer .buffer) ≡ drop (length (writtenField s)) buffer
-  pub told : written s buffer .reply ≡ accepted → written s buffer .len ≡ length (writtenField s)
+  pub start : {n : ℕ} → place s buffer .answer ≡ lengthIs n → take (length (writtenField s)) (place s buffer .buffer) ≡ writtenField s
+  pub rest : {n : ℕ} → place s buffer .answer ≡ lengthIs n → drop (length (writtenField s)) (place s buffer .buffer) ≡ drop (length (writtenField s)) buffer
+  pub told : {n : ℕ} → place s buffer .answer ≡ lengthIs n → n ≡ length (writtenField s)
 
-module _ (text buffer : List ℕ) where
-  reply-is : (r : Reply) → writing r text buffer .reply ≡ r
-  reply-is accepted = refl
-  reply-is (refused k n) = refl
-
-  kept-is : (r : Reply) {k n : ℕ} → r ≡ refused k n → writing r text buffer .buffer ≡ buffer
-  kept-is r e = ap (λ (w : Reply). writing w text buffer .buffer) e
-
-  written-is : (r : Reply) → r ≡ accepted → writing r text buffer ≡ writing accepted text buffer
-  written-is r e = ap (λ (w : Reply). writing w text buffer) e
+length≢refusal : {n k l : ℕ} → lengthIs n ≡ refusedWith k l → ⊥
+length≢refusal e = let z : _≡_ {A = ℕ} 0 1 = cc in omega arith
 
 -- a text put at the start stands there, and what follows it stays
-start-is : (text buffer : List ℕ) → take (length text) (put buffer 0 text) ≡ text
-start-is text buffer = take-at (take (length text) text) (drop (0 + length text) buffer) (length text) (ap length (take-length text)) ∙ take-length text
+module _ (text buffer : List ℕ) where
+  start-is : take (length text) (put buffer 0 text) ≡ text
+  start-is = take-at (take (length text) text) (drop (0 + length text) buffer) (length text) (ap length (take-length text)) ∙ take-length text
 
-rest-is : (text buffer : List ℕ) → drop (length text) (put buffer 0 text) ≡ drop (length text) buffer
-rest-is text buffer =
-    drop-at (take (length text) text) (drop (0 + length text) buffer) (length text) (ap length (take-length text)) ∙ ap (λ (k : ℕ). drop k buffer) (zero-add (length text))
+  rest-is : drop (length text) (put buffer 0 text) ≡ drop (length text) buffer
+  rest-is =
+      drop-at (take (length text) text) (drop (0 + length text) buffer) (length text) (ap length (take-length text)) ∙ ap (λ (k : ℕ). drop k buffer) (zero-add (length text))
+
+  -- by what the checks say
+  kept-is : (r : Reply) {k l : ℕ} → placing r text buffer .answer ≡ refusedWith k l → placing r text buffer .buffer ≡ buffer
+  kept-is accepted e = absurd (length≢refusal e)
+  kept-is (refused k l) e = refl
+
+  put-is : (r : Reply) {n : ℕ} → placing r text buffer .answer ≡ lengthIs n → (placing r text buffer .buffer ≡ put buffer 0 text) × (n ≡ length text)
+  put-is accepted e = (refl, cc)
+  put-is (refused k l) e = absurd (length≢refusal (sym e))
 
 pub writes : (s : Said) (buffer : List ℕ) → Writes s buffer
-unfolding written
+unfolding place
 writes s buffer =
     let text = writtenField s in
-    let r = writeReply s buffer in
-    let is = reply-is text buffer r in
+    let r = must (isGiven s) 22 0 then must (fits buffer 0 text) 24 0 in
     record {
-      none = λ e. is ∙ rw e;
-      enough = λ e h. is ∙ rw (e, le-leb (0 + length text) (length buffer) (omega arith));
-      short = λ e h. is ∙ rw (e, lt-leb (0 + length text) (length buffer) (omega arith));
-      kept = λ e. kept-is text buffer r (sym is ∙ e);
-      start = λ e. ap (λ (w : Writing). take (length text) (w .buffer)) (written-is text buffer r (sym is ∙ e)) ∙ start-is text buffer;
-      rest = λ e. ap (λ (w : Writing). drop (length text) (w .buffer)) (written-is text buffer r (sym is ∙ e)) ∙ rest-is text buffer;
-      told = λ e. ap (λ (w : Writing). w .len) (written-is text buffer r (sym is ∙ e));
+      none = λ e. rw e;
+      enough = λ e h. rw (e, le-leb (0 + length text) (length buffer) (omega arith));
+      short = λ e h. rw (e, lt-leb (0 + length text) (length buffer) (omega arith));
+      kept = kept-is text buffer r;
+      start = λ e. ap (take (length text)) (put-is text buffer r e .0) ∙ start-is text buffer;
+      rest = λ e. ap (drop (length text)) (put-is text buffer r e .0) ∙ rest-is text buffer;
+      told = λ e. put-is text buffer r e .1;
     }
 
 -- ---- records at the edge of 22

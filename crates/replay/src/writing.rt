@@ -1,10 +1,11 @@
-// The record of a case, written by our writer and compared with the text that the Rust writes of it.
+// The record of a case, measured and placed by our writer and compared with the text that the Rust writes of it.
 use crate::answer::Reply;
 use crate::rules::is_accepted;
 use crate::rules::is_ascii;
-use errors::Outcome;
 use party::Party;
-use writer::to_swift_string;
+use writer::Measured;
+use writer::measure;
+use writer::place;
 ghost use Prim.Native.Nat.{_≤_};
 ghost use lib.ListN.{length};
 
@@ -41,36 +42,42 @@ pub(crate) fn write(rust: Reply, text: &[u8]) -> Writing {
     Writing::Differs
 }
 
-// Into buffers one byte short, exact and one byte over: the first is refused with 24.
+// It is measured, and placed in buffers one byte short, exact and one byte over: the first is refused with 24.
 fn is_written(party: Party, text: &[u8]) -> bool
     requires { ⌜ (1 ≤ length (now text)) × (length (now text) ≤ 240) ⌝ }
 {
     let len = text.len();
-    gives(party, len - 1, 24, b"") && gives(party, len, 0, text) && gives(party, len + 1, 0, text)
+    is_answer(measure(party), 0, len)
+        && gives(party, len - 1, 24, b"")
+        && gives(party, len, 0, text)
+        && gives(party, len + 1, 0, text)
 }
 
-// Into the same three: each is refused with 22.
+// To be measured and placed in the same three: each is refused with 22.
 fn is_refused(party: Party, len: usize) -> bool
     requires { ⌜ (1 ≤ len) × (len ≤ 240) ⌝ }
 {
-    gives(party, len - 1, 22, b"") && gives(party, len, 22, b"") && gives(party, len + 1, 22, b"")
+    is_answer(measure(party), 22, 0)
+        && gives(party, len - 1, 22, b"")
+        && gives(party, len, 22, b"")
+        && gives(party, len + 1, 22, b"")
 }
 
-// Whether writing into a buffer of a size, lent from a stale room, gives this number (0: accepted) and this text, and changes no other byte.
+// Whether placing in a buffer of a size, lent from a stale room, gives this number (0: accepted) and this text, and changes no other byte.
 fn gives(party: Party, size: usize, number: u8, text: &[u8]) -> bool
     requires { ⌜ size ≤ 241 ⌝ }
 {
     let mut room = stale_room();
     let end = 8 + size;
-    let written = to_swift_string(party, &mut room[8..end]);
-    let outcome = written.outcome;
-    is_outcome(outcome, number) && written.len == text.len() && has_only(&room, text)
+    let answer = place(party, &mut room[8..end]);
+    is_answer(answer, number, text.len()) && has_only(&room, text)
 }
 
-fn is_outcome(outcome: Outcome, number: u8) -> bool {
-    match outcome {
-        Outcome::Accepted => number == 0,
-        Outcome::Refused(e) => {
+// Whether the answer is this number (0: accepted), with this length or without a line.
+fn is_answer(answer: Measured, number: u8, len: usize) -> bool {
+    match answer {
+        Measured::Length(n) => number == 0 && n == len,
+        Measured::Refused(e) => {
             let refusal = e.refusal();
             refusal.number == number && refusal.line == 0
         }

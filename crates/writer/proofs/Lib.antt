@@ -3,6 +3,7 @@ pub mod Fields
 pub mod Texts
 pub mod Names
 pub mod Records
+pub mod Pairs
 pub mod Relined
 pub mod Sayings
 pub mod NamePasses

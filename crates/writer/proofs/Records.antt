@@ -13,7 +13,7 @@ use Rattle.party.specs.declared.Text.{Text}
 use Rattle.party.specs.declared.Party.{Party}
 use Rattle.party.specs.Limits.{limitsOf}
 use Rattle.party.specs.Text.{Used, used}
-use Rattle.party.specs.Party.{Said, said, where-limit}
+use Rattle.party.specs.Party.{said, where-limit}
 use Rattle.party.specs.declared.Numbering.{Numbering}
 use Rattle.party.specs.declared.Numbering.the-variants.{Unnumbered, Numbered, InTurn}
 use Rattle.party.specs.declared.First.the-variants.{Account, ShortAccount, AnyAccount}
@@ -24,8 +24,8 @@ use Rattle.field_utils.specs.Identifier.{isNumbered}
 use Rattle.field_utils.specs.Names.{skipOf, parseNumber, parseLine, parseLines, parseCount, parseNameAndAddress}
 use Rattle.field_utils.proofs.NameLines.{and-first, number-room, number-legal}
 use Rattle.reader.specs.Options.{accountReply, lengthReply, ascii}
-use Rattle.writer.specs.Writing.{numberOf, nameLines, writtenField, put, fits, placed}
-use Rattle.writer.specs.Given.{passes, every, isLine, textReply, isAccount, isPresence, isBic, areNames, isTaken, isGiven, written}
+use Rattle.writer.specs.Writing.{numberOf, nameLines}
+use Rattle.writer.specs.Given.{passes, every, isLine, textReply, isAccount, isPresence, isBic, areNames, isTaken, isGiven}
 use Rattle.writer.specs.Code.{lineReply, numberIn, isName, allNames, slashName}
 use Rattle.writer.proofs.Texts.{all-plain}
 use Rattle.writer.proofs.NamePasses.{passed, written-length}
@@ -196,21 +196,3 @@ module _ (p : Party) where
       (a && b && c && d && not (not e && isTaken (limitsOf (p .option) .first) (said p .names))) ≡ isGiven (said p)
   unfolding isGiven said
   given-by f g h i j = rw (← f, ← g, ← h, ← i, ← j)
-
--- ---- what writing gives
-module _ (s : Said) (buffer : List ℕ) where
-  pub written-22 : isGiven s ≡ false → (record { reply = refused 22 0; len = 0; buffer = buffer }) ≡ written s buffer
-  unfolding written
-  written-22 e = rw e
-
-  -- by the buffer that is left
-  module _ (given : isGiven s ≡ true) {left : List ℕ} (l : left ≡ placed buffer 0 (writtenField s)) where
-    pub written-24 : fits buffer 0 (writtenField s) ≡ false → (record { reply = refused 24 0; len = 0; buffer = left }) ≡ written s buffer
-    unfolding written
-    written-24 e = let same : left ≡ buffer = l ∙ rw (e, placed) in rw (given, e, same)
-
-    pub written-all :
-        {n : ℕ} → n ≡ length (writtenField s) → fits buffer 0 (writtenField s) ≡ true →
-        (record { reply = accepted; len = n; buffer = left }) ≡ written s buffer
-    unfolding written
-    written-all k e = let here : left ≡ put buffer 0 (writtenField s) = l ∙ rw (e, placed) in rw (given, e, here, k)

@@ -1,4 +1,5 @@
--- What a user of the writer gets: the test for 22 is exact, and when a written body is read back. Assumes nothing.
+-- What a user of the writer gets: the test for 22 is exact, measuring says what placing does, and when a written body is read back. Assumes
+-- nothing.
 use mathlib.Core.Path.{_≡_, sym, _∙_, ap, subst}
 use mathlib.Core.Bool.{true, false, true≢false}
 use mathlib.Core.List.{List}
@@ -12,11 +13,13 @@ use Rattle.party.specs.Limits.{limitsOf}
 use Rattle.reader.specs.Options.{foundBy, read}
 use Rattle.writer.specs.Writing.{writtenBody, writtenField, fieldMost}
 use Rattle.writer.specs.Given.{Given, isGiven}
+use Rattle.writer.specs.Placing.{Pair}
 use Rattle.writer.specs.ReadBack.{identified59F, isReadBack, ReadsBack}
 use Rattle.writer.proofs.Relined.{weight}
 use Rattle.writer.proofs.Sayings.{said-with, saying}
 use Rattle.writer.proofs.Facts.{Facts, is-given}
 use Rattle.writer.proofs.Bare.{bare}
+use Rattle.writer.proofs.Pairs.{pair}
 use Rattle.writer.proofs.Sizes.{field-most, field-less}
 use Rattle.writer.proofs.Sufficient.{parts, given-facts, same-found, sufficient}
 use Rattle.writer.proofs.Necessary.{readLines}
@@ -72,3 +75,8 @@ module _ (p : Party) (g : Given p) where
   pub written-less : identified59F (said p) ≡ false → length (writtenField (said p)) ≤ 184
   written-less e =
       subst (λ (s : Said). length (writtenField s) ≤ 184) (sym (said-with p)) (field-less _ _ _ _ _ _ h (ap identified59F (sym (said-with p)) ∙ e))
+
+-- of every record value and every buffer: measuring gives the exact length of the field that placing puts there, or 22; placing needs just
+-- that space
+pub measure-and-place : (p : Party) (buffer : List ℕ) → Pair (said p) buffer
+measure-and-place p buffer = pair (said p) buffer (λ e. written-most p (sufficient p e))

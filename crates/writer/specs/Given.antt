@@ -19,7 +19,7 @@ use Rattle.field_utils.specs.Lines.{starts}
 use Rattle.field_utils.specs.Identifier.{identifierReply}
 use Rattle.field_utils.specs.Names.{parseNameAndAddress}
 use Rattle.reader.specs.Options.{accountReply, lengthReply, ascii, read}
-use Rattle.writer.specs.Writing.{Writing, writing, writtenField, nameLines, fits}
+use Rattle.writer.specs.Writing.{nameLines}
 
 -- a record that a reader can give: the same as one that an accepted body gives ('A whole page')
 pub record Given (p : Party) : Type 0 where
@@ -92,11 +92,3 @@ isGiven s =
     && every isBic (s .bic)
     && areNames (s .option) (s .count) (s .names)
     && not (not (s .present) && isTaken (limitsOf (s .option) .first) (s .names))
-
--- 22 a record the same as none that an accepted body gives, then 24
-abbrev pub writeReply : Said → List ℕ → Reply
-writeReply s buffer = must (isGiven s) 22 0 then must (fits buffer 0 (writtenField s)) 24 0
-
--- writing a field into a buffer
-unfoldable pub written : Said → List ℕ → Writing
-written s buffer = writing (writeReply s buffer) (writtenField s) buffer

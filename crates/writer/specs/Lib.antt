@@ -1,4 +1,5 @@
 pub mod Writing
 pub mod Given
+pub mod Placing
 pub mod ReadBack
 pub mod Code

@@ -5,7 +5,6 @@ use mathlib.Core.List.{List, [], _∷_, _++_, map}
 use lib.Dec.{leb, eqb}
 use lib.ListN.{length}
 use lib.Seq.{paste}
-use Rattle.errors.specs.Refusals.{Reply, accepted, refused, told}
 use Rattle.party.specs.declared.PartyOption.{PartyOption}
 use Rattle.party.specs.Text.{Used}
 use Rattle.party.specs.Party.{Said}
@@ -15,7 +14,6 @@ use Rattle.party.specs.Limits.{limitsOf}
 use Rattle.swift_utils.specs.Bytes.{bytes}
 use Rattle.field_utils.specs.Lines.{onto}
 use Rattle.field_utils.specs.Tags.{tagOf}
-use Rattle.writer.specs.declared.Written.{Written}
 
 -- what stands before an account or identifier: `/`, but for 50F and 50L (field50.rs)
 abbrev pub slashOf : PartyOption → List ℕ
@@ -82,18 +80,3 @@ fits buffer at text = leb (at + length text) (length buffer)
 -- a buffer after a text was put at a place, where it fits; else it is as it was
 abbrev pub placed : List ℕ → ℕ → List ℕ → List ℕ
 placed buffer at text = elim (fits buffer at text) [ true ↦ put buffer at text | false ↦ buffer ]
-
--- what writing gives: the reply, the length written, and the buffer
-pub record Writing : Type 0 where
-  pub reply : Reply
-  pub len : ℕ
-  pub buffer : List ℕ
-
--- an accepted text is put at the start and nothing else changes; a refusal changes no byte
-abbrev pub writing : Reply → List ℕ → List ℕ → Writing
-writing accepted text buffer = record { reply = accepted; len = length text; buffer = put buffer 0 text }
-writing (refused k n) text buffer = record { reply = refused k n; len = 0; buffer = buffer }
-
--- what the code's answer says, with the buffer that it left
-abbrev pub toldWritten : Written → List ℕ → Writing
-toldWritten r buffer = record { reply = told (r .outcome); len = r .len; buffer = buffer }

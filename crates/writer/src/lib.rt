@@ -26,7 +26,6 @@ ghost use mathlib.Core.Bool.{not};
 ghost use mathlib.Core.List.{[], _∷_, _++_};
 ghost use Prim.Native.Nat.{_+_, _≤_};
 ghost use lib.ListN.{length};
-ghost use Rattle.errors.specs.declared.Outcome.the-variants.{Refused};
 ghost use Rattle.errors.specs.Refusals.{told};
 ghost use Rattle.party.specs.Limits.{limitsOf};
 ghost use Rattle.party.specs.Text.{textMost, used};
@@ -37,17 +36,18 @@ ghost use Rattle.swift_utils.specs.Classes.{classTable};
 ghost use Rattle.field_utils.specs.Names.{parseNumber};
 ghost use Rattle.field_utils.specs.Tags.{tagOf};
 ghost use Rattle.reader.specs.Options.{accountReply};
-ghost use Rattle.writer.specs.Writing.{slashOf, numberOf, writtenField, fits, placed, toldWritten};
-ghost use Rattle.writer.specs.Given.{passes, every, textReply, isAccount, isPresence, isBic, areNames, isTaken, isGiven, written};
+ghost use Rattle.writer.specs.Writing.{slashOf, numberOf, writtenField, fits, placed};
+ghost use Rattle.writer.specs.Given.{passes, every, textReply, isAccount, isPresence, isBic, areNames, isTaken, isGiven};
+ghost use Rattle.writer.specs.Placing.{measure as measureOf, place as placeIn, toldMeasured, toldPlacing};
 ghost use Rattle.writer.specs.Code.{Counted, Puts, lead, hasGap, hasHead, headOf, nameCount, namesOn, restOn, lineReply, numberIn, isName, allNames, slashName};
 
 // The most bytes of a written field.
 pub const FIELD_MOST: usize = 188;
 
-// What writing gives: accepted with the length written, or refused with 0.
-pub struct Written {
-    pub outcome: Outcome,
-    pub len: usize,
+// Measuring and placing answer the length of the written field, or a refusal.
+pub enum Measured {
+    Length(usize),
+    Refused(ParseError),
 }
 
 // How many bytes a text uses: its length, or all 38 where that passes them.
@@ -156,7 +156,7 @@ fn rest_length(p: Party, later: bool) -> usize
 }
 
 // The length of the written field.
-pub fn written_length(p: Party) -> usize
+fn written_length(p: Party) -> usize
     ensures { λ r. ⌜ r ≡ length (writtenField (said p)) ⌝ }
 {
     let option = p.option;
@@ -297,30 +297,6 @@ fn put_parts(buf: &mut [u8], at: usize, p: Party) -> usize
     let head = put_tag(buf, at, option);
     let rest = put_head(buf, head, option, later, account);
     put_rest(buf, rest, later, p)
-}
-
-// Writes the field, whose length is n, at a place, if it fits; if not, no byte changes.
-fn put_sized(p: Party, buf: &mut [u8], at: usize, n: usize) -> bool
-    requires { ⌜ n ≡ length (writtenField (said p)) ⌝ }
-    ensures { λ r. ⌜ r ≡ fits (now (buf .entry)) at (writtenField (said p)) ⌝ }
-    ensures { λ _. ⌜ now (buf .exit) ≡ placed (now (buf .entry)) at (writtenField (said p)) ⌝ }
-{
-    if buf.len() < at {
-        return false;
-    }
-    if buf.len() - at < n {
-        return false;
-    }
-    put_parts(buf, at, p);
-    true
-}
-
-// Writes the field at a place, if it fits; if not, no byte changes.
-pub fn put_field(p: Party, buf: &mut [u8], at: usize) -> bool
-    ensures { λ r. ⌜ r ≡ fits (now (buf .entry)) at (writtenField (said p)) ⌝ }
-    ensures { λ _. ⌜ now (buf .exit) ≡ placed (now (buf .entry)) at (writtenField (said p)) ⌝ }
-{
-    put_sized(p, buf, at, written_length(p))
 }
 
 // Whether the checks passed.
@@ -553,7 +529,7 @@ fn is_taken(p: Party) -> bool
 }
 
 // Whether a record is the same as one that an accepted body gives.
-pub fn is_given(p: Party) -> bool
+fn is_given(p: Party) -> bool
     ensures { λ r. ⌜ r ≡ isGiven (said p) ⌝ }
 {
     let option = p.option;
@@ -578,29 +554,40 @@ pub fn is_given(p: Party) -> bool
     !is_taken(p)
 }
 
-// A refusal, with the length 0.
-fn refuse(e: ParseError) -> Written
-    ensures { λ r. ⌜ r ≡ record { outcome = Refused e; len = 0 } ⌝ }
-{
-    Written {
-        outcome: Outcome::Refused(e),
-        len: 0,
-    }
-}
-
-// Writes the field at the start of the buffer: 22 for a record that no reader gives, 24 where it does not fit.
-pub fn to_swift_string(p: Party, buf: &mut [u8]) -> Written
-    ensures { λ r. ⌜ toldWritten r (now (buf .exit)) ≡ written (said p) (now (buf .entry)) ⌝ }
+// Measures a record, and puts its field at the start of the buffer where it fits. The answer is that of measuring, whatever the space.
+fn put_measured(p: Party, buf: &mut [u8]) -> Measured
+    ensures { λ r. ⌜ toldMeasured r ≡ measureOf (said p) ⌝ }
+    ensures { λ _. ⌜ now (buf .exit) ≡ placeIn (said p) (now (buf .entry)) .buffer ⌝ }
 {
     if !is_given(p) {
-        return refuse(ParseError::NoSuchRecord);
+        return Measured::Refused(ParseError::NoSuchRecord);
     }
-    let len = written_length(p);
-    if !put_sized(p, buf, 0, len) {
-        return refuse(ParseError::NoSpace);
+    let n = written_length(p);
+    if n <= buf.len() {
+        put_parts(buf, 0, p);
     }
-    Written {
-        outcome: Outcome::Accepted,
-        len,
+    Measured::Length(n)
+}
+
+// Measures a record: the length of its written field, or 22 for one that no reader gives. No space is lent for it.
+pub fn measure(p: Party) -> Measured
+    ensures { λ r. ⌜ toldMeasured r ≡ measureOf (said p) ⌝ }
+{
+    let mut none = [0u8; 0];
+    put_measured(p, &mut none)
+}
+
+// Places the field of a record at the start of the buffer, and measures for itself: 22, 24. A refusal changes no byte.
+pub fn place(p: Party, buf: &mut [u8]) -> Measured
+    ensures { λ r. ⌜ toldPlacing r (now (buf .exit)) ≡ placeIn (said p) (now (buf .entry)) ⌝ }
+{
+    match put_measured(p, buf) {
+        Measured::Length(n) => {
+            if buf.len() < n {
+                return Measured::Refused(ParseError::NoSpace);
+            }
+            Measured::Length(n)
+        }
+        Measured::Refused(e) => Measured::Refused(e),
     }
 }

@@ -16,13 +16,14 @@ use Rattle.reader.specs.Reading.{toldAnswer}
 use Rattle.choices.specs.declared.Choice.{Choice}
 use Rattle.choices.specs.Choices.{parse, parseWithVariant}
 use Rattle.choices.proofs.Every.{every-parse, every-variant}
-use Rattle.writer.specs.declared.Written.{Written}
-use Rattle.writer.specs.Writing.{fieldMost, Writing, writing, writtenField, fits, toldWritten}
-use Rattle.writer.specs.Given.{isGiven, writeReply, written}
+use Rattle.writer.specs.declared.Measured.{Measured as MeasuredAs}
+use Rattle.writer.specs.Writing.{fieldMost, writtenField, fits}
+use Rattle.writer.specs.Given.{isGiven}
+use Rattle.writer.specs.Placing.{Placing, measuring, placing, measure, place, toldMeasured, toldPlacing}
 use Rattle.writer.proofs.Theorems.{given-exact, written-most}
 use Rattle.flat.specs.Flat.{recordSize, unflatten}
-use Rattle.yewdome.specs.Interface.{Called, codeOf, lentReply, recordReply, asked, storing, given, lengthOr, wrote, partyWrite}
-use Rattle.yewdome.specs.Code.{Named}
+use Rattle.yewdome.specs.Interface.{Called, codeOf, lentReply, recordReply, asked, storing, given, measuredCode, codeOr, partyMeasure, placed, partyPlace}
+use Rattle.yewdome.specs.Code.{Named, Measurable}
 use Rattle.yewdome.proofs.LineBounds.{must-line, must-then, read-line}
 
 -- ---- the tests of a lent record
@@ -33,6 +34,10 @@ empty-lent (b ∷ bytes) e = absurd (omega (arith, e))
 pub refuses : (t : Reply) {r : ℕ} → r ≡ codeOf t → (r ≡ 0 → ⊥) → (c : Called) (bytes : List ℕ) → (record { code = r; bytes = bytes }) ≡ asked t c bytes
 refuses accepted e h c bytes = absurd (h e)
 refuses (refused k n) e h c bytes = ap {B = Called} (λ (r : ℕ). record { code = r; bytes = bytes }) e
+
+pub refuses-code : (t : Reply) {r : ℕ} → r ≡ codeOf t → (r ≡ 0 → ⊥) → (n : ℕ) → r ≡ codeOr t n
+refuses-code accepted e h n = absurd (h e)
+refuses-code (refused k l) e h n = e
 
 pub passes : (len : ℕ) (known : Bool) {r : ℕ} → r ≡ codeOf (lentReply len known) → r ≡ 0 → lentReply len known ≡ accepted
 passes len known e z = go (leb recordSize len) known (sym e ∙ z)
@@ -53,30 +58,45 @@ parse-line = every-parse (λ r. Named (r .reply)) read-line (λ k h. (h, omega a
 pub variant-line : (choice : Choice) (body : List ℕ) (letter : ℕ) → Named (parseWithVariant choice body letter .reply)
 variant-line = every-variant (λ r. Named (r .reply)) read-line (λ k h. (h, omega arith))
 
--- ---- writing
--- a refusal names no line, and at most 188 bytes are written
-abbrev WriteWithin : Writing → Type 0
-WriteWithin w = Named (w .reply) × (w .len ≤ fieldMost)
+-- ---- measuring and placing
+-- a refusal names no line, and a field has at most 188 bytes
+measuring-within : (r : Reply) (text : List ℕ) → Named r → (r ≡ accepted → length text ≤ fieldMost) → Measurable (measuring r text)
+measuring-within accepted text n h = h refl
+measuring-within (refused k l) text n h = n
 
-writing-within : (r : Reply) (text buffer : List ℕ) → Named r → (r ≡ accepted → length text ≤ fieldMost) → WriteWithin (writing r text buffer)
-writing-within accepted text buffer n h = (n, h refl)
-writing-within (refused k l) text buffer n h = (n, omega arith)
+placing-answers : (r : Reply) (text buffer : List ℕ) → measuring r text ≡ placing r text buffer .answer
+placing-answers accepted text buffer = refl
+placing-answers (refused k l) text buffer = refl
 
-pub write-within : (p : Party) (buffer : List ℕ) → WriteWithin (written (said p) buffer)
-unfolding written
-write-within p buffer =
-    let space = fits buffer 0 (writtenField (said p)) in
-    writing-within (writeReply (said p) buffer) (writtenField (said p)) buffer
-    (must-then (isGiven (said p)) 22 0 (must space 24 0) (omega arith) (omega arith) (must-line space 24 0 (omega arith) (omega arith)))
-    (λ e. written-most p (given-exact p .yes (must-held (isGiven (said p)) 22 0 (then-first _ (must space 24 0) e))))
+module _ (p : Party) where
+  abbrev given-test : Reply
+  given-test = must (isGiven (said p)) 22 0
 
--- the record that was loaded is the one that was written
-module _ (flat buffer : List ℕ) {last : List ℕ} {p : Party} (r : Written) (l : p ≡ unflatten flat) (w : toldWritten r last ≡ written (said p) buffer) where
-  pub writes : {o : Outcome} → recordReply flat ≡ accepted → r .outcome ≡ o → (record { code = lengthOr (told o) (r .len); bytes = last }) ≡ partyWrite flat buffer
-  writes {o = o} a e =
-      let tells : (record { code = lengthOr (told o) (r .len); bytes = last }) ≡ wrote (toldWritten r last) = rw e in
-      let passed : wrote (written (said (unflatten flat)) buffer) ≡ partyWrite flat buffer = rw a in
-      tells ∙ (ap wrote (w ∙ ap (λ (x : Party). written (said x) buffer) l) ∙ passed)
+  most : given-test ≡ accepted → length (writtenField (said p)) ≤ fieldMost
+  most e = written-most p (given-exact p .yes (must-held (isGiven (said p)) 22 0 e))
 
-  pub wrote-within : Named (told (r .outcome)) × (r .len ≤ fieldMost)
-  wrote-within = subst WriteWithin (sym w) (write-within p buffer)
+  pub measure-within : Measurable (measure (said p))
+  unfolding measure
+  measure-within = measuring-within given-test (writtenField (said p)) (must-line (isGiven (said p)) 22 0 (omega arith) (omega arith)) most
+
+  pub place-within : (buffer : List ℕ) → Measurable (place (said p) buffer .answer)
+  unfolding place
+  place-within buffer =
+      let space = fits buffer 0 (writtenField (said p)) in
+      let r = given-test then must space 24 0 in
+      subst Measurable (placing-answers r (writtenField (said p)) buffer)
+      (measuring-within r (writtenField (said p))
+      (must-then (isGiven (said p)) 22 0 (must space 24 0) (omega arith) (omega arith) (must-line space 24 0 (omega arith) (omega arith)))
+      (λ e. most (then-first given-test (must space 24 0) e)))
+
+-- the record that was loaded is the one that was measured or placed
+module _ (flat : List ℕ) {p : Party} (l : p ≡ unflatten flat) (a : recordReply flat ≡ accepted) where
+  pub measures : measuredCode (measure (said p)) ≡ partyMeasure flat
+  measures = ap (λ (x : Party). measuredCode (measure (said x))) l ∙ rw a
+
+  pub places : (buffer : List ℕ) → placed (place (said p) buffer) ≡ partyPlace flat buffer
+  places buffer = ap (λ (x : Party). placed (place (said x) buffer)) l ∙ rw a
+
+-- what placing answered is told
+pub placed-told : (r : MeasuredAs) {last : List ℕ} {c : Placing} {code : ℕ} → toldPlacing r last ≡ c → code ≡ measuredCode (toldMeasured r) → (record { code = code; bytes = last }) ≡ placed c
+placed-told r {last = last} e q = ap {B = Called} (λ (k : ℕ). record { code = k; bytes = last }) q ∙ ap placed e

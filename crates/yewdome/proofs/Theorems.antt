@@ -22,20 +22,21 @@ use Rattle.reader.specs.Options.{foundBy, bodyReply, read}
 use Rattle.choices.specs.declared.Choice.{Choice}
 use Rattle.choices.specs.Choices.{parse, parseWithVariant}
 use Rattle.choices.proofs.Every.{every-parse, every-variant}
-use Rattle.writer.specs.Writing.{Writing}
-use Rattle.writer.specs.Given.{isGiven, written}
+use Rattle.writer.specs.Given.{isGiven}
+use Rattle.writer.specs.Placing.{Measured, lengthIs, refusedWith, measure, place, Space}
 use Rattle.writer.proofs.Facts.{facts, is-given, names-are}
 use Rattle.writer.proofs.Back.{accepted-is}
+use Rattle.writer.proofs.Theorems.{measure-and-place}
 use Rattle.page_reader.specs.Pages.{pageMost, ReadOutcome, aRecord, theEnd, aRefusal, outcomeOf, readAt, bodyPlace}
 use Rattle.page_reader.proofs.Moves.{every-read}
 use Rattle.page_reader.proofs.Bodies.{body-there, body-most}
 use Rattle.flat.specs.Flat.{recordSize, textsOf, flatten, stored, unflatten}
 use Rattle.flat.proofs.Laws.{none, Sizes, stored-whole}
 use Rattle.flat.proofs.Theorems.{loads-back}
-use Rattle.yewdome.specs.Interface.{Called, codeOf, lentReply, recordReply, asked, storing, given, partyRead, choiceAt, partyParse, partyParseWithVariant, lengthOr, wrote, partyWrite, readCode, pageRead, pageBody}
-use Rattle.yewdome.specs.Code.{Named}
+use Rattle.yewdome.specs.Interface.{Called, codeOf, lentReply, recordReply, asked, storing, given, partyRead, choiceAt, partyParse, partyParseWithVariant, measuredCode, codeOr, partyMeasure, placed, partyPlace, readCode, pageRead, pageBody}
+use Rattle.yewdome.specs.Code.{Named, Measurable}
 use Rattle.yewdome.proofs.LineBounds.{by-test, must-line, must-then, read-line}
-use Rattle.yewdome.proofs.Answers.{parse-line, variant-line, write-within}
+use Rattle.yewdome.proofs.Answers.{parse-line, variant-line, measure-within, place-within, measures, places}
 
 -- ---- a reader's texts
 -- 38 bytes, of which at most 38 are used
@@ -144,6 +145,10 @@ pub asked-passed : (r : Reply) (c : Called) (bytes : List ℕ) → Named r → a
 asked-passed accepted c bytes n h = refl
 asked-passed (refused k l) c bytes n h = no-refusal (refused k l) n h
 
+code-passed : (r : Reply) (code : ℕ) → Named r → codeOr r code < 65536 → r ≡ accepted
+code-passed accepted code n h = refl
+code-passed (refused k l) code n h = no-refusal (refused k l) n h
+
 pub lent-size : (len : ℕ) (known : Bool) → lentReply len known ≡ accepted → recordSize ≤ len
 lent-size len known e = leb-true recordSize len (must-held (leb recordSize len) 42 0 (then-first _ (must known 41 0) e))
 
@@ -190,24 +195,35 @@ page-loads page at bytes p h e =
     let is : pageRead page at bytes .bytes ≡ stored p bytes = rw (le-leb recordSize (length bytes) h, e) in
     ap unflatten is ∙ stored-loads p bytes l h
 
--- ---- what was written
--- a number below 65,536 says that the lent record passes, and that its field was written
+-- ---- what was measured and written
+told-length : (m : Measured) → Measurable m → measuredCode m < 65536 → m ≡ lengthIs (measuredCode m)
+told-length (lengthIs n) w h = refl
+told-length (refusedWith k l) w h = absurd (omega (arith, w .0, h))
+
+-- a number below 65,536 says that the lent record passes, and that its field was written, with so many bytes
 pub record Writes (flat buffer : List ℕ) : Type 0 where
   pub passes : recordReply flat ≡ accepted
-  pub accepts : written (said (unflatten flat)) buffer .reply ≡ accepted
+  pub accepts : place (said (unflatten flat)) buffer .answer ≡ lengthIs (partyPlace flat buffer .code)
 
-pub write-accepts : (flat buffer : List ℕ) → partyWrite flat buffer .code < 65536 → Writes flat buffer
-write-accepts flat buffer h = record { passes = a; accepts = wrote-it (w .reply) (write-within (unflatten flat) buffer .0) (rw a at h) }
-  where
-    w : Writing
-    w = written (said (unflatten flat)) buffer
+pub write-accepts : (flat buffer : List ℕ) → partyPlace flat buffer .code < 65536 → Writes flat buffer
+write-accepts flat buffer h =
+    let p = unflatten flat in
+    let c = place (said p) buffer in
+    let a : recordReply flat ≡ accepted = asked-passed (recordReply flat) (placed c) buffer (lent-named (length flat) (leb (getD flat 0 0) 10)) h in
+    let is : measuredCode (c .answer) ≡ partyPlace flat buffer .code = ap (λ (x : Called). x .code) (places flat refl a buffer) in
+    record { passes = a; accepts = told-length (c .answer) (place-within p buffer) (omega (arith, is, h)) ∙ ap lengthIs is }
 
-    a : recordReply flat ≡ accepted
-    a = asked-passed (recordReply flat) (wrote w) buffer (lent-named (length flat) (leb (getD flat 0 0) 10)) h
+-- one that measuring gave is the length of the field, and says how much space placing needs, and what it does there
+pub record Measures (flat buffer : List ℕ) : Type 0 where
+  pub passes : recordReply flat ≡ accepted
+  pub space : Space (said (unflatten flat)) (partyMeasure flat) buffer
 
-    wrote-it : (r : Reply) → Named r → lengthOr r (w .len) < 65536 → r ≡ accepted
-    wrote-it accepted n h = refl
-    wrote-it (refused k l) n h = no-refusal (refused k l) n h
+pub measure-accepts : (flat buffer : List ℕ) → partyMeasure flat < 65536 → Measures flat buffer
+measure-accepts flat buffer h =
+    let p = unflatten flat in
+    let a : recordReply flat ≡ accepted = code-passed (recordReply flat) (measuredCode (measure (said p))) (lent-named (length flat) (leb (getD flat 0 0) 10)) h in
+    let is : measuredCode (measure (said p)) ≡ partyMeasure flat = measures flat refl a in
+    record { passes = a; space = measure-and-place p buffer .measured (told-length (measure (said p)) (measure-within p) (omega (arith, is, h)) ∙ ap lengthIs is) }
 
 -- ---- numbers
 -- a number below w beside a multiple of w: both are told

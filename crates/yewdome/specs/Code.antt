@@ -5,6 +5,8 @@ use mathlib.Core.Bool.{Bool, true, false}
 use mathlib.Core.List.{List}
 use Rattle.errors.specs.Refusals.{Reply, accepted, refused}
 use Rattle.reader.specs.Options.{bodyMost}
+use Rattle.writer.specs.Writing.{fieldMost}
+use Rattle.writer.specs.Placing.{Measured, lengthIs, refusedWith}
 use Rattle.writer.specs.Code.{Puts}
 use Rattle.page_reader.specs.Pages.{pageMost, ReadOutcome}
 use Rattle.page_writer.specs.Adding.{Filed, positionAfter, refusal}
@@ -20,7 +22,12 @@ abbrev pub Named : Reply → Type 0
 Named accepted = Unit {0}
 Named (refused k n) = (1 ≤ k) × (n ≤ bodyMost)
 
--- and a position is within a page
+-- and a length is that of a field
+abbrev pub Measurable : Measured → Type 0
+Measurable (lengthIs n) = n ≤ fieldMost
+Measurable (refusedWith k n) = Named (refused k n)
+
+-- or a position is within a page
 abbrev pub Within : Filed → Type 0
 Within (positionAfter n) = n ≤ pageMost
 Within (refusal k n) = Named (refused k n)

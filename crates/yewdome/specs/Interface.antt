@@ -13,8 +13,8 @@ use Rattle.reader.specs.Options.{read}
 use Rattle.choices.specs.declared.Choice.{Choice}
 use Rattle.choices.specs.declared.Choice.the-variants.{Field50InstructingParty, Field50OrderingCustomerFGH, Field50OrderingCustomerAFK, Field50OrderingCustomerNCF, Field50Creditor, Field59, Field59Debtor}
 use Rattle.choices.specs.Choices.{parse, parseWithVariant}
-use Rattle.writer.specs.Writing.{Writing, put}
-use Rattle.writer.specs.Given.{written}
+use Rattle.writer.specs.Writing.{put}
+use Rattle.writer.specs.Placing.{Measured, lengthIs, refusedWith, Placing, measure, place}
 use Rattle.page_reader.specs.Pages.{ReadOutcome, aRecord, theEnd, aRefusal, PageRead, bodiless, outcomeOf, readAt, bodyPlace}
 use Rattle.page_writer.specs.Adding.{Filed, positionAfter, refusal, Call, add, close}
 use Rattle.page_writer.specs.Fold.{Step, Run, run}
@@ -38,7 +38,7 @@ codeOf (refused k n) = k * 65536 + n
 abbrev pub lentReply : ℕ → Bool → Reply
 lentReply len known = must (leb recordSize len) 42 0 then must known 41 0
 
--- a record lent to be written or added: its first byte is the option's place, 0 to 10
+-- a record lent to be measured, placed or added: its first byte is the option's place, 0 to 10
 abbrev pub recordReply : List ℕ → Reply
 recordReply bytes = lentReply (length bytes) (leb (getD bytes 0 0) 10)
 
@@ -84,18 +84,27 @@ abbrev pub partyParseWithVariant : ℕ → List ℕ → ℕ → List ℕ → Cal
 partyParseWithVariant choice body letter bytes = given (leb choice 6) (parseWithVariant (choiceAt choice) body letter) bytes
 
 -- ---- writing
--- a field written: the length written, or the refusal
-abbrev pub lengthOr : Reply → ℕ → ℕ
-lengthOr accepted len = len
-lengthOr (refused k n) len = codeOf (refused k n)
+-- measuring and placing answer the length of the field, or the refusal
+abbrev pub measuredCode : Measured → ℕ
+measuredCode (lengthIs n) = n
+measuredCode (refusedWith k n) = codeOf (refused k n)
 
--- what writing gives, in these terms
-abbrev pub wrote : Writing → Called
-wrote w = record { code = lengthOr (w .reply) (w .len); bytes = w .buffer }
+-- a call that lends nothing to write, where the tests of the lent record pass
+abbrev pub codeOr : Reply → ℕ → ℕ
+codeOr accepted code = code
+codeOr (refused k n) code = codeOf (refused k n)
 
--- `yewdome_party_write`
-abbrev pub partyWrite : List ℕ → List ℕ → Called
-partyWrite bytes buffer = asked (recordReply bytes) (wrote (written (said (unflatten bytes)) buffer)) buffer
+-- `yewdome_party_measure` (document 02, Two)
+abbrev pub partyMeasure : List ℕ → ℕ
+partyMeasure bytes = codeOr (recordReply bytes) (measuredCode (measure (said (unflatten bytes))))
+
+-- what placing gives, in these terms
+abbrev pub placed : Placing → Called
+placed c = record { code = measuredCode (c .answer); bytes = c .buffer }
+
+-- `yewdome_party_place` (document 02, Two)
+abbrev pub partyPlace : List ℕ → List ℕ → Called
+partyPlace bytes buffer = asked (recordReply bytes) (placed (place (said (unflatten bytes)) buffer)) buffer
 
 -- ---- pages
 -- a read of a page as a number: a refusal's × 4,294,967,296, or 65,536 at the end, and how many bytes it moved past

@@ -18,16 +18,19 @@ use page_writer::close;
 use party::option_at;
 use reader::Answer;
 use reader::read;
-use writer::to_swift_string;
+use writer::Measured;
+use writer::measure;
+use writer::place;
 ghost use mathlib.Core.Path.{_≡_};
 ghost use Prim.Native.Nat.{_<_};
 ghost use lib.ListN.{length};
 ghost use Rattle.errors.specs.Refusals.{toldError};
 ghost use Rattle.reader.specs.Reading.{toldAnswer};
+ghost use Rattle.writer.specs.Placing.{toldMeasured};
 ghost use Rattle.page_writer.specs.Adding.{toldFiled};
 ghost use Rattle.yewdome.specs.Filing.{readHere, openPage};
-ghost use Rattle.yewdome.specs.Interface.{codeOf, lentReply, recordReply, given, partyRead, choiceAt, partyParse, partyParseWithVariant, partyWrite, pageRead, pageBody, filedCode, pageAdd, pageClose, pageAnswers, pageFile};
-ghost use Rattle.yewdome.specs.Code.{Named, Within, stepBy, toldStep, Walks};
+ghost use Rattle.yewdome.specs.Interface.{codeOf, lentReply, recordReply, given, partyRead, choiceAt, partyParse, partyParseWithVariant, measuredCode, partyMeasure, partyPlace, pageRead, pageBody, filedCode, pageAdd, pageClose, pageAnswers, pageFile};
+ghost use Rattle.yewdome.specs.Code.{Named, Measurable, Within, stepBy, toldStep, Walks};
 
 // The interface's own numbers, × 65,536: 41 no such option or choice, 42 a lent record of under 237 bytes, 43 too few numbers lent for
 // answers. Document 01 has none of them.
@@ -51,7 +54,7 @@ fn lent(len: usize, known: bool) -> u32
     0
 }
 
-// The same of a record lent to be written or added, whose first byte is the option's place.
+// The same of a record lent to be measured, placed or added, whose first byte is the option's place.
 fn lent_record(record: &[u8]) -> u32
     ensures { λ r. ⌜ r ≡ codeOf (recordReply (now («record» .entry))) ⌝ }
 {
@@ -144,21 +147,39 @@ pub extern "C" fn yewdome_party_parse_with_variant(
     )
 }
 
-// Writes the field of a stored record at the start of a buffer, and gives the length written.
+// The length that measuring or placing gave, or the refusal.
+fn measured(answer: Measured) -> u32
+    requires { ⌜ Measurable (toldMeasured answer) ⌝ }
+    ensures { λ r. ⌜ r ≡ measuredCode (toldMeasured answer) ⌝ }
+{
+    match answer {
+        Measured::Length(n) => n as u32,
+        Measured::Refused(e) => code(e),
+    }
+}
+
+// Measures a stored record: gives the length of its field.
 #[no_mangle]
-pub extern "C" fn yewdome_party_write(record: &[u8], buf: &mut [u8]) -> u32
-    ensures { λ r. ⌜ (record { code = r; bytes = now (buf .exit) }) ≡ partyWrite (now («record» .entry)) (now (buf .entry)) ⌝ }
+pub extern "C" fn yewdome_party_measure(record: &[u8]) -> u32
+    ensures { λ r. ⌜ r ≡ partyMeasure (now («record» .entry)) ⌝ }
 {
     let refusal = lent_record(record);
     if refusal != 0 {
         return refusal;
     }
-    let written = to_swift_string(load(record), buf);
-    let outcome = written.outcome;
-    if let Outcome::Refused(e) = outcome {
-        return code(e);
+    measured(measure(load(record)))
+}
+
+// Places the field of a stored record at the start of a buffer, and gives its length. It measures for itself.
+#[no_mangle]
+pub extern "C" fn yewdome_party_place(record: &[u8], buf: &mut [u8]) -> u32
+    ensures { λ r. ⌜ (record { code = r; bytes = now (buf .exit) }) ≡ partyPlace (now («record» .entry)) (now (buf .entry)) ⌝ }
+{
+    let refusal = lent_record(record);
+    if refusal != 0 {
+        return refusal;
     }
-    written.len as u32
+    measured(place(load(record), buf))
 }
 
 // Reads the page at a position and stores the record that it gives; the end changes no byte. Gives the number × 4,294,967,296, 65,536 more

@@ -157,8 +157,8 @@ impl Checker {
         Ok(flat)
     }
 
-    /// Has ours write a record into buffers of several lengths; a refusal is expected where there is
-    /// no text. The record is lent with no byte more, one, and two.
+    /// Has ours measure a record and place it in buffers of several lengths; a refusal is expected
+    /// where there is no text. The record is lent with no byte more, one, and two.
     fn write(&mut self, flat: &Flat, written: Result<&[u8], u8>) -> Result<(), String> {
         let length = written.map_or(ours::LONGEST_FIELD + 1, <[u8]>::len);
         let mut record = [0; flat::LENGTH + MOST_MORE];
@@ -175,7 +175,8 @@ impl Checker {
             self.tally.buffers += 1;
             self.room = self.stale;
             let lent_record = &record[..flat::LENGTH + more];
-            let given = ours::write(lent_record, &mut self.room[BEFORE..BEFORE + lent]);
+            is_measured(lent_record, written)?;
+            let given = ours::place(lent_record, &mut self.room[BEFORE..BEFORE + lent]);
             if given != code {
                 let [code, given] = [code, given].map(|code| ours::told(code, "written"));
                 return Err(format!("a buffer of {lent}: expected {code}; ours {given}"));
@@ -276,7 +277,8 @@ impl Checker {
                     (false, false) => (41, 41),
                     (false, true) => (22, 21),
                 };
-                self.edge(written, |room| ours::write(record, room))?;
+                self.edge(written, |_| ours::measure(record))?;
+                self.edge(written, |room| ours::place(record, room))?;
                 self.edge(written, |room| ours::add(record, room, 0))?;
                 self.edge(unplaced, |room| ours::add(record, room, ROOM))?;
             }
@@ -293,6 +295,17 @@ impl Checker {
         }
         self.room_has(&[]).map_err(|(_, what)| what)
     }
+}
+
+/// Measuring must give the length of the text, or the refusal.
+fn is_measured(record: &[u8], written: Result<&[u8], u8>) -> Result<(), String> {
+    let code = written.map_or_else(|number| ours::code(number, 0), |text| text.len() as u32);
+    let given = ours::measure(record);
+    if given == code {
+        return Ok(());
+    }
+    let [code, given] = [code, given].map(|code| ours::told(code, "measured"));
+    Err(format!("measuring: expected {code}; ours {given}"))
 }
 
 /// A letter that is 14 by the rules.

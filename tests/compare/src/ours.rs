@@ -31,7 +31,8 @@ unsafe extern "C" {
         record: *mut u8,
         record_len: usize,
     ) -> u32;
-    fn yewdome_party_write(
+    fn yewdome_party_measure(record: *const u8, record_len: usize) -> u32;
+    fn yewdome_party_place(
         record: *const u8,
         record_len: usize,
         buf: *mut u8,
@@ -77,10 +78,16 @@ pub fn parse_with_variant(choice: u8, body: &[u8], letter: u8, record: &mut [u8]
     unsafe { yewdome_party_parse_with_variant(choice, text, len, letter, out, room) }
 }
 
-/// `yewdome_party_write`.
-pub fn write(record: &[u8], buf: &mut [u8]) -> u32 {
+/// `yewdome_party_measure`.
+pub fn measure(record: &[u8]) -> u32 {
     // SAFETY: as in `read`.
-    unsafe { yewdome_party_write(record.as_ptr(), record.len(), buf.as_mut_ptr(), buf.len()) }
+    unsafe { yewdome_party_measure(record.as_ptr(), record.len()) }
+}
+
+/// `yewdome_party_place`.
+pub fn place(record: &[u8], buf: &mut [u8]) -> u32 {
+    // SAFETY: as in `read`.
+    unsafe { yewdome_party_place(record.as_ptr(), record.len(), buf.as_mut_ptr(), buf.len()) }
 }
 
 /// `yewdome_page_read`.

@@ -1,6 +1,6 @@
 //! Times the published Rust and our static library, in one process: one call each of a reader, a
-//! choice that detects, or a writer, and pages of fields. Prints a table with both figures and the
-//! ratio.
+//! choice that detects, measuring or writing, and pages of fields. Prints a table with both figures
+//! and the ratio.
 //!
 //! In each round the Rust makes its calls and then ours makes as many; of all rounds the fastest
 //! of each counts. What is lent is the same in each call, and holds what the last one left there.
@@ -62,7 +62,7 @@ fn main() {
     }
 }
 
-/// An option's rows: a body read, and its record written.
+/// An option's rows: a body read, its record measured, for which the Rust writes it, and written.
 fn option<T: SwiftField>(option: Opt, body: &str) {
     let name = option.name();
     if !is_asked(&format!("{name}, ")) {
@@ -82,14 +82,21 @@ fn option<T: SwiftField>(option: Opt, body: &str) {
     );
     let text = value.to_swift_string();
     let mut field = [0; LONGEST_FIELD];
-    let length = ours::write(&record, &mut field) as usize;
+    let length = ours::place(&record, &mut field) as usize;
     assert_eq!(field.get(..length), Some(text.as_bytes()), "{name} is written");
+    assert_eq!(ours::measure(&record) as usize, length, "{name} is measured");
+    row(
+        &format!("{name}, measured"),
+        length,
+        || _ = black_box(black_box(&value).to_swift_string().len()),
+        || _ = black_box(ours::measure(black_box(&record))),
+    );
     row(
         &format!("{name}, written"),
         length,
         || drop(black_box(black_box(&value).to_swift_string())),
         || {
-            black_box(ours::write(black_box(&record), &mut field));
+            black_box(ours::place(black_box(&record), &mut field));
             black_box(&field);
         },
     );

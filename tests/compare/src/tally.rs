@@ -23,7 +23,7 @@ pub struct Tally {
     pub damaged: u64,
     pub no_such: u64,
     pub no_option: u64,
-    /// Calls of the writer.
+    /// Placings.
     pub buffers: u64,
     pub edges: u64,
 }

@@ -1,7 +1,7 @@
 //! Calls that no type makes, whole pages, and the header.
 
 use super::*;
-use crate::pages::{LONGEST_BODY, LONGEST_PAGE};
+use crate::pages::{LONGEST_BODY, LONGEST_FIELD};
 use crate::record::LENGTH;
 
 const STALE: u8 = 0xa5;
@@ -45,7 +45,8 @@ fn a_record_may_be_lent_in_more_bytes() {
         let mut out = vec![STALE; length];
         assert_eq!((page_read(PAGE, 0, &mut out), out), (FIELD.len() as u64 + 1, record.clone()));
         let mut buffer = [STALE; PAGE.len()];
-        assert_eq!(party_write(&record, &mut buffer), FIELD.len() as u32);
+        assert_eq!(party_measure(&record), FIELD.len() as u32);
+        assert_eq!(party_place(&record, &mut buffer), FIELD.len() as u32);
         assert_eq!(&buffer[..FIELD.len()], FIELD);
         let position = page_add(&record, &mut buffer, 0);
         assert_eq!(position, FIELD.len() as u32 + 1);
@@ -54,10 +55,12 @@ fn a_record_may_be_lent_in_more_bytes() {
     }
 }
 
-/// Writes and adds a record that both refuse with the number, and looks that no byte changes.
-fn refused_twice(record: &[u8], position: usize) -> u8 {
+/// Measures, places and adds a record that all refuse with the number, and looks that no byte
+/// changes.
+fn refused_always(record: &[u8], position: usize) -> u8 {
     let mut buffer = [STALE; 64];
-    let number = refused(party_write(record, &mut buffer));
+    let number = refused(party_measure(record));
+    assert_eq!(refused(party_place(record, &mut buffer)), number);
     assert_eq!(refused(page_add(record, &mut buffer, position)), number);
     assert_eq!(buffer, [STALE; 64]);
     number
@@ -74,8 +77,8 @@ fn a_record_lent_in_fewer_bytes_is_42() {
         let mut out = vec![STALE; length];
         let [answer, moved] = halves(page_read(PAGE, 0, &mut out));
         assert_eq!((refused(answer), moved, out), (42, 0, vec![STALE; length]));
-        assert_eq!(refused_twice(&lent(length), 0), 42);
-        assert_eq!(refused_twice(&vec![STALE; length], 1), 42, "42 comes before 41 and 21");
+        assert_eq!(refused_always(&lent(length), 0), 42);
+        assert_eq!(refused_always(&vec![STALE; length], 1), 42, "42 comes before 41 and 21");
     }
 }
 
@@ -93,8 +96,8 @@ fn a_place_that_has_none_is_41() {
         for length in [LENGTH, LENGTH + 1] {
             let mut record = lent(length);
             record[0] = place;
-            assert_eq!(refused_twice(&record, 0), 41);
-            assert_eq!(refused_twice(&record, 1), 41, "41 comes before 21");
+            assert_eq!(refused_always(&record, 0), 41);
+            assert_eq!(refused_always(&record, 1), 41, "41 comes before 21");
         }
     }
 }
@@ -104,8 +107,26 @@ fn a_presence_that_is_neither_0_nor_1_is_22() {
     for presence in 2..=255 {
         let mut record = lent(LENGTH);
         record[1] = presence;
-        assert_eq!(refused_twice(&record, 0), 22);
+        assert_eq!(refused_always(&record, 0), 22);
         assert_eq!(refused(page_add(&record, &mut [STALE; 64], 1)), 21, "21 comes before 22");
+    }
+}
+
+#[test]
+fn a_record_is_placed_in_just_the_space_that_it_measures() {
+    let record = lent(LENGTH);
+    let length = accepted(party_measure(&record)).expect("the record is good");
+    for room in 0..length + 3 {
+        let mut buffer = vec![STALE; room];
+        let mut due = buffer.clone();
+        let placed = party_place(&record, &mut buffer);
+        if room < length {
+            assert_eq!(refused(placed), 24);
+        } else {
+            assert_eq!(placed, length as u32);
+            due[..length].copy_from_slice(FIELD);
+        }
+        assert_eq!(buffer, due);
     }
 }
 

@@ -1,0 +1,49 @@
+/*
+ * Reads a body of 50K from standard input and writes its field, tag and body, to standard output, in
+ * just the space that it takes: measures the record, allocates so much, and places the field there.
+ * Says on standard error what is refused.
+ */
+#include "yewdome.h"
+
+#include <stdio.h>
+#include <stdlib.h>
+
+static int refuse(uint32_t answer)
+{
+    fprintf(stderr, "error: refused with %u, line %u\n", yewdome_number(answer),
+            yewdome_line(answer));
+    return 1;
+}
+
+/* Measures a record and writes its field. */
+static int write_field(const uint8_t *record, size_t record_length)
+{
+    uint32_t length = yewdome_party_measure(record, record_length);
+    uint8_t *field;
+    size_t written;
+    if (yewdome_number(length) != 0)
+        return refuse(length);
+    field = malloc(length);
+    if (field == NULL) {
+        fprintf(stderr, "error: no memory for %u bytes\n", (unsigned)length);
+        return 1;
+    }
+    written = fwrite(field, 1, yewdome_party_place(record, record_length, field, length), stdout);
+    free(field);
+    if (written != length || fflush(stdout) != 0) {
+        fprintf(stderr, "error: the field was not written whole\n");
+        return 1;
+    }
+    return 0;
+}
+
+int main(void)
+{
+    static uint8_t body[YEWDOME_LONGEST_BODY + 1];
+    uint8_t record[YEWDOME_RECORD_LENGTH];
+    size_t length = fread(body, 1, sizeof body, stdin);
+    uint32_t answer = yewdome_party_read(YEWDOME_50K, body, length, record, sizeof record);
+    if (yewdome_number(answer) != 0)
+        return refuse(answer);
+    return write_field(record, sizeof record);
+}
