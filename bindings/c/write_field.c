@@ -19,6 +19,7 @@ static int refuse(uint32_t answer)
 static int write_field(const uint8_t *record, size_t record_length)
 {
     uint32_t length = yewdome_party_measure(record, record_length);
+    uint32_t placed;
     uint8_t *field;
     size_t written;
     if (yewdome_number(length) != 0)
@@ -28,9 +29,14 @@ static int write_field(const uint8_t *record, size_t record_length)
         fprintf(stderr, "error: no memory for %u bytes\n", (unsigned)length);
         return 1;
     }
-    written = fwrite(field, 1, yewdome_party_place(record, record_length, field, length), stdout);
+    placed = yewdome_party_place(record, record_length, field, length);
+    if (yewdome_number(placed) != 0) {
+        free(field);
+        return refuse(placed);
+    }
+    written = fwrite(field, 1, placed, stdout);
     free(field);
-    if (written != length || fflush(stdout) != 0) {
+    if (written != placed || fflush(stdout) != 0) {
         fprintf(stderr, "error: the field was not written whole\n");
         return 1;
     }

@@ -128,9 +128,9 @@ uint32_t yewdome_party_parse_with_variant(uint8_t choice, const uint8_t *body, s
                                           uint8_t letter, uint8_t *record, size_t record_length);
 
 /*
- * Measures a record: gives the length of its field, tag and body, or the refusal: 42, 41, 22. So the
- * space that it needs is known before it is placed, or added to a page, which needs 3 bytes more: its
- * LF, and 2 for the end of the page.
+ * Measures a record: gives the length of its field, tag and body, or the refusal: 42, 41, 22. To be
+ * placed it needs this space, and to be added to a page 3 bytes more: its LF, and 2 for the end of the
+ * page. That a page cannot carry it, 23, is told by `yewdome_page_add` alone.
  */
 uint32_t yewdome_party_measure(const uint8_t *record, size_t record_length);
 

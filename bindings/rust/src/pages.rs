@@ -166,8 +166,9 @@ pub fn listed(page: &[u8]) -> Vec<Listed> {
 /// The length of the field of a struct of an option, an enum of a choice or a [`Party`], tag and body,
 /// as [`to_swift_string`](crate::SwiftField::to_swift_string) writes it; nothing is written.
 ///
-/// Refused with 22 where no reader gives the value, and with nothing else: so the space that a value
-/// needs is known before it is filed. [`add`] needs its LF besides, and 2 bytes for the end of the page.
+/// Refused with 22 where no reader gives the value, and with nothing else. [`add`] needs this space,
+/// one byte for its LF, and 2 for the end of the page; that a page cannot carry the value, 23, is told
+/// by [`add`] alone.
 pub fn measure<P: Recorded>(party: &P) -> Result<usize> {
     library::measure(&party.record())
 }

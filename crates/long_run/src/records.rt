@@ -101,6 +101,6 @@ pub(crate) fn answer_at(k: usize, position: usize) -> u8 {
             }
             24
         }
-        Measured::Refused(e) => e.refusal().number,
+        Measured::Refused(_) => 0,
     }
 }

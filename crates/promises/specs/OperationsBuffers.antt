@@ -34,7 +34,7 @@ use Rattle.yewdome.specs.Interface.{partyRead, partyParse, partyParseWithVarian
 use Rattle.promises.specs.Starred.{gives}
 use Rattle.promises.specs.Filing.{of}
 
--- 59F with an identifier and texts that are the longest, as its field is then
+-- a 59F with an identifier, each text as long as it may be: its field has 188 bytes
 abbrev longest : Party
 longest = gives Field59F true (bytes "AA/" ++ replicate 34 65) [] (map (λ (k : ℕ). (48 + k) ∷ 47 ∷ replicate 33 65) (1 ∷ 2 ∷ 3 ∷ 4 ∷ [])) .party
 

@@ -53,7 +53,7 @@ fn is_written(party: Party, text: &[u8]) -> bool
         && gives(party, len + 1, 0, text)
 }
 
-// To be measured and placed in the same three: each is refused with 22.
+// Measuring it is refused with 22, and so is placing it in each of the same three.
 fn is_refused(party: Party, len: usize) -> bool
     requires { ⌜ (1 ≤ len) × (len ≤ 240) ⌝ }
 {
@@ -73,7 +73,7 @@ fn gives(party: Party, size: usize, number: u8, text: &[u8]) -> bool
     is_answer(answer, number, text.len()) && has_only(&room, text)
 }
 
-// Whether the answer is this number (0: accepted), with this length or without a line.
+// Whether the answer is this number (0: accepted): accepted with this length, or refused without a line.
 fn is_answer(answer: Measured, number: u8, len: usize) -> bool {
     match answer {
         Measured::Length(n) => number == 0 && n == len,

@@ -77,12 +77,15 @@ module _ (s : Said) where
     pub pair : (isGiven s ≡ true → length field ≤ fieldMost) → Pair s buffer
     pair most = record {
       measured = space-measured;
-      unmeasured = λ m. (number (measure-22 (unmeasured m) ∙ m), place-unmeasured m);
+      unmeasured = λ m. let same = measure-22 (unmeasured m) ∙ m in (number same, line same, place-unmeasured m);
       agrees = λ h. agrees h (isGiven s) refl;
     }
       where
         number : {k l : ℕ} → refusedWith 22 0 ≡ refusedWith k l → k ≡ 22
         number e = cc
+
+        line : {k l : ℕ} → refusedWith 22 0 ≡ refusedWith k l → l ≡ 0
+        line e = cc
 
         agrees : fieldMost ≤ length buffer → (b : Bool) → isGiven s ≡ b → place s buffer .answer ≡ measure s
         agrees h true e = ap (λ (x : Placing). x .answer) (space e .enough (omega (arith, most e))) ∙ measure-by e

@@ -53,10 +53,10 @@ pub record Space (s : Said) (n : ℕ) (buffer : List ℕ) : Type 0 where
   pub enough : n ≤ length buffer → place s buffer ≡ record { answer = lengthIs n; buffer = writtenField s ++ drop n buffer }
   pub short : length buffer < n → place s buffer ≡ record { answer = refusedWith 24 0; buffer = buffer }
 
--- the pair: what measuring answers is what placing does
+-- the pair: what placing does in a buffer, by what measuring answers
 pub record Pair (s : Said) (buffer : List ℕ) : Type 0 where
   pub measured : {n : ℕ} → measure s ≡ lengthIs n → Space s n buffer
   -- a refusal to measure is 22, and that of placing, whatever the buffer
-  pub unmeasured : {k l : ℕ} → measure s ≡ refusedWith k l → (k ≡ 22) × (place s buffer ≡ record { answer = refusedWith k l; buffer = buffer })
+  pub unmeasured : {k l : ℕ} → measure s ≡ refusedWith k l → (k ≡ 22) × (l ≡ 0) × (place s buffer ≡ record { answer = refusedWith k l; buffer = buffer })
   -- a buffer of 188 bytes is large enough: there both answer the same
   pub agrees : fieldMost ≤ length buffer → place s buffer .answer ≡ measure s

@@ -22,7 +22,7 @@ use Rattle.writer.specs.Given.{isGiven}
 use Rattle.writer.specs.Placing.{Placing, measuring, placing, measure, place, toldMeasured, toldPlacing}
 use Rattle.writer.proofs.Theorems.{given-exact, written-most}
 use Rattle.flat.specs.Flat.{recordSize, unflatten}
-use Rattle.yewdome.specs.Interface.{Called, codeOf, lentReply, recordReply, asked, storing, given, measuredCode, codeOr, partyMeasure, placed, partyPlace}
+use Rattle.yewdome.specs.Interface.{Called, codeOf, lentReply, recordReply, asked, storing, given, measuredCode, codeOr, partyMeasure, placedCall, partyPlace}
 use Rattle.yewdome.specs.Code.{Named, Measurable}
 use Rattle.yewdome.proofs.LineBounds.{must-line, must-then, read-line}
 
@@ -94,9 +94,9 @@ module _ (flat : List ℕ) {p : Party} (l : p ≡ unflatten flat) (a : recordRep
   pub measures : measuredCode (measure (said p)) ≡ partyMeasure flat
   measures = ap (λ (x : Party). measuredCode (measure (said x))) l ∙ rw a
 
-  pub places : (buffer : List ℕ) → placed (place (said p) buffer) ≡ partyPlace flat buffer
-  places buffer = ap (λ (x : Party). placed (place (said x) buffer)) l ∙ rw a
+  pub places : (buffer : List ℕ) → placedCall (place (said p) buffer) ≡ partyPlace flat buffer
+  places buffer = ap (λ (x : Party). placedCall (place (said x) buffer)) l ∙ rw a
 
 -- what placing answered is told
-pub placed-told : (r : MeasuredAs) {last : List ℕ} {c : Placing} {code : ℕ} → toldPlacing r last ≡ c → code ≡ measuredCode (toldMeasured r) → (record { code = code; bytes = last }) ≡ placed c
-placed-told r {last = last} e q = ap {B = Called} (λ (k : ℕ). record { code = k; bytes = last }) q ∙ ap placed e
+pub placed-told : (r : MeasuredAs) {last : List ℕ} {c : Placing} {code : ℕ} → toldPlacing r last ≡ c → code ≡ measuredCode (toldMeasured r) → (record { code = code; bytes = last }) ≡ placedCall c
+placed-told r {last = last} e q = ap {B = Called} (λ (k : ℕ). record { code = k; bytes = last }) q ∙ ap placedCall e

@@ -23,7 +23,8 @@ use Rattle.choices.specs.declared.Choice.{Choice}
 use Rattle.choices.specs.Choices.{parse, parseWithVariant}
 use Rattle.choices.proofs.Every.{every-parse, every-variant}
 use Rattle.writer.specs.Given.{isGiven}
-use Rattle.writer.specs.Placing.{Measured, lengthIs, refusedWith, measure, place, Space}
+use Rattle.writer.specs.Writing.{writtenField}
+use Rattle.writer.specs.Placing.{Measured, lengthIs, refusedWith, measure, place}
 use Rattle.writer.proofs.Facts.{facts, is-given, names-are}
 use Rattle.writer.proofs.Back.{accepted-is}
 use Rattle.writer.proofs.Theorems.{measure-and-place}
@@ -33,7 +34,7 @@ use Rattle.page_reader.proofs.Bodies.{body-there, body-most}
 use Rattle.flat.specs.Flat.{recordSize, textsOf, flatten, stored, unflatten}
 use Rattle.flat.proofs.Laws.{none, Sizes, stored-whole}
 use Rattle.flat.proofs.Theorems.{loads-back}
-use Rattle.yewdome.specs.Interface.{Called, codeOf, lentReply, recordReply, asked, storing, given, partyRead, choiceAt, partyParse, partyParseWithVariant, measuredCode, codeOr, partyMeasure, placed, partyPlace, readCode, pageRead, pageBody}
+use Rattle.yewdome.specs.Interface.{Called, codeOf, lentReply, recordReply, asked, storing, given, partyRead, choiceAt, partyParse, partyParseWithVariant, measuredCode, codeOr, partyMeasure, placedCall, partyPlace, readCode, pageRead, pageBody}
 use Rattle.yewdome.specs.Code.{Named, Measurable}
 use Rattle.yewdome.proofs.LineBounds.{by-test, must-line, must-then, read-line}
 use Rattle.yewdome.proofs.Answers.{parse-line, variant-line, measure-within, place-within, measures, places}
@@ -209,21 +210,31 @@ pub write-accepts : (flat buffer : List ℕ) → partyPlace flat buffer .code < 
 write-accepts flat buffer h =
     let p = unflatten flat in
     let c = place (said p) buffer in
-    let a : recordReply flat ≡ accepted = asked-passed (recordReply flat) (placed c) buffer (lent-named (length flat) (leb (getD flat 0 0) 10)) h in
+    let a : recordReply flat ≡ accepted = asked-passed (recordReply flat) (placedCall c) buffer (lent-named (length flat) (leb (getD flat 0 0) 10)) h in
     let is : measuredCode (c .answer) ≡ partyPlace flat buffer .code = ap (λ (x : Called). x .code) (places flat refl a buffer) in
     record { passes = a; accepts = told-length (c .answer) (place-within p buffer) (omega (arith, is, h)) ∙ ap lengthIs is }
 
--- one that measuring gave is the length of the field, and says how much space placing needs, and what it does there
+-- one that measuring gave says that too, and is the length of the field: so many bytes are enough to place it, and it takes no other;
+-- fewer are 24
 pub record Measures (flat buffer : List ℕ) : Type 0 where
   pub passes : recordReply flat ≡ accepted
-  pub space : Space (said (unflatten flat)) (partyMeasure flat) buffer
+  pub exact : partyMeasure flat ≡ length (writtenField (said (unflatten flat)))
+  pub enough : partyMeasure flat ≤ length buffer
+      → partyPlace flat buffer ≡ record { code = partyMeasure flat; bytes = writtenField (said (unflatten flat)) ++ drop (partyMeasure flat) buffer }
+  pub short : length buffer < partyMeasure flat → partyPlace flat buffer ≡ record { code = codeOf (refused 24 0); bytes = buffer }
 
 pub measure-accepts : (flat buffer : List ℕ) → partyMeasure flat < 65536 → Measures flat buffer
 measure-accepts flat buffer h =
     let p = unflatten flat in
     let a : recordReply flat ≡ accepted = code-passed (recordReply flat) (measuredCode (measure (said p))) (lent-named (length flat) (leb (getD flat 0 0) 10)) h in
     let is : measuredCode (measure (said p)) ≡ partyMeasure flat = measures flat refl a in
-    record { passes = a; space = measure-and-place p buffer .measured (told-length (measure (said p)) (measure-within p) (omega (arith, is, h)) ∙ ap lengthIs is) }
+    let s = measure-and-place p buffer .measured (told-length (measure (said p)) (measure-within p) (omega (arith, is, h)) ∙ ap lengthIs is) in
+    record {
+      passes = a;
+      exact = s .exact;
+      enough = λ e. sym (places flat refl a buffer) ∙ ap placedCall (s .enough e);
+      short = λ e. sym (places flat refl a buffer) ∙ ap placedCall (s .short e);
+    }
 
 -- ---- numbers
 -- a number below w beside a multiple of w: both are told

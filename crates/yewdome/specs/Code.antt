@@ -22,12 +22,12 @@ abbrev pub Named : Reply → Type 0
 Named accepted = Unit {0}
 Named (refused k n) = (1 ≤ k) × (n ≤ bodyMost)
 
--- and a length is that of a field
+-- and a length is at most 188
 abbrev pub Measurable : Measured → Type 0
 Measurable (lengthIs n) = n ≤ fieldMost
 Measurable (refusedWith k n) = Named (refused k n)
 
--- or a position is within a page
+-- or a position is at most 32,768
 abbrev pub Within : Filed → Type 0
 Within (positionAfter n) = n ≤ pageMost
 Within (refusal k n) = Named (refused k n)

@@ -89,7 +89,7 @@ abbrev pub measuredCode : Measured → ℕ
 measuredCode (lengthIs n) = n
 measuredCode (refusedWith k n) = codeOf (refused k n)
 
--- a call that lends nothing to write, where the tests of the lent record pass
+-- the number of a call that is lent nothing to write: the refusal of the lent record, or what the call gives
 abbrev pub codeOr : Reply → ℕ → ℕ
 codeOr accepted code = code
 codeOr (refused k n) code = codeOf (refused k n)
@@ -99,12 +99,12 @@ abbrev pub partyMeasure : List ℕ → ℕ
 partyMeasure bytes = codeOr (recordReply bytes) (measuredCode (measure (said (unflatten bytes))))
 
 -- what placing gives, in these terms
-abbrev pub placed : Placing → Called
-placed c = record { code = measuredCode (c .answer); bytes = c .buffer }
+abbrev pub placedCall : Placing → Called
+placedCall c = record { code = measuredCode (c .answer); bytes = c .buffer }
 
 -- `yewdome_party_place` (document 02, Two)
 abbrev pub partyPlace : List ℕ → List ℕ → Called
-partyPlace bytes buffer = asked (recordReply bytes) (placed (place (said (unflatten bytes)) buffer)) buffer
+partyPlace bytes buffer = asked (recordReply bytes) (placedCall (place (said (unflatten bytes)) buffer)) buffer
 
 -- ---- pages
 -- a read of a page as a number: a refusal's × 4,294,967,296, or 65,536 at the end, and how many bytes it moved past

@@ -175,7 +175,7 @@ impl Checker {
             self.tally.buffers += 1;
             self.room = self.stale;
             let lent_record = &record[..flat::LENGTH + more];
-            is_measured(lent_record, written)?;
+            check_measure(lent_record, written)?;
             let given = ours::place(lent_record, &mut self.room[BEFORE..BEFORE + lent]);
             if given != code {
                 let [code, given] = [code, given].map(|code| ours::told(code, "written"));
@@ -298,7 +298,7 @@ impl Checker {
 }
 
 /// Measuring must give the length of the text, or the refusal.
-fn is_measured(record: &[u8], written: Result<&[u8], u8>) -> Result<(), String> {
+fn check_measure(record: &[u8], written: Result<&[u8], u8>) -> Result<(), String> {
     let code = written.map_or_else(|number| ours::code(number, 0), |text| text.len() as u32);
     let given = ours::measure(record);
     if given == code {

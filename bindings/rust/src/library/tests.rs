@@ -55,7 +55,7 @@ fn a_record_may_be_lent_in_more_bytes() {
     }
 }
 
-/// Measures, places and adds a record that all refuse with the number, and looks that no byte
+/// Measures, places and adds a record, which all three refuse with one number, and looks that no byte
 /// changes.
 fn refused_always(record: &[u8], position: usize) -> u8 {
     let mut buffer = [STALE; 64];

@@ -12,7 +12,8 @@ use Rattle.errors.specs.Refusals.{must}
 use Rattle.party.specs.declared.Party.{Party}
 use Rattle.party.specs.Party.{said}
 use Rattle.writer.specs.declared.Measured.{Measured}
-use Rattle.writer.specs.Placing.{place, toldPlacing}
+use Rattle.writer.specs.Writing.{fieldMost}
+use Rattle.writer.specs.Placing.{toldPlacing}
 use Rattle.page_writer.specs.Adding.{writable, hasSpace, withLf, putting, asked}
 use Rattle.page_writer.proofs.Addings.{add-21, add-asked, asked-unmeasured, asked-by, Held, room-measured, room-held}
 use Rattle.page_writer.proofs.add.Statement.{statement}
@@ -41,7 +42,7 @@ module _ (t : tie.After-n) where
   n = t .n .given .0 .0
 
   held : Held (p k) (room k) n
-  held = room-held (p k) (replicate 188 0) refl (sym (ap (λ (r : Measured). toldPlacing r (room k)) (t .n .given .1)) ∙ k .place .ensures)
+  held = room-held (p k) (replicate fieldMost 0) refl (sym (ap (λ (r : Measured). toldPlacing r (room k)) (t .n .given .1)) ∙ k .place .ensures)
 
   within : n ≤ length (room k)
   within = omega (arith, ap length (held .text), held .len, length-take n (room k))
@@ -74,7 +75,7 @@ returns-4 : tie.Need-returns-4
 returns-4 c =
     let k = c .before .before .before .before in
     let a = start k .args in
-    let m = room-measured (a .p) (replicate 188 0) refl (sym (ap (λ (r : Measured). toldPlacing r (room k)) (c .before .e .given .1)) ∙ k .place .ensures) in
+    let m = room-measured (a .p) (replicate fieldMost 0) refl (sym (ap (λ (r : Measured). toldPlacing r (room k)) (c .before .e .given .1)) ∙ k .place .ensures) in
     sym (add-asked (now (a .buf)) (a .at) (said (a .p)) (writable-here k) (asked-unmeasured (said (a .p)) m))
 
 pub add-spec : {M : Type 1} → statement M

@@ -6,7 +6,7 @@ use lib.ListN.{length, getD}
 use Rattle.party.specs.Party.{said}
 use Rattle.writer.specs.Placing.{Placing, place}
 use Rattle.flat.specs.Flat.{unflatten}
-use Rattle.yewdome.specs.Interface.{recordReply, placed}
+use Rattle.yewdome.specs.Interface.{recordReply, placedCall}
 use Rattle.yewdome.specs.Code.{Measurable}
 use Rattle.yewdome.proofs.Answers.{refuses, passes, place-within, places, placed-told}
 use Rattle.yewdome.proofs.yewdome_party_place.Statement.{statement}
@@ -16,7 +16,7 @@ returns : tie.Need-returns
 returns c =
     let t = c .before in
     let a = t .before .before .before .args in
-    refuses (recordReply (a .«record» .now)) (t .lent-record .ensures) (c .if1 .taken) (placed (place (said (unflatten (a .«record» .now))) (a .buf .now))) (a .buf .now)
+    refuses (recordReply (a .«record» .now)) (t .lent-record .ensures) (c .if1 .taken) (placedCall (place (said (unflatten (a .«record» .now))) (a .buf .now))) (a .buf .now)
 
 measured-requires : tie.Need-measured-requires
 measured-requires c κs =
