@@ -88,7 +88,8 @@ pub(crate) fn answer_to(k: usize) -> u8 {
     if k % 11 == 10 && is_present(k) { 23 } else { 0 }
 }
 
-// The same at a position of a page of 32,768 bytes: 24 where the field, its LF and the end do not fit, by what measuring says.
+// The same at a position of a page of 32,768 bytes: 24 where the field, its LF and the end do not fit, by what measuring says. A record that
+// is to be accepted has a length; were it refused one, 0 would show the add's refusal as another answer.
 pub(crate) fn answer_at(k: usize, position: usize) -> u8 {
     let answer = answer_to(k);
     if answer != 0 {
