@@ -85,6 +85,7 @@ static const char *name(unsigned number)
         CASE(NO_SUCH_RECORD);
         CASE(NOT_CARRIED);
         CASE(NO_SPACE);
+        CASE(NO_ENTRY);
         CASE(NO_SUCH_OPTION);
         CASE(SHORT_RECORD);
         CASE(SHORT_ANSWERS);

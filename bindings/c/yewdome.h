@@ -4,8 +4,8 @@
  *
  * Every function takes any bytes, any lengths and any numbers, keeps no pointer and no state, and
  * is proved equal to its definition in crates/yewdome/specs/Interface.antt. The caller owes only
- * what C cannot say: a pointer is valid for its length and not null, also where the length is 0,
- * and what is written overlaps nothing else that is lent in the same call.
+ * what C cannot say: a pointer is valid for its length, or for the whole index, and not null, also
+ * where the length is 0, and what is written overlaps nothing else that is lent in the same call.
  */
 #ifndef YEWDOME_H
 #define YEWDOME_H
@@ -38,6 +38,9 @@ extern "C" {
 #define YEWDOME_LONGEST_BODY 2048
 #define YEWDOME_LONGEST_FIELD 188
 #define YEWDOME_LONGEST_PAGE 32768
+
+/* The most entries of an index. */
+#define YEWDOME_MOST_ENTRIES 256
 
 /* The options, by their places in the table. */
 enum yewdome_option {
@@ -91,10 +94,12 @@ enum yewdome_refusal {
     YEWDOME_PAGE_LENGTH = 17,     /* a read at the page's length */
     YEWDOME_PAGE_TOO_LONG = 18,   /* over YEWDOME_LONGEST_PAGE bytes */
     /* of a position, a record and a buffer */
-    YEWDOME_POSITION = 21,        /* a position that is none to read or write at */
+    YEWDOME_POSITION = 21,        /* no position to read or write at, or a wrong entry */
     YEWDOME_NO_SUCH_RECORD = 22,  /* a record that no reader gives */
     YEWDOME_NOT_CARRIED = 23,     /* a record that would not read back from a page */
     YEWDOME_NO_SPACE = 24,        /* too little space */
+    /* of an index */
+    YEWDOME_NO_ENTRY = 31,        /* no free entry in the index, or no such entry */
     /* of a call */
     YEWDOME_NO_SUCH_OPTION = 41,  /* no option, or no choice, has the place */
     YEWDOME_SHORT_RECORD = 42,    /* a lent record of under YEWDOME_RECORD_LENGTH bytes */
@@ -197,6 +202,51 @@ uint32_t yewdome_page_add(const uint8_t *record, size_t record_length,
 
 /* Closes the page in a buffer at a position. Gives the page's length, or the refusal: 21, 24. */
 uint32_t yewdome_page_close(uint8_t *buffer, size_t buffer_length, size_t position);
+
+/*
+ * An index is lent beside a page: how many entries it has, and room for the most, of which those
+ * after the count are not used. An entry is a field of the page: its tag, as the option's place,
+ * its first position, and its length, tag and body as read, without the LF. In memory an index is
+ * 769 numbers of 32 bits, 3,076 bytes without padding: the count, then the three of each entry.
+ *
+ * An index is empty where its count is 0, whatever the rest is; the adds below fill it, and no
+ * function makes one from a page. Any numbers may be lent: a count above the most is the most, and
+ * an entry is believed only where the page has it.
+ */
+struct yewdome_entry {
+    uint32_t option;
+    uint32_t position;
+    uint32_t length;
+};
+
+struct yewdome_index {
+    uint32_t count;
+    struct yewdome_entry entries[YEWDOME_MOST_ENTRIES];
+};
+
+/* No array has -1 elements: where a compiler lays an index out otherwise, this does not compile. */
+typedef char yewdome_index_layout[sizeof(struct yewdome_index) == 3076 ? 1 : -1];
+
+/*
+ * Adds a record as `yewdome_page_add` does, and puts its entry after those that the index has; no
+ * other number but the count changes. Gives the position after, or the refusal: 42, 41, 21, 22, 23,
+ * 24, then 31 where the index has no free entry. A refusal changes neither buffer nor index.
+ */
+uint32_t yewdome_page_add_indexed(const uint8_t *record, size_t record_length,
+                                  uint8_t *buffer, size_t buffer_length, size_t position,
+                                  struct yewdome_index *index);
+
+/*
+ * Looks up field k, counted from 1, by its entry, and stores the record, if it gives one. The page
+ * is a closed one, or the open one: the bytes of the buffer before its position. Gives what
+ * `yewdome_page_read` gives at the field's position, `entries[k - 1].position`, and never the end;
+ * the body is what `yewdome_page_body` gives there. Or it gives a refusal that moves past no byte:
+ * 42, then 18, then 31 where k is 0 or the index has fewer entries, then 21 where the page has no
+ * field of the entry's tag and length at its position.
+ */
+uint64_t yewdome_page_look_up(const uint8_t *page, size_t page_length,
+                              const struct yewdome_index *index, size_t k,
+                              uint8_t *record, size_t record_length);
 
 /*
  * Reads a whole page: from its start, each read at the next position that the last gave, up to the

@@ -66,6 +66,32 @@
 //! # Ok::<(), yewdome::ParseError>(())
 //! ```
 //!
+//! # An index beside a page
+//!
+//! ```
+//! use yewdome::fields::{Field50C, Field50L};
+//! use yewdome::pages::{self, Answer, Entry, Index};
+//!
+//! let bank = Field50C { bic: "BNPAFRPPXXX".to_string() };
+//! let party = Field50L { party_identifier: "TREASURY 7".to_string() };
+//! let mut buffer = [0; 64];
+//! let mut index = Index::new();
+//! let position = pages::add_indexed(&bank, &mut buffer, 0, &mut index)?;
+//! let position = pages::add_indexed(&party, &mut buffer, position, &mut index)?;
+//! assert_eq!(index.entries()[1], Entry { option: 5, position: 17, length: 15 });
+//!
+//! // the second field, without reading the first; the page is still open
+//! let page = &buffer[..position];
+//! let read = pages::look_up(page, &index, 2)?;
+//! assert_eq!(read, pages::read_at(page, 17));
+//! assert_eq!(read.answer, Answer::Record(party.into()));
+//!
+//! // there is no third, and of another page the index is not believed
+//! assert_eq!(pages::look_up(page, &index, 3).unwrap_err().number(), 31);
+//! assert_eq!(pages::look_up(b":50L:A\n-\n", &index, 1).unwrap_err().number(), 21);
+//! # Ok::<(), yewdome::ParseError>(())
+//! ```
+//!
 //! # A page filed on a new one
 //!
 //! ```

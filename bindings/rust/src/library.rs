@@ -3,7 +3,7 @@
 //! What each function takes and gives is in `bindings/c/yewdome.h`.
 
 use crate::errors::{ErrorKind, ParseError, Result};
-use crate::pages::{Filing, Listed, Outcome, LONGEST_PAGE};
+use crate::pages::{Filing, Index, Listed, Outcome, LONGEST_PAGE};
 use crate::record::Record;
 use std::ops::Range;
 
@@ -56,6 +56,22 @@ extern "C" {
         position: usize,
     ) -> u32;
     fn yewdome_page_close(buffer: *mut u8, buffer_length: usize, position: usize) -> u32;
+    fn yewdome_page_add_indexed(
+        record: *const u8,
+        record_length: usize,
+        buffer: *mut u8,
+        buffer_length: usize,
+        position: usize,
+        index: *mut Index,
+    ) -> u32;
+    fn yewdome_page_look_up(
+        page: *const u8,
+        page_length: usize,
+        index: *const Index,
+        k: usize,
+        record: *mut u8,
+        record_length: usize,
+    ) -> u64;
     fn yewdome_page_answers(
         page: *const u8,
         page_length: usize,
@@ -75,8 +91,9 @@ extern "C" {
 // The functions as they are, on slices.
 //
 // SAFETY, of them all: a slice's pointer is not null, and the slices are valid for their lengths
-// during the call. One that is written is borrowed for the call alone, so that no other overlaps
-// it. The library keeps no pointer.
+// during the call. A pointer to an index comes from a reference, so it is not null and valid for
+// the whole of it, which is laid out as in the header; any numbers may stand in it. What is written
+// is borrowed for the call alone, so that nothing else overlaps it. The library keeps no pointer.
 
 fn party_read(option: u8, body: &[u8], record: &mut [u8]) -> u32 {
     let (text, length) = (body.as_ptr(), body.len());
@@ -121,6 +138,18 @@ fn page_close(buffer: &mut [u8], position: usize) -> u32 {
     unsafe { yewdome_page_close(buffer.as_mut_ptr(), buffer.len(), position) }
 }
 
+fn page_add_indexed(record: &[u8], buffer: &mut [u8], position: usize, index: &mut Index) -> u32 {
+    let (text, length) = (record.as_ptr(), record.len());
+    let (out, room) = (buffer.as_mut_ptr(), buffer.len());
+    unsafe { yewdome_page_add_indexed(text, length, out, room, position, index) }
+}
+
+fn page_look_up(page: &[u8], index: &Index, k: usize, record: &mut [u8]) -> u64 {
+    let (text, length) = (page.as_ptr(), page.len());
+    let (out, room) = (record.as_mut_ptr(), record.len());
+    unsafe { yewdome_page_look_up(text, length, index, k, out, room) }
+}
+
 fn page_answers(page: &[u8], answers: &mut [u64]) -> u32 {
     let (numbers, count) = (answers.as_mut_ptr(), answers.len());
     unsafe { yewdome_page_answers(page.as_ptr(), page.len(), numbers, count) }
@@ -162,6 +191,8 @@ pub(crate) fn write(record: &Record) -> Result<String> {
 
 /// What a page's read gave.
 pub(crate) struct PageRead {
+    /// The position where it was.
+    pub(crate) at: usize,
     /// What it answers.
     pub(crate) outcome: Outcome,
     /// The record, where it gave one.
@@ -176,12 +207,37 @@ pub(crate) struct PageRead {
 pub(crate) fn read_page(page: &[u8], at: usize) -> PageRead {
     let mut record = Record::new(0);
     let (outcome, moved) = told(page_read(page, at, record.bytes_mut()));
-    PageRead { outcome, record, body: body_of(page, at), moved }
+    PageRead { at, outcome, record, body: body_of(page, at), moved }
+}
+
+/// Looks up field k of a page in an index, and gives what a read at its position does. Only the
+/// lookup's own refusals move past no byte.
+pub(crate) fn look_up(page: &[u8], index: &Index, k: usize) -> Result<PageRead> {
+    let mut record = Record::new(0);
+    let (outcome, moved) = told(page_look_up(page, index, k, record.bytes_mut()));
+    match outcome {
+        Outcome::Refused(refusal) if moved == 0 => Err(refusal),
+        _ => {
+            // the library found entry k, so that there is one
+            let at = index.entries[k - 1].position as usize;
+            Ok(PageRead { at, outcome, record, body: body_of(page, at), moved })
+        }
+    }
 }
 
 /// Adds a record to the page in a buffer at a position, and gives the position after.
 pub(crate) fn add(record: &Record, buffer: &mut [u8], position: usize) -> Result<usize> {
     accepted(page_add(record.bytes(), buffer, position))
+}
+
+/// The same where the record's entry is put into an index.
+pub(crate) fn add_indexed(
+    record: &Record,
+    buffer: &mut [u8],
+    position: usize,
+    index: &mut Index,
+) -> Result<usize> {
+    accepted(page_add_indexed(record.bytes(), buffer, position, index))
 }
 
 /// Closes the page in a buffer at a position, and gives the page's length.

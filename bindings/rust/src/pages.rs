@@ -7,6 +7,9 @@
 //! the end. A page is the bytes of a buffer before the position that the last call gave: it starts
 //! at 0, each call takes the position that the last one gave, and nothing is added after closing. A
 //! refusal changes no byte of the buffer.
+//!
+//! Beside a page there may be an [`Index`], with an entry for each field that [`add_indexed`] adds.
+//! [`look_up`] finds a field by it, before and after closing, without reading those before it.
 
 use crate::errors::{ParseError, Result};
 use crate::fields::*;
@@ -22,6 +25,8 @@ pub const LONGEST_PAGE: usize = 32_768;
 pub const LONGEST_FIELD: usize = 188;
 /// The most bytes of a body that is read.
 pub const LONGEST_BODY: usize = 2_048;
+/// The most entries of an index.
+pub const MOST_ENTRIES: usize = 256;
 
 /// A record of a page, of any option.
 #[derive(Debug, Clone, PartialEq, Eq, Hash)]
@@ -100,13 +105,17 @@ pub struct Read {
 
 /// Reads a page at a position, which is 0 or the `next` of the read before.
 pub fn read_at(page: &[u8], at: usize) -> Read {
-    let read = library::read_page(page, at);
+    with_value(library::read_page(page, at))
+}
+
+/// A read of the library, with its record as a value.
+fn with_value(read: library::PageRead) -> Read {
     let answer = match read.outcome {
         Outcome::Record => read.record.value().map_or_else(Answer::Refused, Answer::Record),
         Outcome::Refused(refusal) => Answer::Refused(refusal),
         Outcome::End => Answer::End,
     };
-    Read { at, answer, body: read.body, next: at + read.moved }
+    Read { at: read.at, answer, body: read.body, next: read.at + read.moved }
 }
 
 /// The reads of a page from its start.
@@ -188,6 +197,71 @@ pub fn add<P: Recorded>(party: &P, buffer: &mut [u8], position: usize) -> Result
 /// Refused with 21 as in [`add`], with 24 where the end does not fit.
 pub fn close(buffer: &mut [u8], position: usize) -> Result<usize> {
     library::close(buffer, position)
+}
+
+/// An entry of an [`Index`]: a field of the page.
+#[derive(Debug, Clone, Copy, PartialEq, Eq, Hash, Default)]
+#[repr(C)]
+pub struct Entry {
+    /// The field's tag, as the place of its option among those of [`Party`], 0 to 10.
+    pub option: u32,
+    /// The position of the field.
+    pub position: u32,
+    /// The length of the field, tag and body as read, without the LF.
+    pub length: u32,
+}
+
+/// An index beside a page, which [`add_indexed`] fills and [`look_up`] takes. It can be stored and
+/// restored with its page: any numbers may stand in it, and an entry is believed only where the
+/// page has it. No function makes one from a page.
+#[derive(Debug, Clone, PartialEq, Eq, Hash)]
+#[repr(C)]
+pub struct Index {
+    /// How many entries it has; a count above [`MOST_ENTRIES`] is that many.
+    pub count: u32,
+    /// The entries in the order of the adds. Those after the count are not used.
+    pub entries: [Entry; MOST_ENTRIES],
+}
+
+impl Index {
+    /// An index without an entry.
+    pub const fn new() -> Self {
+        Self { count: 0, entries: [Entry { option: 0, position: 0, length: 0 }; MOST_ENTRIES] }
+    }
+
+    /// The entries that it has.
+    pub fn entries(&self) -> &[Entry] {
+        &self.entries[..MOST_ENTRIES.min(self.count as usize)]
+    }
+}
+
+impl Default for Index {
+    fn default() -> Self {
+        Self::new()
+    }
+}
+
+/// Adds as [`add`] does, and puts the field's entry after those that the index has.
+///
+/// Refused as in [`add`], and after that with 31 where the index has no free entry. A refusal
+/// changes neither the buffer nor the index.
+pub fn add_indexed<P: Recorded>(
+    party: &P,
+    buffer: &mut [u8],
+    position: usize,
+    index: &mut Index,
+) -> Result<usize> {
+    library::add_indexed(&party.record(), buffer, position, index)
+}
+
+/// Looks up field k of a page in an index, counted from 1, and gives what [`read_at`] does at its
+/// position: the record, or the refusal of the body. The page is a closed one, or the open one: the
+/// bytes of the buffer before its position.
+///
+/// Refused with 18 where the page is too long, with 31 where k is 0 or the index has fewer entries,
+/// with 21 where the page has no field of the entry's tag and length at its position.
+pub fn look_up(page: &[u8], index: &Index, k: usize) -> Result<Read> {
+    library::look_up(page, index, k).map(with_value)
 }
 
 /// What filing a page gives.

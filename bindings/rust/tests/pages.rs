@@ -312,16 +312,18 @@ fn every_refusal_of_a_page_has_its_text() {
         added(&[], 64),
         added(&["A", ""], 64),
         added(&["A"], 1),
+        look_up(b"", &Index::new(), 1).expect_err("there is no entry").to_string(),
     ];
     let due = [
         "tag of none of the eleven options (refusal 15)",
         "line that neither opens a field nor ends the page (refusal 16)",
         "read at the page's length (refusal 17)",
         "page too long (refusal 18)",
-        "position past the end or not at the start of a line (refusal 21)",
+        "position past the end or not at the start of a line, or wrong entry (refusal 21)",
         "value that no reader gives (refusal 22)",
         "record that a page cannot carry (refusal 23)",
         "too little space (refusal 24)",
+        "no free entry in the index, or no such entry (refusal 31)",
     ];
     assert_eq!(texts, due);
 }

@@ -23,6 +23,11 @@ pub then-second : (r s : Reply) → (r then s) ≡ accepted → s ≡ accepted
 then-second accepted s e = e
 then-second (refused k n) s e = absurd (refused≢accepted e)
 
+-- a last check that passes
+pub then-accepted : (r : Reply) → (r then accepted) ≡ r
+then-accepted accepted = refl
+then-accepted (refused k n) = refl
+
 -- checks in order, grouped either way
 pub then-assoc : (r s t : Reply) → ((r then s) then t) ≡ (r then (s then t))
 then-assoc accepted s t = refl

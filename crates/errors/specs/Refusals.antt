@@ -2,7 +2,7 @@
 use Prim.Native.Nat.{ℕ}
 use mathlib.Core.Bool.{Bool, true, false}
 use Rattle.errors.specs.declared.ParseError.{ParseError}
-use Rattle.errors.specs.declared.ParseError.the-variants.{LineCount, PartyIdentifier, IllegalByte, TooLong, NotNumbered, OutOfTurn, NameCount, BicMissing, BicLength, BicByte, NoOption, BodyTooLong, NotAscii, NotALetter, UnknownTag, StrayLine, PageLength, PageTooLong, Position, NoSuchRecord, NotCarried, NoSpace}
+use Rattle.errors.specs.declared.ParseError.the-variants.{LineCount, PartyIdentifier, IllegalByte, TooLong, NotNumbered, OutOfTurn, NameCount, BicMissing, BicLength, BicByte, NoOption, BodyTooLong, NotAscii, NotALetter, UnknownTag, StrayLine, PageLength, PageTooLong, Position, NoSuchRecord, NotCarried, NoSpace, NoEntry}
 use Rattle.errors.specs.declared.Refusal.{Refusal}
 use Rattle.errors.specs.declared.Outcome.{Outcome}
 use Rattle.errors.specs.declared.Outcome.the-variants.{Accepted, Refused}
@@ -51,6 +51,7 @@ refusalOf Position = refusalAt 21 0
 refusalOf NoSuchRecord = refusalAt 22 0
 refusalOf NotCarried = refusalAt 23 0
 refusalOf NoSpace = refusalAt 24 0
+refusalOf NoEntry = refusalAt 31 0
 
 -- a refusal in document 01's terms
 abbrev pub toldError : ParseError → Reply

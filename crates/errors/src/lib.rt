@@ -40,7 +40,7 @@ pub enum ParseError {
     PageLength,
     // 18: a page over 32,768 bytes
     PageTooLong,
-    // 21: a position that is none to read or write at
+    // 21: a position that is none to read or write at, or an entry that is not what the page has
     Position,
     // 22: a record the same as none that an accepted body gives
     NoSuchRecord,
@@ -48,6 +48,8 @@ pub enum ParseError {
     NotCarried,
     // 24: too little space
     NoSpace,
+    // 31: no free entry in an index, or no such entry
+    NoEntry,
 }
 
 // An answer with nothing beside it: accepted, or the refusal.
@@ -90,6 +92,7 @@ impl ParseError {
             ParseError::NoSuchRecord => at(22, 0),
             ParseError::NotCarried => at(23, 0),
             ParseError::NoSpace => at(24, 0),
+            ParseError::NoEntry => at(31, 0),
         }
     }
 }

@@ -13,6 +13,7 @@ ghost use mathlib.Core.Path.{_≡_};
 ghost use Prim.Native.Nat.{_≤_, _<_};
 ghost use lib.ListN.{length};
 ghost use Rattle.page_reader.specs.Pages.{pageMost};
+ghost use Rattle.page_writer.specs.Beside.{noIndex};
 ghost use Rattle.page_writer.specs.Demand3.{closing};
 ghost use Rattle.yewdome.specs.Filing.{recordsOf};
 
@@ -20,7 +21,7 @@ ghost use Rattle.yewdome.specs.Filing.{recordsOf};
 // refused in a buffer of at least 2 bytes, as `whole-page` says too.
 fn file_page(page: &[u8], buf: &mut [u8], answers: &mut [u64])
     requires { ⌜ (2 ≤ length (now buf)) × (length (now page) < length (now answers)) ⌝ }
-    ensures { λ r. ⌜ now (buf .exit) ≡ closing (recordsOf (now (page .entry))) (now (buf .entry)) .buffer ⌝ }
+    ensures { λ r. ⌜ now (buf .exit) ≡ closing noIndex (recordsOf (now (page .entry))) (now (buf .entry)) .buffer ⌝ }
 {
     let filed = yewdome_page_file(page, buf, answers);
     let count = (filed / 4294967296) as usize;

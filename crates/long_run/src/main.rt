@@ -1,6 +1,8 @@
 // Files generated records of all eleven options on a page until space runs out, closes it and reads it back, overwrites some fields and
-// reads it again. Compares each answer with what it is to be, and prints how many there are of each kind.
+// reads it again; then files records with an index until no entry is free, and looks each up. Compares each answer with what it is to be, and
+// prints how many there are of each kind.
 mod count;
+mod indexed;
 mod overwrite;
 mod records;
 
@@ -32,7 +34,7 @@ struct Filled {
 }
 
 // The number of an add's refusal, 0 where it is accepted.
-fn number_of(filed: Filed) -> u8 {
+pub(crate) fn number_of(filed: Filed) -> u8 {
     match filed {
         Filed::Position(_) => 0,
         Filed::Refused(e) => {
@@ -43,7 +45,7 @@ fn number_of(filed: Filed) -> u8 {
 }
 
 // The last position that an add gave.
-fn last_given(filed: Filed, position: usize) -> usize {
+pub(crate) fn last_given(filed: Filed, position: usize) -> usize {
     match filed {
         Filed::Position(n) => n,
         Filed::Refused(_) => position,
@@ -155,4 +157,5 @@ fn main() {
     let mut buf = io::large_buffer();
     let mut out = io::large_buffer();
     run(&mut buf, &mut out);
+    indexed::run(&mut buf);
 }

@@ -5,3 +5,5 @@ pub mod Bodies
 pub mod Tags
 pub mod Moves
 pub mod Starts
+pub mod InTurn
+pub mod Entries

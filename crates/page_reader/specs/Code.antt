@@ -1,15 +1,24 @@
 -- The working forms of the private functions of page_reader.
 use Prim.Native.Nat.{ℕ, _+_, _%_}
+use mathlib.Core.Path.{_≡_}
 use mathlib.Core.Bool.{Bool, true, false, _&&_}
 use mathlib.Core.List.{List, [], _∷_}
 use lib.Dec.{eqb}
 use lib.ListN.{drop}
+use Rattle.errors.specs.declared.ParseError.the-variants.{Position}
+use Rattle.errors.specs.Refusals.{refusalOf}
 use Rattle.party.specs.declared.PartyOption.{PartyOption}
-use Rattle.party.specs.Limits.{limitsOf}
+use Rattle.party.specs.Limits.{limitsOf, options}
 use Rattle.field_utils.specs.Lines.{isEmpty}
 use Rattle.page_reader.specs.declared.Tag.{Tag}
 use Rattle.page_reader.specs.declared.Tag.the-variants.{Unknown, Known}
-use Rattle.page_reader.specs.Pages.{lineAt, hasLf, lessCr, Tagged, untagged, tagged}
+use Rattle.page_reader.specs.declared.ReadCase.{ReadCase}
+use Rattle.page_reader.specs.declared.ReadCase.the-variants.{Opening}
+use Rattle.page_reader.specs.declared.index.Place.{Place}
+use Rattle.page_reader.specs.declared.index.Place.the-variants.{Field, Missing}
+use Rattle.page_reader.specs.Pages.{lineAt, hasLf, lessCr, Tagged, untagged, tagged, tagIn, textIn, readCase}
+use Rattle.page_reader.specs.Reads.{readHere}
+use Rattle.page_reader.specs.Index.{metBy, isThere, found, notFound, lookUp}
 
 -- nothing is left of the first line of a rest
 abbrev pub isOver : List ℕ → Bool
@@ -28,3 +37,19 @@ hasTag o digit letter = eqb (48 + limitsOf o .field % 10) digit && eqb (limitsOf
 unfoldable pub knownIn : List PartyOption → ℕ → ℕ → ℕ → Tag
 knownIn [] digit letter skip = Unknown
 knownIn (o ∷ os) digit letter skip = elim (hasTag o digit letter) [ true ↦ Known o skip | false ↦ knownIn os digit letter skip ]
+
+-- a field that opens at a position and runs to another, by its option and the bytes before its body
+pub record IsField (x : ReadCase) (page : List ℕ) (o : PartyOption) (skip at to : ℕ) : Type 0 where
+  pub case : x ≡ Opening to
+  pub option : tagIn options (textIn page at to) ≡ tagged o (drop skip (textIn page at to))
+
+-- what a case of a read meets there has a tag and a length, or it is 21
+abbrev pub HoldsBy : ReadCase → List ℕ → ℕ → ℕ → ℕ → Place → Type 0
+HoldsBy x page at tag len (Field o skip from to) =
+    (from ≡ at) × IsField x page o skip at to × (isThere (metBy x page at) (record { tag = tag; position = at; len = len }) ≡ true)
+HoldsBy x page at tag len (Missing e) = (e ≡ Position) × (isThere (metBy x page at) (record { tag = tag; position = at; len = len }) ≡ false)
+
+-- where a field that is looked up stands, or the refusal of the lookup
+abbrev pub Finds : List ℕ → List ℕ → ℕ → Place → Type 0
+Finds page index k (Field o skip at to) = IsField (readCase page at) page o skip at to × (lookUp page index k ≡ found (readHere page at))
+Finds page index k (Missing e) = lookUp page index k ≡ notFound (refusalOf e .number) (refusalOf e .line)

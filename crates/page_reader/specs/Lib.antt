@@ -1,2 +1,4 @@
 pub mod Pages
+pub mod Reads
+pub mod Index
 pub mod Code

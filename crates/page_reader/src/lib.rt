@@ -22,6 +22,8 @@ ghost use Rattle.page_reader.specs.declared.ReadOutcome.the-variants.{En
 ghost use Rattle.page_reader.specs.Pages.{lineAt, opens, endsAt, runs, past as pastLf, tagIn, readField, readable, textIn, readCase, readAt, toldRead, partyBeside, noBody, bodyIn, bodyPlace};
 ghost use Rattle.page_reader.specs.Code.{isOver, toldTag, hasTag, knownIn};
 
+pub mod index;
+
 // A read gives a record, the end, or a refusal.
 pub enum ReadOutcome {
     Record,

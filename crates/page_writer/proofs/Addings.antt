@@ -1,13 +1,15 @@
 -- Adding and closing by their cases, and the field of a record written out. Assumes nothing.
 use mathlib.Core.Path.{_≡_, refl, sym, _∙_, ap}
-use mathlib.Core.Bool.{Bool, true, false, and-false, and-true}
+use mathlib.Core.Bool.{Bool, true, false, not, _&&_, and-false, and-true}
 use mathlib.Core.List.{List, [], _∷_, _++_}
-use Prim.Native.Nat.{ℕ, _+_, _≤_, _<_}
+use Prim.Native.Nat.{ℕ, _+_, _-_, _≤_, _<_, min}
 use native.Mathlib.Omega.{arith}
 use lib.Dec.{eqb}
 use lib.ListN.{length, take, drop, set, length-append, length-drop}
 use lib.Seq.{take-at, drop-append-seam}
+use borrow.Author.Tests.{leb-true}
 use Rattle.errors.specs.Refusals.{Reply, accepted, refused, must, _then_}
+use Rattle.errors.proofs.Replies.{must-held, then-first, then-second}
 use Rattle.party.specs.declared.PartyOption.the-variants.{Field59F}
 use Rattle.party.specs.declared.Party.{Party}
 use Rattle.party.specs.Limits.{placeOf}
@@ -21,19 +23,94 @@ use Rattle.writer.specs.ReadBack.{identified59F}
 use Rattle.writer.proofs.Theorems.{given-exact, written-most, measure-and-place}
 use Rattle.writer.proofs.Pairs.{measure-22, measured, unmeasured}
 use Rattle.writer.proofs.Puts.{puts-byte, space, both, placed-here}
-use Rattle.page_writer.specs.Adding.{linesCarried, isCarried, writable, hasSpace, withLf, endLine, positionAfter, refusal, Call, putting, recordSpace, asked, recordReply, add, close}
+use Rattle.page_reader.specs.Pages.{pageMost}
+use Rattle.page_reader.specs.Index.{Entry}
+use Rattle.page_writer.specs.Beside.{Beside, noIndex, noting}
+use Rattle.page_writer.specs.Adding.{linesCarried, isCarried, writable, hasSpace, withLf, endLine, positionAfter, refusal, Call, putting, recordSpace, asked, recordReply, addReply, freeBeside, add, entryFor, addIndex, close}
+use Rattle.page_writer.specs.Code.{fieldCall, addWhere}
+
+pub position≢refusal : {m k n : ℕ} → positionAfter m ≡ refusal k n → ⊥
+position≢refusal e = let z : _≡_ {A = ℕ} 0 1 = cc in omega arith
 
 -- ---- adding
-module _ (buffer : List ℕ) (at : ℕ) (s : Said) where
-  pub add-21 : writable buffer at ≡ false → add buffer at s ≡ record { answer = refusal 21 0; buffer = buffer }
-  unfolding add
+-- with an index or without, by whether an entry is free
+pub add-where : (buffer : List ℕ) (at : ℕ) (b : Beside) (s : Said) → add buffer at b s ≡ addWhere buffer at (freeBeside b) s
+unfolding add
+add-where buffer at b s = refl
+
+module _ (buffer : List ℕ) (at : ℕ) (free : Bool) (s : Said) where
+  pub add-21 : writable buffer at ≡ false → addWhere buffer at free s ≡ record { answer = refusal 21 0; buffer = buffer }
+  unfolding addReply
   add-21 w = rw w
 
   -- by what a page asks of the record
   pub add-asked : {r : Reply} → writable buffer at ≡ true → asked s ≡ r
-      → add buffer at s ≡ putting (r then must (recordSpace (length buffer) at s) 24 0) buffer at (withLf (writtenField s))
-  unfolding add recordReply
+      → addWhere buffer at free s ≡ putting (r then must (recordSpace (length buffer) at s) 24 0 then must free 31 0) buffer at (withLf (writtenField s))
+  unfolding addReply recordReply
   add-asked w e = rw (w, e)
+
+-- an accepted one
+module _ (len at : ℕ) (free : Bool) (s : Said) (e : recordReply len at free s ≡ accepted) where
+  passed : asked s ≡ accepted
+  unfolding recordReply
+  passed = then-first _ _ e
+
+  spaced : (must (recordSpace len at s) 24 0 then must free 31 0) ≡ accepted
+  unfolding recordReply
+  spaced = then-second (asked s) _ e
+
+  pub reply-fit : (isGiven s ≡ true) × (isCarried s ≡ true)
+  unfolding asked
+  reply-fit = (must-held (isGiven s) 22 0 (then-first _ _ passed), must-held (isCarried s) 23 0 (then-second (must (isGiven s) 22 0) _ passed))
+
+  pub reply-space : at + length (withLf (writtenField s)) + 2 ≤ min len pageMost
+  reply-space = leb-true _ _ (must-held (recordSpace len at s) 24 0 (then-first _ _ spaced))
+
+  pub reply-free : free ≡ true
+  reply-free = must-held free 31 0 (then-second (must (recordSpace len at s) 24 0) _ spaced)
+
+pub add-record : (buffer : List ℕ) (at : ℕ) (free : Bool) (s : Said) → addReply buffer at free s ≡ accepted → recordReply (length buffer) at free s ≡ accepted
+unfolding addReply
+add-record buffer at free s e = then-second (must (writable buffer at) 21 0) _ e
+
+-- what a call answers tells its reply
+module _ (r : Reply) (buffer : List ℕ) (at : ℕ) (text : List ℕ) {e : List ℕ} where
+  pub put-accepted : {to : ℕ} → _≡_ {A = Call} (record { answer = positionAfter to; buffer = e }) (putting r buffer at text) → (r ≡ accepted) × (to ≡ at + length text)
+  put-accepted {to} q = go r q
+    where
+      go : (r : Reply) → _≡_ {A = Call} (record { answer = positionAfter to; buffer = e }) (putting r buffer at text) → (r ≡ accepted) × (to ≡ at + length text)
+      go accepted q = let a : positionAfter to ≡ positionAfter (at + length text) = ap (λ (c : Call). c .answer) q in (refl, cc)
+      go (refused k n) q = absurd (position≢refusal (ap (λ (c : Call). c .answer) q))
+
+  pub put-refused : {k n : ℕ} → _≡_ {A = Call} (record { answer = refusal k n; buffer = e }) (putting r buffer at text) → r ≡ refused k n
+  put-refused {k} {n} q = go r q
+    where
+      go : (r : Reply) → _≡_ {A = Call} (record { answer = refusal k n; buffer = e }) (putting r buffer at text) → r ≡ refused k n
+      go accepted q = absurd (position≢refusal (sym (ap (λ (c : Call). c .answer) q)))
+      go (refused i j) q = let a : refusal k n ≡ refusal i j = ap (λ (c : Call). c .answer) q in cc
+
+-- the index after it
+module _ (buffer : List ℕ) (at : ℕ) (b : Beside) (s : Said) {r : Reply} where
+  pub index-by : addReply buffer at (freeBeside b) s ≡ r → addIndex buffer at b s ≡ noting r (entryFor at s) b
+  unfolding addIndex
+  index-by e = ap (λ (x : Reply). noting x (entryFor at s) b) e
+
+-- where there is none, none
+pub index-none : (buffer : List ℕ) (at : ℕ) (s : Said) → addIndex buffer at noIndex s ≡ noIndex
+index-none buffer at s = go (addReply buffer at true s) refl
+  where
+    go : (r : Reply) → addReply buffer at true s ≡ r → addIndex buffer at noIndex s ≡ noIndex
+    go accepted e = index-by buffer at noIndex s e
+    go (refused k n) e = index-by buffer at noIndex s e
+
+-- the entry of a field from a position to the one after its LF
+pub entry-is : (p : Party) (at : ℕ) {next : ℕ} → next ≡ at + length (withLf (writtenField (said p)))
+    → _≡_ {A = Entry} (record { tag = placeOf (p .option); position = at; len = next - at - 1 }) (entryFor at (said p))
+unfolding said
+entry-is p at {next} e =
+    let f = writtenField (said p) in
+    let n : next - at - 1 ≡ length f = omega (arith, e, length-append f (10 ∷ [])) in
+    ap {B = Entry} (λ (k : ℕ). record { tag = placeOf (p .option); position = at; len = k }) n
 
 -- ---- closing
 module _ (buffer : List ℕ) (at : ℕ) where
@@ -66,15 +143,6 @@ pub identified-is : (p : Party) → p .present ≡ true → identified59F (said 
 unfolding identified59F said
 identified-is p e = rw e (and-true (eqb (placeOf (p .option)) (placeOf Field59F)))
 
--- what a page carries
-pub carried-identified : (s : Said) → identified59F s ≡ true → isCarried s ≡ false
-unfolding isCarried
-carried-identified s e = rw e (and-false (linesCarried (pieces (writtenBody s))))
-
-pub carried-pieces : (s : Said) → identified59F s ≡ false → isCarried s ≡ linesCarried (pieces (writtenBody s))
-unfolding isCarried
-carried-pieces s e = rw e (and-true (linesCarried (pieces (writtenBody s))))
-
 -- ---- the parts of a field that is written out
 pub tag-within : (p : Party) → length (tagOf (p .option)) ≤ length (writtenField (said p))
 unfolding writtenField said
@@ -83,6 +151,24 @@ tag-within p = omega (arith, length-append (tagOf (p .option)) (writtenBody (sai
 pub field-body : (p : Party) {field : List ℕ} → field ≡ writtenField (said p) → drop (length (tagOf (p .option))) field ≡ writtenBody (said p)
 unfolding writtenField said
 field-body p e = ap (drop (length (tagOf (p .option)))) e ∙ drop-append-seam (tagOf (p .option)) (writtenBody (said p))
+
+-- a field that is filed, by whether it is carried
+pub field-by : (buffer : List ℕ) (at : ℕ) (field : List ℕ) (start : ℕ) (identified free : Bool) {t : Bool} → (linesCarried (pieces (drop start field)) && not identified) ≡ t
+    → fieldCall buffer at field start identified free ≡ putting (must t 23 0 then must (hasSpace (length buffer) (at + length (withLf field) + 2)) 24 0 then must free 31 0) buffer at (withLf field)
+field-by buffer at field start identified free e =
+    ap (λ (t : Bool). putting (must t 23 0 then must (hasSpace (length buffer) (at + length (withLf field) + 2)) 24 0 then must free 31 0) buffer at (withLf field)) e
+
+-- what filing a record's is
+module _ (p : Party) (buffer : List ℕ) (at : ℕ) (free : Bool) (g : isGiven (said p) ≡ true) (w : writable buffer at ≡ true) where
+  by-body : List ℕ → Call
+  by-body body =
+      putting (must (linesCarried (pieces body) && not (identified59F (said p))) 23 0 then must (recordSpace (length buffer) at (said p)) 24 0 then must free 31 0) buffer at
+      (withLf (writtenField (said p)))
+
+  pub field-is : {field : List ℕ} {start : ℕ} {identified : Bool} → field ≡ writtenField (said p) → start ≡ length (tagOf (p .option)) → identified ≡ identified59F (said p)
+      → fieldCall buffer at field start identified free ≡ addWhere buffer at free (said p)
+  unfolding by-body isCarried
+  field-is f s i = (λ j. fieldCall buffer at (f j) (s j) (i j) free) ∙ ap by-body (field-body p refl) ∙ sym (add-asked buffer at free (said p) w (asked-by (said p) g refl))
 
 -- ---- a record placed in a room for it
 -- the record is given, and the first n bytes of the room are its field

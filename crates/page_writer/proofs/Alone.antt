@@ -40,10 +40,11 @@ use Rattle.writer.proofs.Back.{accepted-is, body-bare, plain, identified-body, 
 use Rattle.writer.proofs.Theorems.{necessary, reading-back, written-most}
 use Rattle.page_reader.specs.Pages.{pageMost, isEnd, endsPage, isBoundary, tagged, PageRead, readTagged, readField, readAt}
 use Rattle.page_reader.proofs.EndLines.{is-first}
+use Rattle.page_reader.proofs.Starts.{opens-read}
 use Rattle.page_writer.specs.Adding.{anyBoundary, laterBoundary, isCarried, withLf, endLine}
 use Rattle.page_writer.specs.WholePage.{kept, Gives, pageOf, ReadsAs, Alone}
 use Rattle.page_writer.proofs.Pieces.{Pieces, pieces-of, upToBoundary, none-cut}
-use Rattle.page_writer.proofs.Structure.{read-cut, lined-page, ending, tail-followed, reads}
+use Rattle.page_writer.proofs.Structure.{opens-cut, lined-page, ending, tail-followed, reads}
 use Rattle.page_writer.proofs.Records.{joined-front, front-lined, tagged-lined, tag-less, later-none, not-back, record-accepted, field-read, kept-sound}
 
 -- ---- what is read of a text weighs no more than the text
@@ -184,7 +185,7 @@ module _ (p : Party) (g : Given p) where
       let n = 0 + suc (length (joined (d .first ∷ upToBoundary (d .later)))) in
       let r : readAt (pageOf (kept p ∷ []) endLine) 0 ≡ readTagged (tagged o (cutBody body)) n =
       ap (λ (t : List ℕ). readAt t 0) q
-      ∙ read-cut (d .first) (d .later) endLine (d .lines) (d .opening) (tail-followed (ending [])) [] refl (subst (λ (t : List ℕ). length t ≤ pageMost) q alone-most)
+      ∙ opens-read (opens-cut (d .first) (d .later) endLine (d .lines) (d .opening) (tail-followed (ending [])) [] refl (subst (λ (t : List ℕ). length t ≤ pageMost) q alone-most))
       ∙ ap (λ (t : List ℕ). readField (withoutCr t) n) (joined-front (tagOf o) (x .first) (upToBoundary (x .later)))
       ∙ ap (λ (t : List ℕ). readField t n) (tag-less o (joined (x .first ∷ upToBoundary (x .later))))
       ∙ field-read p (cutBody body) n in

@@ -5,6 +5,8 @@ pub mod Structure
 pub mod Records
 pub mod Alone
 pub mod Fold
+pub mod Noting
 pub mod Invariant
+pub mod Indexed
 pub mod Delivered
 pub mod Theorems

@@ -4,6 +4,7 @@ use mathlib.Core.Bool.{Bool, true, false, not, _&&_, _||_, or-false}
 use mathlib.Core.List.{List, [], _∷_, _++_, append-assoc}
 use Prim.Native.Nat.{ℕ}
 use native.Mathlib.Omega.{arith}
+use lib.ListN.{length}
 use borrow.Author.Tests.{not-true}
 use Rattle.errors.specs.Refusals.{Reply, accepted, refused}
 use Rattle.party.specs.declared.PartyOption.{PartyOption}
@@ -21,7 +22,8 @@ use Rattle.writer.proofs.Relined.{cr-kept, cr-front, ends-after}
 use Rattle.writer.proofs.Theorems.{reading-back}
 use Rattle.page_reader.specs.Pages.{opens, begins, Tagged, tagged, tagIn, ReadOutcome, aRecord, aRefusal, PageRead, outcomeOf, readTagged, readField}
 use Rattle.page_reader.proofs.Cases.{field-next}
-use Rattle.page_writer.specs.Adding.{anyCr, anyBoundary, laterBoundary, linesCarried, isCarried}
+use Rattle.page_reader.specs.Index.{aField, taggedAs}
+use Rattle.page_writer.specs.Adding.{anyCr, anyBoundary, laterBoundary, linesCarried, isCarried, entryFor}
 use Rattle.page_writer.specs.WholePage.{kept, new, readNew, Gives}
 use Rattle.page_writer.proofs.Pieces.{pieces-of}
 use Rattle.page_writer.proofs.Structure.{Lined, Sound}
@@ -159,14 +161,25 @@ pub field-read : (p : Party) (body : List ℕ) (next : ℕ) → readField (tagOf
 unfolding readField
 field-read p body next = ap (λ (t : Tagged). readTagged t next) (tag-back (p .option) body)
 
+-- its text keeps every byte, and has its record's tag
+pub kept-text : (p : Party) → isCarried (said p) ≡ true → withoutCr (writtenField (said p)) ≡ writtenField (said p)
+unfolding writtenField said
+kept-text p e = tag-less (p .option) (writtenBody (said p)) ∙ ap (_++_ (tagOf (p .option))) (cr-kept (writtenBody (said p)) (carried-end (said p) e))
+
+-- so a read meets its entry
+pub kept-met : (p : Party) → isCarried (said p) ≡ true → (at : ℕ) → let x = withoutCr (writtenField (said p)) in taggedAs (tagIn options x) at (length x) ≡ aField (entryFor at (said p))
+unfolding writtenField said
+kept-met p e at =
+    let f = writtenField (said p) in
+    ap (λ (x : List ℕ). taggedAs (tagIn options x) at (length x)) (kept-text p e) ∙ ap (λ (t : Tagged). taggedAs t at (length f)) (tag-back (p .option) (writtenBody (said p)))
+
 pub kept-sound : (p : Party) → Given p → isCarried (said p) ≡ true → Sound (kept p)
 unfolding writtenField said front-lined
 kept-sound p g e =
     let o = p .option in
     let b = reading-back p g .yes (carried-back (said p) e) in
-    let x : withoutCr (tagOf o ++ writtenBody (said p)) ≡ tagOf o ++ writtenBody (said p) = tag-less o (writtenBody (said p)) ∙ ap (_++_ (tagOf o)) (cr-kept (writtenBody (said p)) (carried-end (said p) e)) in
     record {
       lined = tagged-lined o (writtenBody (said p));
       bounded = later-none (writtenBody (said p)) (carried-bounded (said p) e);
-      gives = λ next. subst (λ (r : PageRead). Gives r (kept p)) (sym (ap (λ (t : List ℕ). readField t next) x ∙ field-read p (writtenBody (said p)) next)) (accepted-record _ _ p (b .accepts) (b .same));
+      gives = λ next. subst (λ (r : PageRead). Gives r (kept p)) (sym (ap (λ (t : List ℕ). readField t next) (kept-text p e) ∙ field-read p (writtenBody (said p)) next)) (accepted-record _ _ p (b .accepts) (b .same));
     }

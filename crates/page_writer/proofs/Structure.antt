@@ -7,13 +7,15 @@ use native.Mathlib.Omega.{arith}
 use lib.Dec.{eqb}
 use lib.ListN.{length, length-append}
 use lib.Seq.{getD-append-seam, getD-append-add}
+use Rattle.party.specs.Limits.{options}
 use Rattle.field_utils.specs.Lines.{upto, starts, isEmpty, withoutCr}
 use Rattle.field_utils.proofs.Tests.{Line}
 use Rattle.writer.specs.Writing.{joined}
 use Rattle.writer.proofs.Relined.{All}
-use Rattle.page_reader.specs.Pages.{pageMost, lineAt, opens, isEnd, endsPage, endsAt, runs, past, ReadOutcome, theEnd, aRefusal, PageRead, bodiless, readField, startsLine, readAt}
+use Rattle.page_reader.specs.Pages.{pageMost, lineAt, opens, isEnd, endsPage, endsAt, runs, past, tagIn, ReadOutcome, theEnd, aRefusal, PageRead, bodiless, readField, startsLine, readAt}
+use Rattle.page_reader.specs.Index.{noField, taggedAs, fieldAt}
 use Rattle.page_reader.proofs.Cases.{field-next}
-use Rattle.page_reader.proofs.Starts.{read-length, read-opening, read-ending}
+use Rattle.page_reader.proofs.Starts.{Opens, opens-read, opens-met, read-length, meets-length, opening, read-ending, meets-ending}
 use Rattle.page_reader.proofs.Runs.{followed}
 use Rattle.page_writer.specs.Adding.{anyBoundary, withLf, endLine}
 use Rattle.page_writer.specs.Delivered.{IsEndLine}
@@ -51,14 +53,14 @@ module _ (l : List ℕ) (ls : List (List ℕ)) (rest : List ℕ) (h : All Line (
   abbrev cut : List ℕ
   cut = joined (l ∷ upToBoundary ls)
 
-  pub read-cut : length (pre ++ t) ≤ pageMost → readAt (pre ++ t) (length pre) ≡ readField (withoutCr cut) (length pre + suc (length cut))
-  read-cut m =
+  pub opens-cut : length (pre ++ t) ≤ pageMost → Opens (pre ++ t) (length pre) (withoutCr cut) (length pre + suc (length cut))
+  opens-cut m =
       let at = length pre in
       let f : opens (lineAt t) ≡ true = ap opens (first-cut l ls rest h e) ∙ o in
       let w = cut-within l ls rest h e in
       let y : past (pre ++ t) (at + runs t) ≡ at + suc (length cut) = omega (arith, length-append pre t, w, runs-cut l ls rest h e) in
-      read-opening pre t a m (joined-some l ls (10 ∷ rest) o) f (omega (arith, w)) ∙ ap (λ (z : List ℕ). readField (withoutCr z) (past (pre ++ t) (at + runs t))) (text-cut l ls rest h e)
-      ∙ ap (readField (withoutCr cut)) y
+      let k = opening pre t a m (joined-some l ls (10 ∷ rest) o) f (omega (arith, w)) in
+      record { to = k .to; case = k .case; reads = k .reads ∙ ap withoutCr (text-cut l ls rest h e); leads = k .leads ∙ y }
 
 -- ---- fields
 -- a text of lines that opens a field
@@ -121,6 +123,13 @@ tail-read (ending more) pre a m =
 tail-read (whole e h) pre a m =
     read-ending pre e a m (ends-some e (h .ends)) (h .ends) ∙ ap (bodiless theEnd) (let z : past (pre ++ e) (length pre + upto 10 e) ≡ length pre + length e = omega (arith, length-append pre e, h .whole) in z)
 
+tail-met : {tail : List ℕ} {last : ReadOutcome} {n : ℕ} → Tail tail last n → (pre : List ℕ) → startsLine pre (length pre) ≡ true → length (pre ++ tail) ≤ pageMost
+    → fieldAt (pre ++ tail) (length pre) ≡ noField
+unfolding lineAt upto starts withoutCr isEnd endsPage
+tail-met nothing pre a m = meets-length pre [] a m refl
+tail-met (ending more) pre a m = meets-ending pre (endLine ++ more) a m (omega arith) refl
+tail-met (whole e h) pre a m = meets-ending pre e a m (ends-some e (h .ends)) (h .ends)
+
 module _ {tail : List ℕ} {last : ReadOutcome} {n : ℕ} (t : Tail tail last n) where
   -- a page begins with an opening or end line, or is empty
   page-followed : (fs : List Field) → All Sound fs → followed (pageOf fs tail) ≡ true
@@ -133,40 +142,49 @@ module _ {tail : List ℕ} {last : ReadOutcome} {n : ℕ} (t : Tail tail last n)
       let m : lineAt s ≡ d .first = first-cut (d .first) (d .later) (pageOf fs tail) (d .lines) (page-followed fs (h .1)) in
       ap followed q ∙ rw m (rw (d .opening) (or-true (isEmpty s)))
 
-  -- where a field opens after other bytes, its read is that of its text without a CR, and the next position is past its LF
-  read-field : (f : Field) → Sound f → (fs : List Field) → All Sound fs → (pre : List ℕ) → startsLine pre (length pre) ≡ true
-      → length (pre ++ pageOf (f ∷ fs) tail) ≤ pageMost → readAt (pre ++ pageOf (f ∷ fs) tail) (length pre) ≡ readField (withoutCr (textOf f)) (length pre + length (withLf (textOf f)))
-  read-field f s fs h pre a m =
+  -- where a field opens after other bytes, its text is read without a CR, and the next position is past its LF
+  field-opens : (f : Field) → Sound f → (fs : List Field) → All Sound fs → (pre : List ℕ) → startsLine pre (length pre) ≡ true
+      → length (pre ++ pageOf (f ∷ fs) tail) ≤ pageMost → Opens (pre ++ pageOf (f ∷ fs) tail) (length pre) (withoutCr (textOf f)) (length pre + length (withLf (textOf f)))
+  field-opens f s fs h pre a m =
       let d = s .lined in
       let at = length pre in
       let q = lined-page f d fs tail in
       let x : joined (d .first ∷ upToBoundary (d .later)) ≡ textOf f = ap (λ (ls : List (List ℕ)). joined (d .first ∷ ls)) (none-cut (d .later) (s .bounded)) ∙ sym (d .joins) in
       let k : at + suc (length (textOf f)) ≡ at + length (withLf (textOf f)) = omega (arith, length-append (textOf f) (10 ∷ [])) in
-      ap (λ (y : List ℕ). readAt (pre ++ y) at) q
-      ∙ read-cut (d .first) (d .later) (pageOf fs tail) (d .lines) (d .opening) (page-followed fs h) pre a (subst (λ (y : List ℕ). length (pre ++ y) ≤ pageMost) q m)
-      ∙ ap (λ (y : List ℕ). readField (withoutCr y) (at + suc (length y))) x ∙ ap (readField (withoutCr (textOf f))) k
+      let c = opens-cut (d .first) (d .later) (pageOf fs tail) (d .lines) (d .opening) (page-followed fs h) pre a (subst (λ (y : List ℕ). length (pre ++ y) ≤ pageMost) q m) in
+      subst (λ (y : List ℕ). Opens (pre ++ y) at (withoutCr (textOf f)) (at + length (withLf (textOf f)))) (sym q)
+      (record { to = c .to; case = c .case; reads = c .reads ∙ ap withoutCr x; leads = c .leads ∙ ap (λ (y : List ℕ). at + suc (length y)) x ∙ k })
 
 -- the structure of a page of fields and a tail: each field opens at the length of those before it, its read is that of its text without a
--- CR before its LF, and the next opens past that; the tail is read after them
+-- CR before its LF, and the next opens past that; the tail is read after them, and is no field
 pub record Structure (fs : List Field) (tail : List ℕ) (last : ReadOutcome) (n : ℕ) : Type 0 where
   pub field : (before : List Field) (f : Field) (later : List Field) → fs ≡ before ++ f ∷ later → let at = length (pageOf before []) in
       readAt (pageOf fs tail) at ≡ readField (withoutCr (textOf f)) (at + length (withLf (textOf f)))
+  pub met : (before : List Field) (f : Field) (later : List Field) → fs ≡ before ++ f ∷ later → let at = length (pageOf before []) in
+      fieldAt (pageOf fs tail) at ≡ taggedAs (tagIn options (withoutCr (textOf f))) at (length (withoutCr (textOf f)))
   pub after : let at = length (pageOf fs []) in readAt (pageOf fs tail) at ≡ bodiless last (at + n)
+  pub none : fieldAt (pageOf fs tail) (length (pageOf fs [])) ≡ noField
 
-sound-later : (fs gs : List Field) → All Sound (fs ++ gs) → All Sound gs
-sound-later [] gs h = h
-sound-later (f ∷ fs) gs h = sound-later fs gs (h .1)
+pub all-later : {A : Type 0} (P : A → Type 0) (xs ys : List A) → All P (xs ++ ys) → All P ys
+all-later P [] ys h = h
+all-later P (x ∷ xs) ys h = all-later P xs ys (h .1)
 
 pub structure : {tail : List ℕ} {last : ReadOutcome} {n : ℕ} → Tail tail last n → (fs : List Field) → All Sound fs → length (pageOf fs tail) ≤ pageMost → Structure fs tail last n
-structure {tail} {last} {n} t fs h m = record {
-  field = λ before f later e.
-      let q : pageOf fs tail ≡ pageOf before [] ++ pageOf (f ∷ later) tail = ap (λ (x : List Field). pageOf x tail) e ∙ page-append before (f ∷ later) tail in
-      let s = sound-later before (f ∷ later) (subst (All Sound) e h) in
-      ap (λ (x : List ℕ). readAt x (length (pageOf before []))) q
-      ∙ read-field t f (s .0) later (s .1) (pageOf before []) (fields-start before) (subst (λ (x : List ℕ). length x ≤ pageMost) q m);
-  after = ap (λ (x : List ℕ). readAt x (length (pageOf fs []))) (page-tail fs tail)
-      ∙ tail-read t (pageOf fs []) (fields-start fs) (subst (λ (x : List ℕ). length x ≤ pageMost) (page-tail fs tail) m);
-}
+structure {tail} {last} {n} t fs h m =
+    let opened : (before : List Field) (f : Field) (later : List Field) → fs ≡ before ++ f ∷ later → let at = length (pageOf before []) in
+    Opens (pageOf fs tail) at (withoutCr (textOf f)) (at + length (withLf (textOf f))) =
+    λ before f later e.
+    let q : pageOf fs tail ≡ pageOf before [] ++ pageOf (f ∷ later) tail = ap (λ (x : List Field). pageOf x tail) e ∙ page-append before (f ∷ later) tail in
+    let s = all-later Sound before (f ∷ later) (subst (All Sound) e h) in
+    subst (λ (x : List ℕ). Opens x (length (pageOf before [])) (withoutCr (textOf f)) (length (pageOf before []) + length (withLf (textOf f)))) (sym q)
+    (field-opens t f (s .0) later (s .1) (pageOf before []) (fields-start before) (subst (λ (x : List ℕ). length x ≤ pageMost) q m)) in
+    let w = subst (λ (x : List ℕ). length x ≤ pageMost) (page-tail fs tail) m in
+    record {
+      field = λ before f later e. opens-read (opened before f later e);
+      met = λ before f later e. opens-met (opened before f later e);
+      after = ap (λ (x : List ℕ). readAt x (length (pageOf fs []))) (page-tail fs tail) ∙ tail-read t (pageOf fs []) (fields-start fs) w;
+      none = ap (λ (x : List ℕ). fieldAt x (length (pageOf fs []))) (page-tail fs tail) ∙ tail-met t (pageOf fs []) (fields-start fs) w;
+    }
 
 -- reading it from the start, where the tail is nothing or the end line alone: the fields, and then what the tail gives
 module _ {tail : List ℕ} {last : ReadOutcome} {n : ℕ} (t : Tail tail last n) (k : length tail ≡ n) (fs : List Field) (m : length (pageOf fs tail) ≤ pageMost) where
@@ -179,7 +197,7 @@ module _ {tail : List ℕ} {last : ReadOutcome} {n : ℕ} (t : Tail tail last n)
   reads-from h before (f ∷ later) e =
       let at = length (pageOf before []) in
       let r = structure t fs h m .field before f later e in
-      let s = sound-later before (f ∷ later) (subst (All Sound) e h) in
+      let s = all-later Sound before (f ∷ later) (subst (All Sound) e h) in
       let next = at + length (withLf (textOf f)) in
       let x : next ≡ length (pageOf (before ++ f ∷ []) []) =
       omega (arith, ap length (page-append before (f ∷ []) []), length-append (pageOf before []) (pageOf (f ∷ []) []), ap length (append-nil (withLf (textOf f)))) in

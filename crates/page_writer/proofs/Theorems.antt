@@ -19,30 +19,24 @@ use Rattle.writer.proofs.Back.{not-identified}
 use Rattle.writer.proofs.Theorems.{given-exact, necessary, written-less}
 use Rattle.writer.proofs.Puts.{put-length, put-take, put-drop}
 use Rattle.page_reader.specs.Pages.{pageMost, theEnd, aRefusal}
-use Rattle.page_writer.specs.Adding.{isCarried, hasSpace, withLf, endLine, Filed, positionAfter, refusal, Call, putting, recordSpace, asked, recordReply}
+use Rattle.page_writer.specs.Beside.{Beside, noIndex, anIndex, isIndexed}
+use Rattle.page_writer.specs.Adding.{isCarried, hasSpace, withLf, endLine, Filed, positionAfter, refusal, Call, putting, recordSpace, asked, recordReply, freeBeside}
 use Rattle.page_writer.specs.Fold.{Run, run, acceptedOf}
 use Rattle.page_writer.specs.WholePage.{OpenPage, addStep, isAccepted, Model, Field, kept, new, pageOf, ReadsAs, Alone, Overwrites}
+use Rattle.page_writer.specs.Indexed.{IsEmpty, IndexedBeside}
 use Rattle.page_writer.specs.Demand3.{adds, model, acceptedAdds, closing, page, OpenReads, ClosedPage, WholePage}
 use Rattle.page_writer.specs.Delivered.{DeliveredPage}
 use Rattle.page_writer.proofs.Structure.{Sound, page-tail, nothing, ending, reads}
-use Rattle.page_writer.proofs.Records.{carried-back, new-sound, kept-sound}
+use Rattle.page_writer.proofs.Records.{carried-back, new-sound}
 use Rattle.page_writer.proofs.Alone.{alone-exact}
-use Rattle.page_writer.proofs.Addings.{close-by}
+use Rattle.page_writer.proofs.Addings.{position≢refusal, close-by}
 use Rattle.page_writer.proofs.Fold.{run-append}
-use Rattle.page_writer.proofs.Invariant.{add-is, adds-untouched, Fit, fieldsOf, Invariant, ready, ran, listed}
+use Rattle.page_writer.proofs.Noting.{entriesFrom, Noted}
+use Rattle.page_writer.proofs.Invariant.{add-is, adds-untouched, Fit, fieldsOf, fit-sound, fields-sound, Invariant, ready, ran, listed}
+use Rattle.page_writer.proofs.Indexed.{indexed-beside}
 use Rattle.page_writer.proofs.Delivered.{delivered}
 
-position≢refusal : {m k n : ℕ} → positionAfter m ≡ refusal k n → ⊥
-position≢refusal e = let z : _≡_ {A = ℕ} 0 1 = cc in omega arith
-
 -- ---- the fields of accepted adds
-fit-sound : (p : Party) → Fit p → Sound (kept p)
-fit-sound p h = kept-sound p (given-exact p .yes (h .given)) (h .carried)
-
-fields-sound : (ps : List Party) → All Fit ps → All Sound (map kept ps)
-fields-sound [] h = tt
-fields-sound (p ∷ ps) h = (fit-sound p (h .0), fields-sound ps (h .1))
-
 -- some of them overwritten
 overwritten-sound : (ps : List Party) → All Fit ps → (fs : List Field) → Overwrites ps fs → All Sound fs
 unfolding Overwrites
@@ -61,28 +55,33 @@ fields-most (p ∷ ps) h =
     omega (arith, n, fields-most ps (h .1), length-append (withLf (writtenField (said p))) (fieldsOf ps), length-append (writtenField (said p)) (10 ∷ []))
 
 -- ---- after the adds from an empty page
-module _ (ps : List Party) (buffer : List ℕ) where
+start-noted : (b : Beside) → IsEmpty b → Noted b []
+unfolding entriesFrom
+start-noted noIndex e = tt
+start-noted (anIndex d) e = e
+
+module _ (b : Beside) (empty : IsEmpty b) (ps : List Party) (buffer : List ℕ) where
   abbrev len : ℕ
   len = length buffer
 
   abbrev s : OpenPage
-  s = adds ps buffer .state
+  s = adds b ps buffer .state
 
   abbrev m : Model
-  m = model ps len .state
+  m = model b ps len .state
 
   abbrev list : List Party
-  list = acceptedAdds ps buffer
+  list = acceptedAdds b ps buffer
 
-  both-run : Invariant len s m × (adds ps buffer .answers ≡ model ps len .answers)
+  both-run : Invariant len (isIndexed b) s m × (adds b ps buffer .answers ≡ model b ps len .answers)
   unfolding pageOf
-  both-run = ran len _ _ (record { fields = refl; ends = refl; same = refl; size = refl; fit = tt; room = λ n. absurd (omega arith) }) ps
+  both-run = ran len (isIndexed b) _ _ (record { fields = refl; ends = refl; same = refl; size = refl; fit = tt; room = λ n. absurd (omega arith); noted = start-noted b empty; kind = refl }) ps
 
-  abbrev holds : Invariant len s m
+  abbrev holds : Invariant len (isIndexed b) s m
   holds = both-run .0
 
   list-is : list ≡ m .list
-  list-is = ap (λ (xs : List Filed). acceptedOf ps (map isAccepted xs)) (both-run .1) ∙ sym (listed len ps _)
+  list-is = ap (λ (xs : List Filed). acceptedOf ps (map isAccepted xs)) (both-run .1) ∙ sym (listed len (isIndexed b) ps _)
 
   -- the bytes before the position are the fields of the accepted adds
   prefix : take (s .position) (s .buffer) ≡ fieldsOf list
@@ -95,7 +94,7 @@ module _ (ps : List Party) (buffer : List ℕ) where
   all-fit = subst (All Fit) (sym list-is) (holds .fit)
 
   untouched : drop (s .position) (s .buffer) ≡ drop (s .position) buffer
-  untouched = adds-untouched buffer (record { buffer = buffer; position = 0 }) refl ps
+  untouched = adds-untouched buffer (record { buffer = buffer; position = 0; index = b }) refl ps
 
   -- an accepted add left space to close, and so there is in a buffer of 2 bytes
   room : 0 < length list → s .position + 2 ≤ min len pageMost
@@ -106,18 +105,26 @@ module _ (ps : List Party) (buffer : List ℕ) where
   some-fit [] q = let z : s .position ≡ 0 = ends-at ∙ ap (λ (x : List Party). length (fieldsOf x)) q in (omega (arith, z), λ n. omega (arith, n, z))
   some-fit (p ∷ ls) q = let k = room (omega (arith, ap length q)) in (omega (arith, k), λ n. k)
 
+  open-most : length (fieldsOf list) ≤ pageMost
+  open-most = omega (arith, some-fit list refl .0, ends-at)
+
+  -- the index, if one is kept, has the entries of the accepted adds
+  beside : Noted (s .index) list
+  beside = subst (Noted (s .index)) (sym list-is) (holds .noted)
+
   -- an open page, at any point of a run: the fields of the accepted adds, and 17 after them
   pub open-page : OpenReads s list
   open-page = record {
     bytes = prefix;
     reads = subst (λ (x : List ℕ). ReadsAs x 0 (map kept list) (aRefusal 17 0)) (sym prefix)
-        (reads nothing refl (map kept list) (omega (arith, some-fit list refl .0, ends-at)) (fields-sound list all-fit));
+        (reads nothing refl (map kept list) open-most (fields-sound list all-fit));
+    indexed = subst (λ (x : List ℕ). IndexedBeside (s .index) x list) (sym prefix) (indexed-beside nothing list all-fit open-most (s .index) beside);
   }
 
   -- ---- the closing, by whether there is space
-  closing-is : (t : Bool) → hasSpace len (s .position + 2) ≡ t → closing ps buffer ≡ putting (must t 24 0) (s .buffer) (s .position) endLine
+  closing-is : (t : Bool) → hasSpace len (s .position + 2) ≡ t → closing b ps buffer ≡ putting (must t 24 0) (s .buffer) (s .position) endLine
   closing-is t e =
-      close-by (s .buffer) (s .position) (ready len s m holds)
+      close-by (s .buffer) (s .position) (ready len (isIndexed b) s m holds)
       ∙ ap (λ (b : Bool). putting (must b 24 0) (s .buffer) (s .position) endLine) (ap (λ (k : ℕ). hasSpace k (s .position + 2)) (holds .size) ∙ e)
 
   space-two : 2 ≤ len → hasSpace len (s .position + 2) ≡ true
@@ -126,10 +133,10 @@ module _ (ps : List Party) (buffer : List ℕ) where
   -- what an accepted closing left
   record Closed (to : ℕ) : Type 0 where
     position : to ≡ s .position + length endLine
-    bytes : closing ps buffer .buffer ≡ put (s .buffer) (s .position) endLine
+    bytes : closing b ps buffer .buffer ≡ put (s .buffer) (s .position) endLine
     space : to ≤ min (length (s .buffer)) pageMost
 
-  closed-by : {to : ℕ} → closing ps buffer .answer ≡ positionAfter to → Closed to
+  closed-by : {to : ℕ} → closing b ps buffer .answer ≡ positionAfter to → Closed to
   closed-by {to} a = go (hasSpace len (s .position + 2)) refl
     where
       go : (t : Bool) → hasSpace len (s .position + 2) ≡ t → Closed to
@@ -140,33 +147,35 @@ module _ (ps : List Party) (buffer : List ℕ) where
           record { position = k; bytes = ap (λ (c : Call). c .buffer) (closing-is true e); space = omega (arith, k, leb-true (s .position + 2) (min len pageMost) e, holds .size) }
 
   -- it gives a position within the buffer
-  pub closing-within : {to : ℕ} → closing ps buffer .answer ≡ positionAfter to → to ≤ length (closing ps buffer .buffer)
+  pub closing-within : {to : ℕ} → closing b ps buffer .answer ≡ positionAfter to → to ≤ length (closing b ps buffer .buffer)
   closing-within a =
       let d = closed-by a in
       omega (arith, d .space, ap length (d .bytes), put-length (s .buffer) (s .position) endLine (omega (arith, d .space, d .position)))
 
-  closed-page : {to : ℕ} → closing ps buffer .answer ≡ positionAfter to → ClosedPage ps buffer to
+  closed-page : {to : ℕ} → closing b ps buffer .answer ≡ positionAfter to → ClosedPage b ps buffer to
   closed-page {to} a =
       let d = closed-by a in
-      let b = closing ps buffer .buffer in
+      let bytes = closing b ps buffer .buffer in
       let k : s .position + length endLine ≤ length (s .buffer) = omega (arith, d .space, d .position) in
-      let q : page ps buffer to ≡ pageOf (map kept list) endLine =
-      ap (λ (n : ℕ). take n b) (d .position) ∙ ap (take (s .position + length endLine)) (d .bytes) ∙ put-take (s .buffer) (s .position) endLine k
+      let q : page b ps buffer to ≡ pageOf (map kept list) endLine =
+      ap (λ (n : ℕ). take n bytes) (d .position) ∙ ap (take (s .position + length endLine)) (d .bytes) ∙ put-take (s .buffer) (s .position) endLine k
       ∙ ap (λ (x : List ℕ). x ++ endLine) prefix ∙ sym (page-tail (map kept list) endLine) in
       let n : length (pageOf (map kept list) endLine) ≡ to = omega (arith, ap length (page-tail (map kept list) endLine), length-append (fieldsOf list) endLine, ends-at, d .position) in
-      let w : length (page ps buffer to) ≡ to = ap length q ∙ n in
+      let w : length (page b ps buffer to) ≡ to = ap length q ∙ n in
+      let within : length (pageOf (map kept list) endLine) ≤ pageMost = omega (arith, n, d .space) in
       record {
-        reads = subst (λ (x : List ℕ). ReadsAs x 0 (map kept list) theEnd) (sym q) (reads (ending []) refl (map kept list) (omega (arith, n, d .space)) (fields-sound list all-fit));
+        reads = subst (λ (x : List ℕ). ReadsAs x 0 (map kept list) theEnd) (sym q) (reads (ending []) refl (map kept list) within (fields-sound list all-fit));
         bytes = q;
-        after = ap (λ (x : ℕ). drop x b) (d .position) ∙ ap (drop (s .position + length endLine)) (d .bytes) ∙ put-drop (s .buffer) (s .position) endLine k
+        after = ap (λ (x : ℕ). drop x bytes) (d .position) ∙ ap (drop (s .position + length endLine)) (d .bytes) ∙ put-drop (s .buffer) (s .position) endLine k
             ∙ sym (drop-drop (length endLine) (s .position) (s .buffer)) ∙ ap (drop (length endLine)) untouched ∙ drop-drop (length endLine) (s .position) buffer
             ∙ ap (λ (x : ℕ). drop x buffer) (sym (d .position));
+        indexed = subst (λ (x : List ℕ). IndexedBeside (s .index) x list) (sym q) (indexed-beside (ending []) list all-fit within (s .index) beside);
         most = omega (arith, w, d .space);
         bound = omega (arith, w, d .position, ends-at, fields-most list all-fit);
       }
 
   -- a refused one changes nothing
-  unclosed-page : {k n : ℕ} → closing ps buffer .answer ≡ refusal k n → (closing ps buffer ≡ record { answer = refusal 24 0; buffer = buffer }) × (len < 2) × (list ≡ [])
+  unclosed-page : {k n : ℕ} → closing b ps buffer .answer ≡ refusal k n → (closing b ps buffer ≡ record { answer = refusal 24 0; buffer = buffer }) × (len < 2) × (list ≡ [])
   unfolding pageOf
   unclosed-page r = go (hasSpace len (s .position + 2)) refl list refl
     where
@@ -175,7 +184,7 @@ module _ (ps : List Party) (buffer : List ℕ) where
       short false q e = leb-false 2 len q
 
       go : (t : Bool) → hasSpace len (s .position + 2) ≡ t → (ls : List Party) → list ≡ ls
-          → (closing ps buffer ≡ record { answer = refusal 24 0; buffer = buffer }) × (len < 2) × (list ≡ [])
+          → (closing b ps buffer ≡ record { answer = refusal 24 0; buffer = buffer }) × (len < 2) × (list ≡ [])
       go true e ls q = absurd (position≢refusal (sym (ap (λ (c : Call). c .answer) (closing-is true e)) ∙ r))
       go false e (p ∷ ls) q = absurd (omega (arith, short (leb 2 len) refl e, room (omega (arith, ap length q))))
       go false e [] q =
@@ -184,48 +193,49 @@ module _ (ps : List Party) (buffer : List ℕ) where
           (closing-is false e ∙ ap {B = Call} (λ (x : List ℕ). record { answer = refusal 24 0; buffer = x }) u, short (leb 2 len) refl e, q)
 
 -- ---- a record that a reader can give, with space for it, in its turn
-module _ (before : List Party) (p : Party) (buffer : List ℕ) where
+module _ (b : Beside) (empty : IsEmpty b) (before : List Party) (p : Party) (buffer : List ℕ) where
   abbrev at : OpenPage
-  at = adds before buffer .state
+  at = adds b before buffer .state
 
   -- accepted with the position after, or refused with 23
   abbrev Exactly : Filed → Type 0
   Exactly a = (Alone p × (a ≡ positionAfter (at .position + length (withLf (writtenField (said p)))))) ⊎ ((Alone p → ⊥) × (a ≡ refusal 23 0))
 
-  exact : Given p → recordSpace (length (at .buffer)) (at .position) (said p) ≡ true → Exactly (addStep at p .answer)
+  exact : Given p → recordSpace (length (at .buffer)) (at .position) (said p) ≡ true → freeBeside (at .index) ≡ true → Exactly (addStep at p .answer)
   unfolding recordReply asked
-  exact g space = go (isCarried (said p)) refl
+  exact g space free = go (isCarried (said p)) refl
     where
       answer : {t : Bool} → isCarried (said p) ≡ t → addStep at p .answer ≡ putting (must t 23 0 then accepted) (at .buffer) (at .position) (withLf (writtenField (said p))) .answer
       answer {t} e =
-          let r : recordReply (length (at .buffer)) (at .position) (said p) ≡ (must t 23 0 then accepted) = rw (necessary p g, e, space) in
-          ap (λ (c : Call). c .answer) (add-is (at .buffer) (at .position) (said p) (ready (length buffer) at _ (holds before buffer)) r)
+          let r : recordReply (length (at .buffer)) (at .position) (freeBeside (at .index)) (said p) ≡ (must t 23 0 then accepted) = rw (necessary p g, e, space, free) in
+          ap (λ (c : Call). c .answer) (add-is (at .buffer) (at .position) (at .index) (said p) (ready (length buffer) (isIndexed b) at _ (holds b empty before buffer)) r)
 
       go : (t : Bool) → isCarried (said p) ≡ t → Exactly (addStep at p .answer)
       go true e = inl (alone-exact p g .yes e, answer e)
       go false e = inr (alone-exact p g .no e, answer e)
 
 -- it answers in the run what it answers in its turn
-turn-in : (before : List Party) (p : Party) (later : List Party) (buffer : List ℕ) {ps : List Party} → ps ≡ before ++ p ∷ later → let c = addStep (adds before buffer .state) p in
-    adds ps buffer .answers ≡ adds before buffer .answers ++ c .answer ∷ run addStep (c .state) later .answers
+turn-in : (b : Beside) (before : List Party) (p : Party) (later : List Party) (buffer : List ℕ) {ps : List Party} → ps ≡ before ++ p ∷ later
+    → let c = addStep (adds b before buffer .state) p in adds b ps buffer .answers ≡ adds b before buffer .answers ++ c .answer ∷ run addStep (c .state) later .answers
 unfolding run
-turn-in before p later buffer e =
-    ap (λ (x : List Party). adds x buffer .answers) e ∙ ap (λ (r : Run OpenPage Filed). r .answers) (run-append addStep (record { buffer = buffer; position = 0 }) before (p ∷ later))
+turn-in b before p later buffer e =
+    ap (λ (x : List Party). adds b x buffer .answers) e
+    ∙ ap (λ (r : Run OpenPage Filed). r .answers) (run-append addStep (record { buffer = buffer; position = 0; index = b }) before (p ∷ later))
 
 -- a closed page with CR LF and any end line
-pub delivered-page : (ps : List Party) (buffer e : List ℕ) → DeliveredPage ps buffer e
-delivered-page ps buffer e d m = delivered (acceptedAdds ps buffer) (all-fit ps buffer) e d m
+pub delivered-page : (b : Beside) → IsEmpty b → (ps : List Party) (buffer e : List ℕ) → DeliveredPage b ps buffer e
+delivered-page b empty ps buffer e d m = delivered (acceptedAdds b ps buffer) (all-fit b empty ps buffer) e d m
 
--- demand 3: for every list of adds and every buffer
-pub whole-page : (ps : List Party) (buffer : List ℕ) → WholePage ps buffer
-whole-page ps buffer = record {
-  closed = closed-page ps buffer;
-  in-turn = λ before p later e. turn-in before p later buffer e;
-  exactly = λ before p later e. exact before p buffer;
-  overwritten = λ fs o n. reads (ending []) refl fs n (overwritten-sound (acceptedAdds ps buffer) (all-fit ps buffer) fs o);
-  answers = both-run ps buffer .1;
-  position = holds ps buffer .same;
-  list = list-is ps buffer;
-  unclosed = unclosed-page ps buffer;
-  closes = λ n. ap (λ (c : Call). c .answer) (closing-is ps buffer true (space-two ps buffer n));
+-- demand 3: for every list of adds, every buffer, and no index or any empty one
+pub whole-page : (b : Beside) → IsEmpty b → (ps : List Party) (buffer : List ℕ) → WholePage b ps buffer
+whole-page b empty ps buffer = record {
+  closed = closed-page b empty ps buffer;
+  in-turn = λ before p later e. turn-in b before p later buffer e;
+  exactly = λ before p later e. exact b empty before p buffer;
+  overwritten = λ fs o n. reads (ending []) refl fs n (overwritten-sound (acceptedAdds b ps buffer) (all-fit b empty ps buffer) fs o);
+  answers = both-run b empty ps buffer .1;
+  position = holds b empty ps buffer .same;
+  list = list-is b empty ps buffer;
+  unclosed = unclosed-page b empty ps buffer;
+  closes = λ n. ap (λ (c : Call). c .answer) (closing-is b empty ps buffer true (space-two b empty ps buffer n));
 }

@@ -1,4 +1,4 @@
--- Adding to a page and closing it (document 01, 'Pages (added)' and 'From the state').
+-- Adding to a page and closing it (document 01, 'Pages (added)' and 'From the state'; an index beside it, document 02, Three).
 use Prim.Native.Nat.{ℕ, _+_, min}
 use mathlib.Core.Bool.{Bool, true, false, not, _&&_, _||_}
 use mathlib.Core.List.{List, [], _∷_, _++_}
@@ -6,11 +6,14 @@ use lib.Dec.{leb}
 use lib.ListN.{length}
 use Rattle.errors.specs.Refusals.{Reply, accepted, refused, must, _then_, refusalOf}
 use Rattle.party.specs.Party.{Said}
+use Rattle.party.specs.Limits.{placeOf}
 use Rattle.swift_utils.specs.Bytes.{bytes}
 use Rattle.writer.specs.Writing.{writtenBody, writtenField, pieces, put}
 use Rattle.writer.specs.Given.{isGiven}
 use Rattle.writer.specs.ReadBack.{endsCr, lastEmpty, identified59F}
 use Rattle.page_reader.specs.Pages.{pageMost, opens, endsPage, startsLine}
+use Rattle.page_reader.specs.Index.{Entry}
+use Rattle.page_writer.specs.Beside.{Beside, isIndexed, entriesBeside, isFree, noting}
 use Rattle.page_writer.specs.declared.Filed.{Filed as FiledAt}
 use Rattle.page_writer.specs.declared.Filed.the-variants.{Position, Refused}
 
@@ -76,14 +79,30 @@ recordSpace len at s = hasSpace len (at + length (withLf (writtenField s)) + 2)
 unfoldable pub asked : Said → Reply
 asked s = must (isGiven s) 22 0 then must (isCarried s) 23 0
 
--- a refusal that applies to a record at a position, by the buffer's length alone: 22, 23, 24
-unfoldable pub recordReply : ℕ → ℕ → Said → Reply
-recordReply len at s = asked s then must (recordSpace len at s) 24 0
+-- a refusal that applies to a record at a position, by the buffer's length and whether an entry is free alone: 22, 23, 24, 31 (document
+-- 02, Three)
+unfoldable pub recordReply : ℕ → ℕ → Bool → Said → Reply
+recordReply len at free s = asked s then must (recordSpace len at s) 24 0 then must free 31 0
 
--- adding: 21, 22, 23, 24; writes tag, body and LF
-unfoldable pub add : List ℕ → ℕ → Said → Call
-add buffer at s =
-    putting (must (writable buffer at) 21 0 then recordReply (length buffer) at s) buffer at (withLf (writtenField s))
+-- a refusal that applies to an add: 21 before these
+unfoldable pub addReply : List ℕ → ℕ → Bool → Said → Reply
+addReply buffer at free s = must (writable buffer at) 21 0 then recordReply (length buffer) at free s
+
+-- an entry is free beside a page
+abbrev pub freeBeside : Beside → Bool
+freeBeside b = isFree (isIndexed b) (length (entriesBeside b))
+
+-- adding, with an index or without: 21, 22, 23, 24, 31; writes tag, body and LF
+unfoldable pub add : List ℕ → ℕ → Beside → Said → Call
+add buffer at b s = putting (addReply buffer at (freeBeside b) s) buffer at (withLf (writtenField s))
+
+-- the entry of a record that is added at a position
+abbrev pub entryFor : ℕ → Said → Entry
+entryFor at s = record { tag = placeOf (s .option); position = at; len = length (writtenField s) }
+
+-- the index after it: the record's entry is noted
+unfoldable pub addIndex : List ℕ → ℕ → Beside → Said → Beside
+addIndex buffer at b s = noting (addReply buffer at (freeBeside b) s) (entryFor at s) b
 
 -- closing: 21, 24; writes `-` and LF
 unfoldable pub close : List ℕ → ℕ → Call

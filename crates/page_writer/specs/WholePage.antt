@@ -9,13 +9,16 @@ use Rattle.party.specs.declared.Party.{Party}
 use Rattle.party.specs.Party.{said, Same}
 use Rattle.writer.specs.Writing.{writtenField, pieces}
 use Rattle.page_reader.specs.Pages.{lessCr, ReadOutcome, aRecord, theEnd, PageRead, bodiless, readField, readAt}
-use Rattle.page_writer.specs.Adding.{laterBoundary, withLf, endLine, Filed, positionAfter, refusal, recordReply, add}
+use Rattle.page_writer.specs.Beside.{Beside, isFree}
+use Rattle.page_writer.specs.Adding.{laterBoundary, withLf, endLine, Filed, positionAfter, refusal, recordReply, add, addIndex}
 use Rattle.page_writer.specs.Fold.{Step}
 
--- the state of a run: the buffer as the last call left it, and the last position that a call gave
+-- the state of a run: the buffer as the last call left it, the last position that a call gave, and the index, if one is kept, as the last
+-- call left it
 pub record OpenPage : Type 0 where
   pub buffer : List ℕ
   pub position : ℕ
+  pub index : Beside
 
 -- a refused call gives no position
 abbrev pub lastGiven : Filed → ℕ → ℕ
@@ -25,8 +28,9 @@ lastGiven (refusal k n) at = at
 -- an add, as a step
 abbrev pub addStep : OpenPage → Party → Step OpenPage Filed
 addStep s p =
-    let c = add (s .buffer) (s .position) (said p) in
-    record { state = record { buffer = c .buffer; position = lastGiven (c .answer) (s .position) }; answer = c .answer }
+    let c = add (s .buffer) (s .position) (s .index) (said p) in
+    let b = addIndex (s .buffer) (s .position) (s .index) (said p) in
+    record { state = record { buffer = c .buffer; position = lastGiven (c .answer) (s .position); index = b }; answer = c .answer }
 
 -- whether an add was accepted
 abbrev pub isAccepted : Filed → Bool
@@ -45,9 +49,9 @@ modelBy accepted m p =
     record { state = record { list = m .list ++ p ∷ []; position = to }; answer = positionAfter to }
 modelBy (refused k n) m p = record { state = m; answer = refusal k n }
 
--- from the records and the buffer's length alone
-abbrev pub modelStep : ℕ → Model → Party → Step Model Filed
-modelStep len m p = modelBy (recordReply len (m .position) (said p)) m p
+-- from the records, the buffer's length and whether an index is kept alone
+abbrev pub modelStep : ℕ → Bool → Model → Party → Step Model Filed
+modelStep len indexed m p = modelBy (recordReply len (m .position) (isFree indexed (length (m .list))) (said p)) m p
 
 -- a field of a page: a record's, as it was added, or new bytes between the opening colon and the closing LF
 pub data Field : Type 0 where

@@ -3,6 +3,9 @@ use errors::ParseError;
 use field_utils::lines::find_lf;
 use page_reader::PAGE_MOST;
 use page_reader::ends_at;
+use page_reader::index::INDEX_MOST;
+use page_reader::index::INDEX_SIZE;
+use page_reader::index::entry_count;
 use page_reader::opens_at;
 use party::Party;
 use party::PartyOption;
@@ -17,12 +20,14 @@ ghost use mathlib.Core.Bool.{false, true};
 ghost use Prim.Native.Nat.{_+_, _-_, _≤_, _<_, min};
 ghost use lib.ListN.{length, take, drop};
 ghost use Rattle.party.specs.Party.{said};
-ghost use Rattle.writer.specs.Writing.{pieces, writtenField, fieldMost};
+ghost use Rattle.party.specs.Limits.{placeOf};
+ghost use Rattle.writer.specs.Writing.{pieces, fieldMost};
 ghost use Rattle.writer.specs.Code.{Puts};
 ghost use Rattle.writer.specs.ReadBack.{endsCr, identified59F};
 ghost use Rattle.page_reader.specs.Pages.{pageMost};
-ghost use Rattle.page_writer.specs.Adding.{linesCarried, isCarried, writable, hasSpace, withLf, add as addTo, close as closeAt, toldCall};
-ghost use Rattle.page_writer.specs.Code.{lineCall};
+ghost use Rattle.page_writer.specs.Beside.{noIndex, anIndex, noted};
+ghost use Rattle.page_writer.specs.Adding.{linesCarried, writable, hasSpace, withLf, add as addTo, addIndex, close as closeAt, toldCall};
+ghost use Rattle.page_writer.specs.Code.{lineCall, fieldCall, Fits, heldCall, Holds, Notes};
 
 // Adding and closing answer the position after, or a refusal.
 pub enum Filed {
@@ -109,18 +114,6 @@ fn is_identified_59f(p: Party) -> bool
     index_of(option) == index_of(PartyOption::Field59F)
 }
 
-// Whether a page carries a record, by its written field.
-fn is_carried(p: Party, field: &[u8]) -> bool
-    requires { ⌜ now field ≡ writtenField (said p) ⌝ }
-    ensures { λ r. ⌜ r ≡ isCarried (said p) ⌝ }
-{
-    if is_identified_59f(p) {
-        return false;
-    }
-    let option = p.option;
-    are_carried(field, tag_length(option))
-}
-
 // Puts a text and an LF into the buffer at a position, and gives the position after them.
 fn put_line(buf: &mut [u8], at: usize, text: &[u8]) -> usize
     requires { ⌜ at + length (now text) < length (now buf) ⌝ }
@@ -132,34 +125,126 @@ fn put_line(buf: &mut [u8], at: usize, text: &[u8]) -> usize
     end + 1
 }
 
-// Files a text and an LF at a position, where they and so many spare bytes have space; else 24.
-fn file_line(buf: &mut [u8], at: usize, text: &[u8], spare: usize) -> Filed
+// Files a text and an LF at a position, where they and so many spare bytes have space, else 24, and where an entry is free, else 31.
+fn file_line(buf: &mut [u8], at: usize, text: &[u8], spare: usize, free: bool) -> Filed
     requires { ⌜ (length (now text) ≤ fieldMost) × (spare ≤ 2) ⌝ }
-    ensures { λ r. ⌜ toldCall r (now (buf .exit)) ≡ lineCall (now (buf .entry)) at (now (text .entry)) spare ⌝ }
+    ensures { λ r. ⌜ toldCall r (now (buf .exit)) ≡ lineCall (now (buf .entry)) at (now (text .entry)) spare free ⌝ }
 {
     if !has_space(buf.len(), at, text.len() + 1 + spare) {
         return Filed::Refused(ParseError::NoSpace);
+    }
+    if !free {
+        return Filed::Refused(ParseError::NoEntry);
     }
     let end = put_line(buf, at, text);
     Filed::Position(end)
 }
 
-// Adds a record to the page at a position: 21, 22, 23, 24. Its field is placed in a room first, to see the lines as they would stand.
+// What an add holds of a record: its field in a room, by its length, where its body starts and whether it is a 59F with an identifier; or
+// the refusal: 21, 22.
+enum Held {
+    Field {
+        len: usize,
+        start: usize,
+        identified: bool,
+    },
+    Refused(ParseError),
+}
+
+// Places the field of a record that is to be added at a position in a room, to see the lines as they would stand. The record, which goes
+// by value, is asked before it is handed on.
+fn hold(p: Party, buf: &[u8], at: usize, room: &mut [u8]) -> Held
+    requires { ⌜ length (now room) ≡ fieldMost ⌝ }
+    ensures { λ r. ⌜ Holds (now (buf .entry)) at (said p) r (now (room .exit)) ⌝ }
+{
+    let option = p.option;
+    let start = tag_length(option);
+    let identified = is_identified_59f(p);
+    if !is_writable(buf, at) {
+        return Held::Refused(ParseError::Position);
+    }
+    match place(p, room) {
+        Measured::Length(len) => Held::Field {
+            len,
+            start,
+            identified,
+        },
+        Measured::Refused(e) => Held::Refused(e),
+    }
+}
+
+// Files a field at a position, by where its body starts and whether it is a 59F with an identifier: 23, 24, 31.
+fn file_field(
+    buf: &mut [u8],
+    at: usize,
+    field: &[u8],
+    start: usize,
+    identified: bool,
+    free: bool,
+) -> Filed
+    requires { ⌜ (start ≤ length (now field)) × (length (now field) ≤ fieldMost) ⌝ }
+    ensures { λ r. ⌜ toldCall r (now (buf .exit)) ≡ fieldCall (now (buf .entry)) at (now (field .entry)) start identified free ⌝ }
+{
+    if identified {
+        return Filed::Refused(ParseError::NotCarried);
+    }
+    if !are_carried(field, start) {
+        return Filed::Refused(ParseError::NotCarried);
+    }
+    file_line(buf, at, field, 2, free)
+}
+
+// Files what is held of a record at a position.
+fn file_held(buf: &mut [u8], at: usize, held: Held, room: &[u8], free: bool) -> Filed
+    requires { ⌜ Fits held (now room) ⌝ }
+    ensures { λ r. ⌜ toldCall r (now (buf .exit)) ≡ heldCall (now (buf .entry)) at held (now (room .entry)) free ⌝ }
+{
+    match held {
+        Held::Field {
+            len,
+            start,
+            identified,
+        } => file_field(buf, at, &room[..len], start, identified, free),
+        Held::Refused(e) => Filed::Refused(e),
+    }
+}
+
+// Adds a record to a page without an index at a position: 21, 22, 23, 24.
 pub fn add(p: Party, buf: &mut [u8], at: usize) -> Filed
-    ensures { λ r. ⌜ toldCall r (now (buf .exit)) ≡ addTo (now (buf .entry)) at (said p) ⌝ }
+    ensures { λ r. ⌜ toldCall r (now (buf .exit)) ≡ addTo (now (buf .entry)) at noIndex (said p) ⌝ }
 {
     let mut room = [0u8; FIELD_MOST];
-    if !is_writable(buf, at) {
-        return Filed::Refused(ParseError::Position);
-    }
-    match place(p, &mut room) {
-        Measured::Length(n) => {
-            if !is_carried(p, &room[..n]) {
-                return Filed::Refused(ParseError::NotCarried);
-            }
-            file_line(buf, at, &room[..n], 2)
+    let held = hold(p, buf, at, &mut room);
+    file_held(buf, at, held, &room, true)
+}
+
+// Puts an entry after so many others into an index, and raises the count: a field from a position to the one after its LF.
+fn note(index: &mut [u32; INDEX_SIZE], count: usize, option: PartyOption, at: usize, next: usize)
+    requires { ⌜ Notes (now index) count at next ⌝ }
+    ensures { λ r. ⌜ now (index .exit) ≡ noted (record { tag = placeOf option; position = at; len = next - at - 1 }) (now (index .entry)) ⌝ }
+{
+    let last = 3 * count;
+    index[last + 1] = index_of(option) as u32;
+    index[last + 2] = at as u32;
+    index[last + 3] = (next - at - 1) as u32;
+    index[0] = (count + 1) as u32;
+}
+
+// Adds a record to a page with an index at a position, and notes its entry: 21, 22, 23, 24, 31.
+pub fn add_indexed(p: Party, buf: &mut [u8], at: usize, index: &mut [u32; INDEX_SIZE]) -> Filed
+    ensures { λ r. ⌜ toldCall r (now (buf .exit)) ≡ addTo (now (buf .entry)) at (anIndex (now (index .entry))) (said p) ⌝ }
+    ensures index { λ r. ⌜ anIndex (now (index .exit)) ≡ addIndex (now (buf .entry)) at (anIndex (now (index .entry))) (said p) ⌝ }
+{
+    let mut room = [0u8; FIELD_MOST];
+    let option = p.option;
+    let count = entry_count(index);
+    let held = hold(p, buf, at, &mut room);
+    match file_held(buf, at, held, &room, count < INDEX_MOST) {
+        Filed::Position(next) => {
+            note(index, count, option, at, next);
+            Filed::Position(next)
         }
-        Measured::Refused(e) => Filed::Refused(e),
+        Filed::Refused(e) => Filed::Refused(e),
     }
 }
 
@@ -170,5 +255,5 @@ pub fn close(buf: &mut [u8], at: usize) -> Filed
     if !is_writable(buf, at) {
         return Filed::Refused(ParseError::Position);
     }
-    file_line(buf, at, b"-", 0)
+    file_line(buf, at, b"-", 0, true)
 }

@@ -1,6 +1,6 @@
 -- Wrong programs that adding and closing rule out (document 01, 'For the auditor's form'), each by computation.
 use mathlib.Core.Path.{_≡_, refl}
-use mathlib.Core.Bool.{false}
+use mathlib.Core.Bool.{true, false}
 use mathlib.Core.List.{List, [], _∷_, _++_}
 use Prim.Native.Nat.{ℕ}
 use lib.ListN.{replicate}
@@ -19,7 +19,8 @@ use Rattle.writer.specs.Writing.{nameLines, writtenLines, joined, writtenBody, 
 use Rattle.writer.specs.Given.{isLine, areNames, isGiven}
 use Rattle.writer.specs.ReadBack.{endsCr, lastEmpty, identified59F}
 use Rattle.page_reader.specs.Pages.{isEnd, endsPage}
-use Rattle.page_writer.specs.Adding.{anyCr, anyBoundary, laterBoundary, isCarried, writable, positionAfter, refusal, asked, recordReply, add, close}
+use Rattle.page_writer.specs.Beside.{noIndex}
+use Rattle.page_writer.specs.Adding.{anyCr, anyBoundary, laterBoundary, isCarried, writable, positionAfter, refusal, asked, recordReply, addReply, add, addIndex, close}
 use Rattle.page_writer.specs.Fold.{run}
 use Rattle.page_writer.specs.Demand3.{adds}
 use Rattle.promises.specs.Starred.{gives}
@@ -30,32 +31,32 @@ of names = gives Field50K false [] [] names .party
 
 pub record FilingRuledOut : Type 0 where
   -- an adder that leaves the page as it came, that files the first record over and over, or that refuses all
-  pub both-filed : adds (of (bytes "A" ∷ []) ∷ of (bytes "B" ∷ []) ∷ []) (replicate 20 0) .state .buffer ≡ bytes ":50K:A\n:50K:B\n" ++ replicate 6 0
+  pub both-filed : adds noIndex (of (bytes "A" ∷ []) ∷ of (bytes "B" ∷ []) ∷ []) (replicate 20 0) .state .buffer ≡ bytes ":50K:A\n:50K:B\n" ++ replicate 6 0
   -- 24 with bytes free: 9 bytes take a field of 6, its LF and the end; 8 do not
-  pub enough : recordReply 9 0 (said (of (bytes "A" ∷ []))) ≡ accepted
-  pub short : recordReply 8 0 (said (of (bytes "A" ∷ []))) ≡ refused 24 0
+  pub enough : recordReply 9 0 true (said (of (bytes "A" ∷ []))) ≡ accepted
+  pub short : recordReply 8 0 true (said (of (bytes "A" ∷ []))) ≡ refused 24 0
   -- 23 too wide by one case: a first line like an end line or an opening, a later one that only begins like an end line, a CR within
-  pub hyphen-first : recordReply 40 0 (said (of (bytes "-" ∷ []))) ≡ accepted
-  pub colon-first : recordReply 40 0 (said (of (bytes ":A" ∷ []))) ≡ accepted
-  pub hyphen-more : recordReply 40 0 (said (of (bytes "A" ∷ bytes "-B" ∷ []))) ≡ accepted
-  pub brace-first : recordReply 40 0 (said (of (bytes "-}" ∷ []))) ≡ accepted
-  pub brace-more : recordReply 40 0 (said (of (bytes "A" ∷ bytes "-}B" ∷ []))) ≡ accepted
-  pub cr-within : recordReply 40 0 (said (of (bytes "A" ∷ bytes "\rB" ∷ []))) ≡ accepted
+  pub hyphen-first : recordReply 40 0 true (said (of (bytes "-" ∷ []))) ≡ accepted
+  pub colon-first : recordReply 40 0 true (said (of (bytes ":A" ∷ []))) ≡ accepted
+  pub hyphen-more : recordReply 40 0 true (said (of (bytes "A" ∷ bytes "-B" ∷ []))) ≡ accepted
+  pub brace-first : recordReply 40 0 true (said (of (bytes "-}" ∷ []))) ≡ accepted
+  pub brace-more : recordReply 40 0 true (said (of (bytes "A" ∷ bytes "-}B" ∷ []))) ≡ accepted
+  pub cr-within : recordReply 40 0 true (said (of (bytes "A" ∷ bytes "\rB" ∷ []))) ≡ accepted
   -- or too narrow by one
-  pub hyphen-later : recordReply 40 0 (said (of (bytes "A" ∷ bytes "-" ∷ []))) ≡ refused 23 0
-  pub colon-later : recordReply 40 0 (said (of (bytes "A" ∷ bytes ":B" ∷ []))) ≡ refused 23 0
-  pub brace-later : recordReply 40 0 (said (of (bytes "A" ∷ bytes "-}" ∷ []))) ≡ refused 23 0
-  pub cr-last : recordReply 40 0 (said (of (bytes "A" ∷ bytes "B\r" ∷ []))) ≡ refused 23 0
-  pub cr-only : recordReply 40 0 (said (of (bytes "A\r" ∷ []))) ≡ refused 23 0
-  pub cr-earlier : recordReply 40 0 (said (of (bytes "A\r" ∷ bytes "B" ∷ []))) ≡ refused 23 0
-  pub empty-last : recordReply 40 0 (said (of (bytes "A" ∷ [] ∷ []))) ≡ refused 23 0
+  pub hyphen-later : recordReply 40 0 true (said (of (bytes "A" ∷ bytes "-" ∷ []))) ≡ refused 23 0
+  pub colon-later : recordReply 40 0 true (said (of (bytes "A" ∷ bytes ":B" ∷ []))) ≡ refused 23 0
+  pub brace-later : recordReply 40 0 true (said (of (bytes "A" ∷ bytes "-}" ∷ []))) ≡ refused 23 0
+  pub cr-last : recordReply 40 0 true (said (of (bytes "A" ∷ bytes "B\r" ∷ []))) ≡ refused 23 0
+  pub cr-only : recordReply 40 0 true (said (of (bytes "A\r" ∷ []))) ≡ refused 23 0
+  pub cr-earlier : recordReply 40 0 true (said (of (bytes "A\r" ∷ bytes "B" ∷ []))) ≡ refused 23 0
+  pub empty-last : recordReply 40 0 true (said (of (bytes "A" ∷ [] ∷ []))) ≡ refused 23 0
   -- closing that changes a byte after its LF, or writes `-}`
   pub closed : close (bytes "abc") 0 ≡ record { answer = positionAfter 2; buffer = bytes "-\nc" }
   -- 21 before all else: a position within a line
-  pub position : add (bytes "abcdefghijkl") 1 (said (of [])) .answer ≡ refusal 21 0
+  pub position : add (bytes "abcdefghijkl") 1 noIndex (said (of [])) .answer ≡ refusal 21 0
 
 pub filing-ruled-out : FilingRuledOut
-unfolding padded textOf said letter digit alphanumeric signs legal parseSwiftChars parseAccount upto onto starts parseLine parseLines parseNameAndAddress fourTexts partyOf nameLines writtenLines joined writtenBody writtenField pieces isLine areNames isGiven endsCr lastEmpty identified59F withoutCr isEnd endsPage anyCr anyBoundary laterBoundary isCarried writable asked recordReply add close run tagOf
+unfolding padded textOf said letter digit alphanumeric signs legal parseSwiftChars parseAccount upto onto starts parseLine parseLines parseNameAndAddress fourTexts partyOf nameLines writtenLines joined writtenBody writtenField pieces isLine areNames isGiven endsCr lastEmpty identified59F withoutCr isEnd endsPage anyCr anyBoundary laterBoundary isCarried writable asked recordReply addReply add addIndex close run tagOf
 filing-ruled-out = record {
   both-filed = refl;
   enough = refl;

@@ -4,6 +4,7 @@ pub mod Writes
 pub mod Pages
 pub mod Delivered
 pub mod Filing
+pub mod Index
 pub mod OperationsLeaves
 pub mod OperationsReaders
 pub mod OperationsBuffers

@@ -26,11 +26,13 @@ use Rattle.writer.specs.Given.{isLine, areNames, isGiven}
 use Rattle.writer.specs.Placing.{lengthIs, refusedWith, measure, place}
 use Rattle.writer.specs.ReadBack.{endsCr, lastEmpty, identified59F}
 use Rattle.page_reader.specs.Pages.{lineAt, opens, isEnd, endsPage, endsAt, runs, begins, tagIn, readField, readCase, readAt, bodyPlace}
-use Rattle.page_writer.specs.Adding.{anyCr, anyBoundary, laterBoundary, isCarried, writable, refusal, asked, recordReply, add, close}
+use Rattle.page_reader.specs.Reads.{readsFrom}
+use Rattle.page_reader.specs.Index.{entriesIn, entriesOf, fieldAt, lookUp}
+use Rattle.page_writer.specs.Beside.{noIndex, anIndex, noted}
+use Rattle.page_writer.specs.Adding.{anyCr, anyBoundary, laterBoundary, isCarried, writable, refusal, asked, recordReply, addReply, add, addIndex, close}
 use Rattle.page_writer.specs.Fold.{run}
 use Rattle.flat.specs.Flat.{recordSize, flatTexts, flatten, stored, textAt, isFlat, partyFrom, unflatten}
-use Rattle.yewdome.specs.Filing.{readsFrom}
-use Rattle.yewdome.specs.Interface.{partyRead, partyParse, partyParseWithVariant, partyMeasure, partyPlace, pageRead, pageBody, pageAdd, pageClose, pageAnswers, pageFile}
+use Rattle.yewdome.specs.Interface.{partyRead, partyParse, partyParseWithVariant, partyMeasure, partyPlace, pageRead, pageLookUp, pageBody, pageAdd, pageAddIndex, pageClose, pageAnswers, pageFile}
 use Rattle.promises.specs.Starred.{gives}
 use Rattle.promises.specs.Filing.{of}
 
@@ -180,11 +182,21 @@ pub record YewdomeOperations : Type 0 where
   -- gives the text after a tag that is none of the eleven
   pub page-body-takes-any-tag : pageBody (bytes ":51A:A\n-\n") 0 ≡ 0
   -- files a record for bytes that are none
-  pub page-add-takes-none : pageAdd [] (replicate 9 0) 0 .code ≡ 42 * 65536
+  pub page-add-takes-none : pageAdd [] (replicate 9 0) 0 noIndex .code ≡ 42 * 65536
   -- takes a presence of 2 for a yes
-  pub page-add-takes-presence-2 : pageAdd (3 ∷ 2 ∷ drop 2 flatA) (replicate 9 0) 0 .code ≡ 22 * 65536
+  pub page-add-takes-presence-2 : pageAdd (3 ∷ 2 ∷ drop 2 flatA) (replicate 9 0) 0 noIndex .code ≡ 22 * 65536
   -- gives the length written, and not the position after
-  pub page-add-gives-the-length : pageAdd flatA (bytes "X\n" ++ replicate 9 0) 2 .code ≡ 9
+  pub page-add-gives-the-length : pageAdd flatA (bytes "X\n" ++ replicate 9 0) 2 noIndex .code ≡ 9
+  -- notes what is refused: a lent record that is none
+  pub page-add-indexed-notes-none : pageAddIndex [] (replicate 9 0) 0 (anIndex (0 ∷ replicate 768 0)) ≡ anIndex (0 ∷ replicate 768 0)
+  -- leaves the index as it came
+  pub page-add-indexed-leaves-the-index : pageAddIndex flatA (bytes "X\n" ++ replicate 9 0) 2 (anIndex (0 ∷ replicate 768 0)) ≡ anIndex (1 ∷ 3 ∷ 2 ∷ 6 ∷ replicate 765 0)
+  -- gives the next position, and not how far it is
+  pub page-look-up-gives-the-position : pageLookUp (bytes "X\n:50K:A\n-\n") (1 ∷ 3 ∷ 2 ∷ 6 ∷ replicate 765 0) 1 lent .code ≡ 7
+  -- tells 31 as the page's end
+  pub page-look-up-hides-31 : pageLookUp (bytes ":50K:A\n-\n") (1 ∷ 3 ∷ 0 ∷ 6 ∷ replicate 765 0) 2 lent ≡ record { code = 31 * 65536 * 4294967296; bytes = lent }
+  -- tests 31 before 42
+  pub page-look-up-tests-space-last : pageLookUp (bytes "-\n") (replicate 769 0) 0 [] .code ≡ 42 * 65536 * 4294967296
   -- gives 2, which it wrote, and not the page's length
   pub page-close-gives-2 : pageClose (bytes "X\nab") 2 .code ≡ 4
   -- writes the hyphen before it tests the space
@@ -206,7 +218,7 @@ pub record YewdomeOperations : Type 0 where
   pub page-file-tests-late : pageFile (bytes "-\n") (bytes "ab") [] ≡ record { code = 43 * 65536; bytes = bytes "ab"; answers = [] }
 
 pub yewdome-operations : YewdomeOperations
-unfolding padded textOf said letter digit alphanumeric signs legal parseSwiftChars parseAccount bicLength parseBic upto onto starts lines white trimmedStart keep trimmedEnd trimmed isNumbered secondSlash identifierReply parsePartyIdentifier parseLine parseLines parseNameAndAddress fourTexts partyOf accountHead shortAccountHead afterHead read anyNumbered firstLine lastLine bicLike firstThat pickOf testLine nameLines writtenLines joined writtenBody writtenField pieces isLine areNames isGiven measure place endsCr lastEmpty identified59F withoutCr lineAt isEnd endsPage runs begins tagIn readField readAt isCarried writable asked recordReply add close flatTexts flatten stored optionAt textAt isFlat partyFrom unflatten parse parseWithVariant readCase anyCr anyBoundary laterBoundary bodyPlace tagOf run readsFrom
+unfolding padded textOf said letter digit alphanumeric signs legal parseSwiftChars parseAccount bicLength parseBic upto onto starts lines white trimmedStart keep trimmedEnd trimmed isNumbered secondSlash identifierReply parsePartyIdentifier parseLine parseLines parseNameAndAddress fourTexts partyOf accountHead shortAccountHead afterHead read anyNumbered firstLine lastLine bicLike firstThat pickOf testLine nameLines writtenLines joined writtenBody writtenField pieces isLine areNames isGiven measure place endsCr lastEmpty identified59F withoutCr lineAt isEnd endsPage runs begins tagIn readField readAt isCarried writable asked recordReply addReply add noted addIndex close flatTexts flatten stored optionAt textAt isFlat partyFrom unflatten entriesIn entriesOf fieldAt lookUp parse parseWithVariant readCase anyCr anyBoundary laterBoundary bodyPlace tagOf run readsFrom
 yewdome-operations = record {
   party-read-drops-the-line = refl;
   party-read-takes-11 = refl;
@@ -232,6 +244,11 @@ yewdome-operations = record {
   page-add-takes-none = refl;
   page-add-takes-presence-2 = refl;
   page-add-gives-the-length = refl;
+  page-add-indexed-notes-none = refl;
+  page-add-indexed-leaves-the-index = refl;
+  page-look-up-gives-the-position = refl;
+  page-look-up-hides-31 = refl;
+  page-look-up-tests-space-last = refl;
   page-close-gives-2 = refl;
   page-close-writes-first = refl;
   page-answers-stops = refl;

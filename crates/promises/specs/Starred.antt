@@ -38,7 +38,7 @@ fieldOf r = writtenField (said (r .party))
 
 -- what an empty page of 100 bytes answers to the record that a reading gives
 abbrev pub filingOf : Reading → Reply
-filingOf r = recordReply 100 0 (said (r .party))
+filingOf r = recordReply 100 0 true (said (r .party))
 
 -- accepted, with the record of these texts
 abbrev pub gives : PartyOption → Bool → List ℕ → List ℕ → List (List ℕ) → Reading

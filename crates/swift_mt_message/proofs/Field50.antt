@@ -9,7 +9,7 @@ use lib.Dec.{ltb, leb, eqb}
 use lib.ListN.{length, drop}
 use borrow.Author.Tests.{le-leb, lt-leb, leb-true, eqb-true, eqb-false}
 use Rattle.errors.specs.Refusals.{Reply, accepted, must, _then_}
-use Rattle.errors.proofs.Replies.{must-held, then-assoc}
+use Rattle.errors.proofs.Replies.{must-held, then-assoc, then-accepted}
 use Rattle.party.specs.declared.PartyOption.the-variants.{Field50NoOption, Field50A, Field50F, Field50K, Field50C, Field50L, Field50G, Field50H}
 use Rattle.party.specs.declared.Party.{Party}
 use Rattle.party.specs.declared.Numbering.the-variants.{Unnumbered}
@@ -30,7 +30,7 @@ use Rattle.swift_mt_message.specs.Std as S
 use Rattle.swift_mt_message.specs.SwiftUtils.{parse-swift-chars}
 use Rattle.swift_mt_message.specs.Field50 as rust
 use Rattle.swift_mt_message.specs.Equal.{told, rustRead, illegalAccount, byAccount}
-use Rattle.swift_mt_message.proofs.Results.{by-test, Is, ok, must-is, then-is, and-is, last-and, reply-is, then-accepted}
+use Rattle.swift_mt_message.proofs.Results.{by-test, Is, ok, must-is, then-is, and-is, last-and, reply-is}
 use Rattle.swift_mt_message.proofs.Std.{contained, started, at-least, up-to, counted, from-is}
 use Rattle.swift_mt_message.proofs.SwiftUtils.{account-is, bics}
 use Rattle.swift_mt_message.proofs.FieldUtils.{no-identifier, identifier}

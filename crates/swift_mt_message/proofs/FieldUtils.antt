@@ -11,6 +11,7 @@ use lib.ListN.{length, take, drop}
 use lib.Seq.{length-take-le}
 use borrow.Author.Tests.{eqb-true, ne-eqb, le-leb, ltb-true, ltb-false, lt-ltb}
 use Rattle.errors.specs.Refusals.{accepted, must, _then_}
+use Rattle.errors.proofs.Replies.{then-accepted}
 use Rattle.swift_utils.specs.Bytes.{all, between, letter, alphanumeric}
 use Rattle.swift_utils.specs.Checks.{parseAccount}
 use Rattle.field_utils.specs.Lines.{upto, starts}
@@ -22,7 +23,7 @@ use Rattle.swift_mt_message.specs.Std.{Str, slash, Ok, err-if, is-empty,
 use Rattle.swift_mt_message.specs.Std as S
 use Rattle.swift_mt_message.specs.SwiftUtils.{parse-swift-chars}
 use Rattle.swift_mt_message.specs.FieldUtils.{parse-code, parse-remaining, parse-party-identifier}
-use Rattle.swift_mt_message.proofs.Results.{by-test, Is, ok, if-is, last-is, reply-is, value-is, then-accepted}
+use Rattle.swift_mt_message.proofs.Results.{by-test, Is, ok, if-is, last-is, reply-is, value-is}
 use Rattle.swift_mt_message.proofs.Std.{alphabetic, digits, all-same, started, up-to, from-is, to-is, found-at, found-none}
 use Rattle.swift_mt_message.proofs.SwiftUtils.{swift-chars, account-is}
 

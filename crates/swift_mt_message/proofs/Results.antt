@@ -3,6 +3,7 @@ use mathlib.Core.Path.{_≡_, refl, _∙_, ap}
 use mathlib.Core.Bool.{Bool, true, false, not}
 use Prim.Native.Nat.{ℕ}
 use Rattle.errors.specs.Refusals.{Reply, accepted, refused, must, _then_}
+use Rattle.errors.proofs.Replies.{then-accepted}
 use Rattle.swift_mt_message.specs.Std.{Result, Ok, Err, _and-then_, err-if}
 use Rattle.swift_mt_message.specs.Std as S
 
@@ -50,10 +51,6 @@ reply-is {v = v} e f = record { is = e .is ∙ ap (λ (q : Reply). result q v) f
 
 pub value-is : {A : Type 0} {x : Result A} {r : Reply} {v w : A} → Is x r v → v ≡ w → Is x r w
 value-is {r = r} e f = record { is = e .is ∙ ap (result r) f }
-
-pub then-accepted : (r : Reply) → (r then accepted) ≡ r
-then-accepted accepted = refl
-then-accepted (refused k n) = refl
 
 -- the last check before what is given
 module _ {A B : Type 0} where

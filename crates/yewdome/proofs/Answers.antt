@@ -21,8 +21,9 @@ use Rattle.writer.specs.Writing.{fieldMost, writtenField, fits}
 use Rattle.writer.specs.Given.{isGiven}
 use Rattle.writer.specs.Placing.{Placing, measuring, placing, measure, place, toldMeasured, toldPlacing}
 use Rattle.writer.proofs.Theorems.{given-exact, written-most}
+use Rattle.page_writer.specs.Beside.{Beside}
 use Rattle.flat.specs.Flat.{recordSize, unflatten}
-use Rattle.yewdome.specs.Interface.{Called, codeOf, lentReply, recordReply, asked, storing, given, measuredCode, codeOr, partyMeasure, placedCall, partyPlace}
+use Rattle.yewdome.specs.Interface.{Called, codeOf, lentReply, recordReply, asked, askedBeside, storing, given, measuredCode, codeOr, partyMeasure, placedCall, partyPlace}
 use Rattle.yewdome.specs.Code.{Named, Measurable}
 use Rattle.yewdome.proofs.LineBounds.{must-line, must-then, read-line}
 
@@ -34,6 +35,10 @@ empty-lent (b ∷ bytes) e = absurd (omega (arith, e))
 pub refuses : (t : Reply) {r : ℕ} → r ≡ codeOf t → (r ≡ 0 → ⊥) → (c : Called) (bytes : List ℕ) → (record { code = r; bytes = bytes }) ≡ asked t c bytes
 refuses accepted e h c bytes = absurd (h e)
 refuses (refused k n) e h c bytes = ap {B = Called} (λ (r : ℕ). record { code = r; bytes = bytes }) e
+
+pub refuses-index : (t : Reply) {r : ℕ} → r ≡ codeOf t → (r ≡ 0 → ⊥) → (after b : Beside) → b ≡ askedBeside t after b
+refuses-index accepted e h after b = absurd (h e)
+refuses-index (refused k n) e h after b = refl
 
 pub refuses-code : (t : Reply) {r : ℕ} → r ≡ codeOf t → (r ≡ 0 → ⊥) → (n : ℕ) → r ≡ codeOr t n
 refuses-code accepted e h n = absurd (h e)

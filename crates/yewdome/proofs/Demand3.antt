@@ -16,18 +16,21 @@ use Rattle.writer.specs.Writing.{writtenField, nameLines}
 use Rattle.writer.specs.Given.{areNames, isGiven}
 use Rattle.page_reader.specs.Pages.{ReadOutcome, aRecord, theEnd, PageRead, readAt}
 use Rattle.page_reader.proofs.Moves.{next-most}
-use Rattle.page_writer.specs.Adding.{writable, endLine, Filed, positionAfter, refusal, Call, putting, withLf, asked, recordReply, add}
+use Rattle.page_writer.specs.Beside.{Beside, noIndex, anIndex, noting}
+use Rattle.page_writer.specs.Adding.{writable, endLine, Filed, positionAfter, refusal, Call, putting, withLf, asked, recordReply, addReply, add, entryFor, addIndex}
 use Rattle.page_writer.specs.Fold.{Step, Run, acceptedOf}
 use Rattle.page_writer.specs.WholePage.{OpenPage, lastGiven as lastOf, addStep as addParty, isAccepted, Field, kept, new, pageOf, readNew, Gives as GivesField, ReadsAs, Overwrites}
+use Rattle.page_writer.specs.Indexed.{IsEmpty, IndexedBeside}
 use Rattle.page_writer.specs.Demand3.{adds as partyAdds, acceptedAdds, closing as closingOf}
 use Rattle.page_writer.proofs.Fold.{run-map, alike, accepted-map}
-use Rattle.page_writer.proofs.Theorems.{whole-page}
+use Rattle.page_writer.proofs.Theorems.{open-page, whole-page}
 use Rattle.flat.specs.Flat.{recordSize, isFlat, unflatten}
 use Rattle.flat.proofs.Laws.{loaded-not}
-use Rattle.yewdome.specs.Interface.{Called, codeOf, recordReply as lentRecord, readCode, readInto, pageRead, filedCode, filed, pageAdd, pageClose}
+use Rattle.yewdome.specs.Interface.{Called, codeOf, recordReply as lentRecord, readCode, readInto, pageRead, filedCode, filed, pageAdd, pageAddIndex, pageClose}
 use Rattle.yewdome.specs.Code.{Named, Within}
-use Rattle.yewdome.specs.Demand3.{isPosition, lastGiven, addStep, adds, records, closing, page, movedBy, Gives, Reads, ExportedPage}
+use Rattle.yewdome.specs.Demand3.{isPosition, lastGiven, addStep, adds, records, closing, page, movedBy, Gives, Reads, LooksAs, ExportedPage}
 use Rattle.yewdome.proofs.Pages.{add-within, close-within, onward-from}
+use Rattle.yewdome.proofs.Looks.{look-read}
 use Rattle.yewdome.proofs.Theorems.{lent-named, page-loads, read-moved}
 
 -- ---- an add
@@ -46,22 +49,25 @@ code-tells : (a : Filed) → Within a → Tells (filedCode a) a
 code-tells (positionAfter n) w = (below n (omega (arith, w)), refl)
 code-tells (refusal k n) w = above (codeOf (refused k n)) (omega (arith, w .0))
 
--- with the bytes that it left
-abbrev Agrees : Called → Call → Type 0
-Agrees c f = Tells (c .code) (f .answer) × (c .bytes ≡ f .buffer)
+-- with the bytes that it left, and the index
+abbrev Agrees : Called → Call → Beside → Beside → Type 0
+Agrees c f after index = Tells (c .code) (f .answer) × (c .bytes ≡ f .buffer) × (after ≡ index)
 
 -- no reader gives the blank record, as which bytes that are no record load
 blank-not : isGiven (said blank) ≡ false
 unfolding isGiven said areNames nameLines parseNameAndAddress parseLines
 blank-not = refl
 
-blank-agrees : (code : ℕ) → isPosition code ≡ false → (buffer : List ℕ) (at : ℕ) → Agrees (record { code = code; bytes = buffer }) (add buffer at (said blank))
-unfolding add recordReply asked
-blank-agrees code h buffer at = rw blank-not (go (writable buffer at))
+blank-agrees : (code : ℕ) → isPosition code ≡ false → (buffer : List ℕ) (at : ℕ) (b : Beside)
+    → Agrees (record { code = code; bytes = buffer }) (add buffer at b (said blank)) b (addIndex buffer at b (said blank))
+unfolding add addIndex addReply recordReply asked
+blank-agrees code h buffer at b = rw blank-not (go (writable buffer at))
   where
-    go : (t : Bool) → Agrees (record { code = code; bytes = buffer }) (putting (must t 21 0 then refused 22 0) buffer at (withLf (writtenField (said blank))))
-    go true = (h, refl)
-    go false = (h, refl)
+    go : (t : Bool)
+        → Agrees (record { code = code; bytes = buffer }) (putting (must t 21 0 then refused 22 0) buffer at (withLf (writtenField (said blank)))) b
+        (noting (must t 21 0 then refused 22 0) (entryFor at (said blank)) b)
+    go true = (h, refl, refl)
+    go false = (h, refl, refl)
 
 -- bytes that 41 or 42 refuses are no record
 no-record : (l : List ℕ) {k n : ℕ} → lentRecord l ≡ refused k n → isFlat l ≡ false
@@ -73,31 +79,33 @@ no-record l e = go (leb recordSize (length l)) (leb (getD l 0 0) 10) e
     go true false q = refl
     go false b q = refl
 
-pub add-agrees : (l buffer : List ℕ) (at : ℕ) → Agrees (pageAdd l buffer at) (add buffer at (said (unflatten l)))
-add-agrees l buffer at = go (lentRecord l) refl
+pub add-agrees : (l buffer : List ℕ) (at : ℕ) (b : Beside)
+    → Agrees (pageAdd l buffer at b) (add buffer at b (said (unflatten l))) (pageAddIndex l buffer at b) (addIndex buffer at b (said (unflatten l)))
+add-agrees l buffer at b = go (lentRecord l) refl
   where
     f : Call
-    f = add buffer at (said (unflatten l))
+    f = add buffer at b (said (unflatten l))
 
-    go : (t : Reply) → lentRecord l ≡ t → Agrees (pageAdd l buffer at) f
-    go accepted e = rw e (code-tells (f .answer) (add-within buffer at (said (unflatten l))), refl)
+    go : (t : Reply) → lentRecord l ≡ t → Agrees (pageAdd l buffer at b) f (pageAddIndex l buffer at b) (addIndex buffer at b (said (unflatten l)))
+    go accepted e = rw e (code-tells (f .answer) (add-within buffer at b (said (unflatten l))), refl, refl)
     go (refused k n) e =
         let named : Named (refused k n) = subst Named e (lent-named (length l) (leb (getD l 0 0) 10)) in
-        rw (e, loaded-not l (no-record l e)) (blank-agrees (codeOf (refused k n)) (above (codeOf (refused k n)) (omega (arith, named .0))) buffer at)
+        rw (e, loaded-not l (no-record l e)) (blank-agrees (codeOf (refused k n)) (above (codeOf (refused k n)) (omega (arith, named .0))) buffer at b)
 
 -- ---- a run of lent records is the run of their records
 abbrev partyStep : OpenPage → List ℕ → Step OpenPage Filed
 partyStep s l = addParty s (unflatten l)
 
-agreed : (code : ℕ) {bytes buffer : List ℕ} (at : ℕ) (a : Filed) → Tells code a → bytes ≡ buffer
-    → _≡_ {A = OpenPage} (record { buffer = bytes; position = lastGiven code at }) (record { buffer = buffer; position = lastOf a at }) × (isPosition code ≡ isAccepted a)
-agreed code at (positionAfter n) t e = let k : lastGiven code at ≡ code = rw (t .0, lastGiven) in (λ i. record { buffer = e i; position = (k ∙ t .1) i }, t .0)
-agreed code at (refusal k n) t e = let m : lastGiven code at ≡ at = rw (t, lastGiven) in (λ i. record { buffer = e i; position = m i }, t)
+agreed : (code : ℕ) {bytes buffer : List ℕ} {after index : Beside} (at : ℕ) (a : Filed) → Tells code a → bytes ≡ buffer → after ≡ index
+    → _≡_ {A = OpenPage} (record { buffer = bytes; position = lastGiven code at; index = after }) (record { buffer = buffer; position = lastOf a at; index = index }) × (isPosition code ≡ isAccepted a)
+agreed code at (positionAfter n) t e f = let k : lastGiven code at ≡ code = rw (t .0, lastGiven) in (λ i. record { buffer = e i; position = (k ∙ t .1) i; index = f i }, t .0)
+agreed code at (refusal k n) t e f = let m : lastGiven code at ≡ at = rw (t, lastGiven) in (λ i. record { buffer = e i; position = m i; index = f i }, t)
 
 step-alike : (s t : OpenPage) (l : List ℕ) → s ≡ t → (addStep s l .state ≡ partyStep t l .state) × (isPosition (addStep s l .answer) ≡ isAccepted (partyStep t l .answer))
 step-alike s t l e =
     subst (λ (x : OpenPage). (addStep s l .state ≡ partyStep x l .state) × (isPosition (addStep s l .answer) ≡ isAccepted (partyStep x l .answer))) e
-    (let h = add-agrees l (s .buffer) (s .position) in agreed (pageAdd l (s .buffer) (s .position) .code) (s .position) (add (s .buffer) (s .position) (said (unflatten l)) .answer) (h .0) (h .1))
+    (let h = add-agrees l (s .buffer) (s .position) (s .index) in
+    agreed (pageAdd l (s .buffer) (s .position) (s .index) .code) (s .position) (add (s .buffer) (s .position) (s .index) (said (unflatten l)) .answer) (h .0) (h .1) (h .2))
 
 -- ---- reading
 module _ (page : List ℕ) (at : ℕ) (into : List ℕ) (i : recordSize ≤ length into) where
@@ -126,47 +134,63 @@ reads page at [] h = λ into i. (omega (arith, onward-from page at, ap (λ (r : 
 reads page at (f ∷ fs) h = λ into i.
     (field-given page at into i f (h .0), subst (λ (k : ℕ). Reads page k fs) (sym (next-is page at into i)) (reads page (readAt page at .next) fs (h .1)))
 
+-- ---- looking up
+looks-as : (b : Beside) (page : List ℕ) (list : List Party) → IndexedBeside b page list → LooksAs b page (length list)
+looks-as noIndex page list h = tt
+looks-as (anIndex d) page list h = λ before r later e l into. look-read page d (suc (length before)) into r (h .step before r later e l)
+
 -- ---- demand 3
-module _ (lents : List (List ℕ)) (buffer : List ℕ) where
+module _ (b : Beside) (empty : IsEmpty b) (lents : List (List ℕ)) (buffer : List ℕ) where
   abbrev ps : List Party
   ps = map unflatten lents
 
   abbrev left : OpenPage
-  left = partyAdds ps buffer .state
+  left = partyAdds b ps buffer .state
 
-  alike-run : (adds lents buffer .state ≡ left) × (map isPosition (adds lents buffer .answers) ≡ map isAccepted (partyAdds ps buffer .answers))
+  alike-run : (adds b lents buffer .state ≡ left) × (map isPosition (adds b lents buffer .answers) ≡ map isAccepted (partyAdds b ps buffer .answers))
   alike-run =
-      let start : OpenPage = record { buffer = buffer; position = 0 } in
+      let start : OpenPage = record { buffer = buffer; position = 0; index = b } in
       let r = alike addStep partyStep isPosition isAccepted (λ (s t : OpenPage). s ≡ t) step-alike start start refl lents in
       let m = run-map addParty unflatten start lents in
       (r .0 ∙ ap (λ (x : Run OpenPage Filed). x .state) m, r .1 ∙ ap (λ (x : Run OpenPage Filed). map isAccepted (x .answers)) m)
 
-  list : records lents buffer ≡ acceptedAdds ps buffer
-  list = accepted-map unflatten lents (map isPosition (adds lents buffer .answers)) ∙ ap (acceptedOf ps) (alike-run .1)
+  list : records b lents buffer ≡ acceptedAdds b ps buffer
+  list = accepted-map unflatten lents (map isPosition (adds b lents buffer .answers)) ∙ ap (acceptedOf ps) (alike-run .1)
 
-  closing-is : closing lents buffer ≡ filed (closingOf ps buffer)
+  closing-is : closing b lents buffer ≡ filed (closingOf b ps buffer)
   closing-is = ap (λ (x : OpenPage). pageClose (x .buffer) (x .position)) (alike-run .0)
 
-  code-is : closing lents buffer .code ≡ filedCode (closingOf ps buffer .answer)
+  code-is : closing b lents buffer .code ≡ filedCode (closingOf b ps buffer .answer)
   code-is = ap (λ (c : Called). c .code) closing-is
 
-  closed : (a : Filed) → closingOf ps buffer .answer ≡ a → isPosition (closing lents buffer .code) ≡ true → Reads (page lents buffer) 0 (map kept (records lents buffer))
-  closed (positionAfter to) e h =
-      let c : closing lents buffer .code ≡ to = code-is ∙ ap filedCode e in
-      let p : page lents buffer ≡ take to (closingOf ps buffer .buffer) = ap (λ (k : ℕ). take k (closing lents buffer .bytes)) c ∙ ap (λ (x : Called). take to (x .bytes)) closing-is in
-      reads (page lents buffer) 0 (map kept (records lents buffer))
-      (subst (λ (x : List ℕ). ReadsAs x 0 (map kept (records lents buffer)) theEnd) (sym p)
-      (subst (λ (x : List Party). ReadsAs (take to (closingOf ps buffer .buffer)) 0 (map kept x) theEnd) (sym list) (whole-page ps buffer .closed e .reads)))
-  closed (refusal k n) e h =
-      let w : Named (refused k n) = subst Within e (close-within (left .buffer) (left .position)) in
-      absurd (false≢true (sym (above (codeOf (refused k n)) (omega (arith, w .0))) ∙ (ap isPosition (sym (code-is ∙ ap filedCode e)) ∙ h)))
+  -- the closed page is that of `whole-page`
+  closed : isPosition (closing b lents buffer .code) ≡ true → (to : ℕ) × (closingOf b ps buffer .answer ≡ positionAfter to) × (page b lents buffer ≡ take to (closingOf b ps buffer .buffer))
+  closed h = go (closingOf b ps buffer .answer) refl
+    where
+      go : (a : Filed) → closingOf b ps buffer .answer ≡ a → (to : ℕ) × (closingOf b ps buffer .answer ≡ positionAfter to) × (page b lents buffer ≡ take to (closingOf b ps buffer .buffer))
+      go (positionAfter to) e = (to, e, ap (λ (k : ℕ). take k (closing b lents buffer .bytes)) (code-is ∙ ap filedCode e) ∙ ap (λ (x : Called). take to (x .bytes)) closing-is)
+      go (refusal k n) e =
+          let w : Named (refused k n) = subst Within e (close-within (left .buffer) (left .position)) in
+          absurd (false≢true (sym (above (codeOf (refused k n)) (omega (arith, w .0))) ∙ (ap isPosition (sym (code-is ∙ ap filedCode e)) ∙ h)))
 
-  pub exported-page : ExportedPage lents buffer
+  pub exported-page : ExportedPage b lents buffer
   exported-page = record {
-    reads = closed (closingOf ps buffer .answer) refl;
+    reads = λ h.
+        let c = closed h in
+        subst (λ (x : List ℕ). Reads x 0 (map kept (records b lents buffer))) (sym (c .2))
+        (reads _ 0 (map kept (records b lents buffer)) (subst (λ (x : List Party). ReadsAs (take (c .0) (closingOf b ps buffer .buffer)) 0 (map kept x) theEnd) (sym list) (whole-page b empty ps buffer .closed (c .1) .reads)));
+    open-looks = subst (λ (s : OpenPage). LooksAs (s .index) (take (s .position) (s .buffer)) (length (records b lents buffer))) (sym (alike-run .0))
+        (subst (λ (x : List Party). LooksAs (left .index) (take (left .position) (left .buffer)) (length x)) (sym list)
+        (looks-as (left .index) _ (acceptedAdds b ps buffer) (open-page b empty ps buffer .indexed)));
+    looks = λ h.
+        let c = closed h in
+        subst (λ (s : OpenPage). LooksAs (s .index) (page b lents buffer) (length (records b lents buffer))) (sym (alike-run .0))
+        (subst (λ (x : List ℕ). LooksAs (left .index) x (length (records b lents buffer))) (sym (c .2))
+        (subst (λ (x : List Party). LooksAs (left .index) (take (c .0) (closingOf b ps buffer .buffer)) (length x)) (sym list)
+        (looks-as (left .index) _ (acceptedAdds b ps buffer) (whole-page b empty ps buffer .closed (c .1) .indexed))));
     closes = λ n.
-        let e = whole-page ps buffer .closes n in
+        let e = whole-page b empty ps buffer .closes n in
         let w = subst Within e (close-within (left .buffer) (left .position)) in
         ap isPosition (code-is ∙ ap filedCode e) ∙ below (left .position + 2) (omega (arith, w));
-    overwritten = λ fs o m. reads (pageOf fs endLine) 0 fs (whole-page ps buffer .overwritten fs (subst (λ (x : List Party). Overwrites x fs) list o) m);
+    overwritten = λ fs o m. reads (pageOf fs endLine) 0 fs (whole-page b empty ps buffer .overwritten fs (subst (λ (x : List Party). Overwrites x fs) list o) m);
   }

@@ -1,7 +1,7 @@
 pub mod LineBounds
 pub mod Answers
 pub mod Pages
-pub mod InTurn
+pub mod Looks
 pub mod Whole
 pub mod Theorems
 pub mod Steps

@@ -19,10 +19,11 @@ use Rattle.page_reader.specs.declared.ReadOutcome.{ReadOutcome as OutcomeAt}
 use Rattle.page_reader.specs.Pages.{pageMost, ReadOutcome, aRecord, theEnd, aRefusal, PageRead, outcomeOf, readAt, toldOutcome, toldRead}
 use Rattle.page_reader.proofs.Moves.{stays-or-moves, next-most, every-read}
 use Rattle.page_writer.specs.declared.Filed.{Filed as FiledAt}
-use Rattle.page_writer.specs.Adding.{isCarried, writable, hasSpace, withLf, endLine, Call, putting, recordSpace, asked, recordReply, add, close, toldFiled, toldCall}
-use Rattle.page_writer.proofs.Invariant.{reply-space}
+use Rattle.page_writer.specs.Beside.{Beside}
+use Rattle.page_writer.specs.Adding.{isCarried, writable, hasSpace, withLf, endLine, Call, putting, recordSpace, asked, recordReply, addReply, freeBeside, add, addIndex, close, toldFiled, toldCall}
+use Rattle.page_writer.proofs.Addings.{reply-space}
 use Rattle.flat.specs.Flat.{unflatten}
-use Rattle.yewdome.specs.Interface.{Called, codeOf, lentReply, recordReply as lentRecordReply, readCode, readBytes, readInto, askedRead, pageRead, filedCode, filed, pageAdd}
+use Rattle.yewdome.specs.Interface.{Called, codeOf, lentReply, recordReply as lentRecordReply, readCode, readBytes, readInto, askedRead, pageRead, filedCode, filed, pageAdd, pageAddIndex}
 use Rattle.yewdome.specs.Code.{Named, Within}
 use Rattle.yewdome.proofs.LineBounds.{must-line, must-then, read-line}
 
@@ -31,17 +32,18 @@ putting-within : (r : Reply) (buffer : List ℕ) (at : ℕ) (text : List ℕ) �
 putting-within accepted buffer at text n h = h refl
 putting-within (refused k n) buffer at text m h = m
 
-pub add-within : (buffer : List ℕ) (at : ℕ) (s : Said) → Within (add buffer at s .answer)
-unfolding add recordReply asked
-add-within buffer at s =
+pub add-within : (buffer : List ℕ) (at : ℕ) (b : Beside) (s : Said) → Within (add buffer at b s .answer)
+unfolding add addReply recordReply asked
+add-within buffer at b s =
     let space = recordSpace (length buffer) at s in
-    let later = must (isCarried s) 23 0 then must space 24 0 in
-    putting-within (must (writable buffer at) 21 0 then recordReply (length buffer) at s) buffer at (withLf (writtenField s))
-    (subst (λ (r : Reply). Named (must (writable buffer at) 21 0 then r)) (sym (then-assoc (must (isGiven s) 22 0) (must (isCarried s) 23 0) (must space 24 0)))
-    (must-then (writable buffer at) 21 0 (must (isGiven s) 22 0 then later) (omega arith) (omega arith)
-    (must-then (isGiven s) 22 0 later (omega arith) (omega arith)
-    (must-then (isCarried s) 23 0 (must space 24 0) (omega arith) (omega arith) (must-line space 24 0 (omega arith) (omega arith))))))
-    (λ e. omega (arith, reply-space (length buffer) at s (then-second (must (writable buffer at) 21 0) _ e)))
+    let last = must space 24 0 then must (freeBeside b) 31 0 in
+    putting-within (must (writable buffer at) 21 0 then recordReply (length buffer) at (freeBeside b) s) buffer at (withLf (writtenField s))
+    (subst (λ (r : Reply). Named (must (writable buffer at) 21 0 then r)) (sym (then-assoc (must (isGiven s) 22 0) (must (isCarried s) 23 0) last))
+    (must-then (writable buffer at) 21 0 (must (isGiven s) 22 0 then must (isCarried s) 23 0 then last) (omega arith) (omega arith)
+    (must-then (isGiven s) 22 0 (must (isCarried s) 23 0 then last) (omega arith) (omega arith)
+    (must-then (isCarried s) 23 0 last (omega arith) (omega arith)
+    (must-then space 24 0 (must (freeBeside b) 31 0) (omega arith) (omega arith) (must-line (freeBeside b) 31 0 (omega arith) (omega arith)))))))
+    (λ e. omega (arith, reply-space (length buffer) at (freeBeside b) s (then-second (must (writable buffer at) 21 0) _ e)))
 
 pub close-within : (buffer : List ℕ) (at : ℕ) → Within (close buffer at .answer)
 unfolding close
@@ -60,8 +62,12 @@ module _ (r : FiledAt) {last : List ℕ} {f : Call} (e : toldCall r last ≡ f) 
   filed-told q = ap {B = Called} (λ (k : ℕ). record { code = k; bytes = last }) q ∙ ap filed e
 
 -- the record that was loaded is the one that was added
-pub adds : (flat buffer : List ℕ) (at : ℕ) {p : Party} → lentRecordReply flat ≡ accepted → p ≡ unflatten flat → filed (add buffer at (said p)) ≡ pageAdd flat buffer at
-adds flat buffer at a l = ap (λ (x : Party). filed (add buffer at (said x))) l ∙ rw a
+module _ (flat buffer : List ℕ) (at : ℕ) (b : Beside) {p : Party} (a : lentRecordReply flat ≡ accepted) (l : p ≡ unflatten flat) where
+  pub adds : filed (add buffer at b (said p)) ≡ pageAdd flat buffer at b
+  adds = ap (λ (x : Party). filed (add buffer at b (said x))) l ∙ rw a
+
+  pub adds-index : addIndex buffer at b (said p) ≡ pageAddIndex flat buffer at b
+  adds-index = ap (λ (x : Party). addIndex buffer at b (said x)) l ∙ rw a
 
 -- ---- reading
 -- a read's refusal

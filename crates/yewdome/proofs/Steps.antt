@@ -12,12 +12,15 @@ use Rattle.party.specs.Party.{said}
 use Rattle.party.proofs.Options.{place-most}
 use Rattle.page_reader.specs.Pages.{ReadOutcome, aRecord, theEnd, aRefusal, PageRead, readAt}
 use Rattle.page_reader.proofs.Moves.{next-most}
+use Rattle.page_reader.specs.Reads.{readHere}
+use Rattle.page_writer.specs.Beside.{noIndex}
 use Rattle.page_writer.specs.Adding.{Filed, positionAfter, refusal, Call, add}
 use Rattle.page_writer.specs.Fold.{Step}
 use Rattle.page_writer.specs.WholePage.{OpenPage, lastGiven}
+use Rattle.page_writer.proofs.Addings.{index-none}
 use Rattle.flat.specs.Flat.{recordSize, flatten, stored, unflatten}
 use Rattle.flat.proofs.Laws.{stored-whole}
-use Rattle.yewdome.specs.Filing.{readHere, openPage, filedAs}
+use Rattle.yewdome.specs.Filing.{openPage, filedAs}
 use Rattle.yewdome.specs.Interface.{Called, recordReply, readCode, readBytes, readInto, pageRead, filedCode, filed, pageAdd}
 use Rattle.yewdome.specs.Code.{Named, Within, outcomeBy, stepBy}
 use Rattle.yewdome.proofs.Pages.{add-within, adds, replyOf, page-line}
@@ -36,7 +39,10 @@ pub record Given (page : List ℕ) (at n : ℕ) (into : List ℕ) : Type 0 where
   pub room : recordSize ≤ length bytes
   pub call : (record { code = n; bytes = into }) ≡ pageRead page at bytes
 
-module _ {page : List ℕ} {at n : ℕ} {into : List ℕ} (g : Given page at n into) (files : Bool) (s : OpenPage) where
+module _ {page : List ℕ} {at n : ℕ} {into : List ℕ} (g : Given page at n into) (files : Bool) (now : List ℕ) (position : ℕ) where
+  abbrev s : OpenPage
+  s = openPage now position
+
   abbrev r : PageRead
   r = readAt page at
 
@@ -72,7 +78,7 @@ module _ {page : List ℕ} {at n : ℕ} {into : List ℕ} (g : Given page at n i
   not-filed f = reads ∙ ap (λ (b : Bool). numbered (outcomeBy b s (r .outcome))) (sym f)
 
   -- a record, added
-  module _ (t : files ≡ true) (l : n < 65536) (i : recordSize ≤ length into) {added : ℕ} {left : List ℕ} (a : (record { code = added; bytes = left }) ≡ pageAdd into (s .buffer) (s .position)) where
+  module _ (t : files ≡ true) (l : n < 65536) (i : recordSize ≤ length into) {added : ℕ} {left : List ℕ} (a : (record { code = added; bytes = left }) ≡ pageAdd into now position noIndex) where
     is-record : (p : Party) × (r .outcome ≡ aRecord p)
     is-record = go (r .outcome) refl
       where
@@ -85,29 +91,30 @@ module _ {page : List ℕ} {at n : ℕ} {into : List ℕ} (g : Given page at n i
     p = is-record .0
 
     abbrev c : Call
-    c = add (s .buffer) (s .position) (said p)
+    c = add now position noIndex (said p)
 
     filed-is : (record { code = added; bytes = left }) ≡ filed c
     filed-is =
         let stores : into ≡ stored p (g .bytes) = ap (λ (x : Called). x .bytes) given ∙ ap (λ (x : ReadOutcome). readBytes x (g .bytes)) (is-record .1) in
         let loads : p ≡ unflatten into = sym (page-loads page at (g .bytes) p (g .room) (is-record .1)) ∙ ap (λ (x : Called). unflatten (x .bytes)) (sym (g .call)) in
-        a ∙ sym (adds into (s .buffer) (s .position) (stored-passes p (g .bytes) (g .room) i stores) loads)
+        a ∙ sym (adds into now position noIndex (stored-passes p (g .bytes) (g .room) i stores) loads)
 
     -- the step, by what the add answered
     abbrev after : Filed → Step OpenPage ℕ
-    after f = record { state = openPage left (lastGiven f (s .position)); answer = readCode (filedAs f p) moved }
+    after f = record { state = openPage left (lastGiven f position); answer = readCode (filedAs f p) moved }
 
     is-after : {f : Filed} → c .answer ≡ f → after f ≡ stepBy files s (readHere page at)
     is-after q =
         let kept : left ≡ c .buffer = ap (λ (x : Called). x .bytes) filed-is in
-        let told : after (c .answer) ≡ numbered (outcomeBy true s (aRecord p)) = ap {B = Step OpenPage ℕ} (λ (b : List ℕ). record { state = openPage b (lastGiven (c .answer) (s .position)); answer = readCode (filedAs (c .answer) p) moved }) kept in
+        let told : after (c .answer) ≡ numbered (outcomeBy true s (aRecord p)) =
+        λ j. record { state = record { buffer = kept j; position = lastGiven (c .answer) position; index = sym (index-none now position (said p)) j }; answer = readCode (filedAs (c .answer) p) moved } in
         ap after (sym q) ∙ told ∙ (λ j. numbered (outcomeBy (sym t j) s (sym (is-record .1) j)))
 
     code : {f : Filed} → c .answer ≡ f → added ≡ filedCode f
     code q = ap (λ (x : Called). x .code) filed-is ∙ ap filedCode q
 
     within : {f : Filed} → c .answer ≡ f → Within f
-    within q = subst Within q (add-within (s .buffer) (s .position) (said p))
+    within q = subst Within q (add-within now position noIndex (said p))
 
     pub was-filed : added < 65536 → (record { state = openPage left added; answer = n }) ≡ stepBy files s (readHere page at)
     was-filed m = go (c .answer) refl
@@ -116,9 +123,9 @@ module _ {page : List ℕ} {at n : ℕ} {into : List ℕ} (g : Given page at n i
         go (positionAfter to) q = (λ j. record { state = openPage left (code q j); answer = number (is-record .1) j }) ∙ is-after q
         go (refusal k b) q = absurd (omega (arith, m, code q, within q .0))
 
-    pub was-refused : 65536 ≤ added → (record { state = openPage left (s .position); answer = added * 4294967296 + n }) ≡ stepBy files s (readHere page at)
+    pub was-refused : 65536 ≤ added → (record { state = openPage left position; answer = added * 4294967296 + n }) ≡ stepBy files s (readHere page at)
     was-refused m = go (c .answer) refl
       where
-        go : (f : Filed) → c .answer ≡ f → (record { state = openPage left (s .position); answer = added * 4294967296 + n }) ≡ stepBy files s (readHere page at)
+        go : (f : Filed) → c .answer ≡ f → (record { state = openPage left position; answer = added * 4294967296 + n }) ≡ stepBy files s (readHere page at)
         go (positionAfter to) q = absurd (omega (arith, m, code q, within q))
-        go (refusal k b) q = (λ j. record { state = openPage left (s .position); answer = code q j * 4294967296 + number (is-record .1) j }) ∙ is-after q
+        go (refusal k b) q = (λ j. record { state = openPage left position; answer = code q j * 4294967296 + number (is-record .1) j }) ∙ is-after q

@@ -12,18 +12,19 @@ use Rattle.party.specs.declared.Party.{Party}
 use Rattle.party.specs.Party.{said}
 use Rattle.writer.proofs.Puts.{puts-byte, space, Partway, begun, finished, kept, next}
 use Rattle.page_reader.specs.Pages.{pageMost, ReadOutcome, aRecord, theEnd, aRefusal, readAt}
+use Rattle.page_reader.specs.Reads.{Read, readHere, isEnd, isLast, reads}
 use Rattle.page_reader.proofs.Moves.{next-most}
+use Rattle.page_reader.proofs.InTurn.{read-moves, rest, rest-some, rest-start, rest-last, rest-next, reads-most, reads-few}
 use Rattle.page_writer.specs.Adding.{Filed, positionAfter, refusal, add}
 use Rattle.page_writer.specs.Fold.{Step, Run, run}
 use Rattle.page_writer.specs.WholePage.{OpenPage}
 use Rattle.page_writer.proofs.Fold.{run-length}
 use Rattle.yewdome.specs.declared.Stepped.{Stepped}
 use Rattle.yewdome.specs.declared.Walked.{Walked}
-use Rattle.yewdome.specs.Filing.{Read, readHere, isEnd, isLast, reads, filedAs, openPage}
+use Rattle.yewdome.specs.Filing.{filedAs, openPage}
 use Rattle.yewdome.specs.Interface.{codeOf, readCode, pageClose, readNumber, listing, pageAnswers, fileNumbers, filing, pageFile}
 use Rattle.yewdome.specs.Code.{Named, Within, outcomeBy, stepBy, walkBy, toldStep, Walks}
 use Rattle.yewdome.proofs.Pages.{add-within, replyOf, page-line, onward-from}
-use Rattle.yewdome.proofs.InTurn.{read-moves, rest, rest-some, rest-start, rest-last, rest-next, reads-most, reads-few}
 use Rattle.yewdome.proofs.Theorems.{high, read-moved}
 
 -- ---- a step's answer
@@ -33,7 +34,7 @@ filed-named (positionAfter n) p h = tt
 filed-named (refusal k n) p h = h
 
 named-by : (files : Bool) (s : OpenPage) (x : ReadOutcome) → Named (replyOf x) → Named (replyOf (outcomeBy files s x .answer))
-named-by true s (aRecord p) h = filed-named (add (s .buffer) (s .position) (said p) .answer) p (add-within (s .buffer) (s .position) (said p))
+named-by true s (aRecord p) h = filed-named (add (s .buffer) (s .position) (s .index) (said p) .answer) p (add-within (s .buffer) (s .position) (s .index) (said p))
 named-by true s theEnd h = tt
 named-by true s (aRefusal k n) h = h
 named-by false s x h = h
@@ -44,7 +45,7 @@ filed-ended (positionAfter n) p = refl
 filed-ended (refusal k n) p = refl
 
 ended-by : (files : Bool) (s : OpenPage) (x : ReadOutcome) → isEnd (outcomeBy files s x .answer) ≡ isEnd x
-ended-by true s (aRecord p) = filed-ended (add (s .buffer) (s .position) (said p) .answer) p
+ended-by true s (aRecord p) = filed-ended (add (s .buffer) (s .position) (s .index) (said p) .answer) p
 ended-by true s theEnd = refl
 ended-by true s (aRefusal k n) = refl
 ended-by false s x = refl

@@ -10,6 +10,9 @@ use Rattle.errors.specs.Refusals.{accepted}
 use Rattle.writer.specs.Writing.{put}
 use Rattle.writer.proofs.Puts.{put-length}
 use Rattle.page_reader.specs.Pages.{readAt}
+use Rattle.page_reader.specs.Reads.{Read, readHere, isLast, readsFrom, reads}
+use Rattle.page_reader.proofs.InTurn.{reads-most}
+use Rattle.page_writer.specs.Beside.{noIndex}
 use Rattle.page_writer.specs.Adding.{Filed, positionAfter, refusal, Call, close}
 use Rattle.page_writer.specs.Fold.{run}
 use Rattle.page_writer.specs.WholePage.{OpenPage}
@@ -17,11 +20,10 @@ use Rattle.page_writer.specs.Demand3.{adds, closing}
 use Rattle.page_writer.proofs.Fold.{run-length}
 use Rattle.page_writer.proofs.Theorems.{closing-within, whole-page}
 use Rattle.flat.specs.Flat.{recordSize}
-use Rattle.yewdome.specs.Filing.{Read, readHere, isLast, readsFrom, reads, fileStep, openPage, recordsOf}
+use Rattle.yewdome.specs.Filing.{fileStep, openPage, recordsOf}
 use Rattle.yewdome.specs.Interface.{readNumber, pageRead, filedCode, numberStep, fileNumbers, Filing, filing, pageFile}
 use Rattle.yewdome.specs.Code.{Within}
 use Rattle.yewdome.proofs.Pages.{close-within}
-use Rattle.yewdome.proofs.InTurn.{reads-most}
 use Rattle.yewdome.proofs.Whole.{filed-closing}
 use Rattle.yewdome.proofs.Theorems.{high, low}
 
@@ -55,14 +57,14 @@ same-state s (r ∷ rs) = same-state (fileStep s r .state) rs
 -- filing a page leaves what the adds and the closing of `whole-page` leave, for the records that its reads give
 module _ (page buffer answers : List ℕ) (room : length page < length answers) where
   abbrev c : Call
-  c = closing (recordsOf page) buffer
+  c = closing noIndex (recordsOf page) buffer
 
   pub filed-page : pageFile page buffer answers
       ≡ record { code = length (reads page) * 4294967296 + filedCode (c .answer); bytes = c .buffer; answers = put answers 0 (fileNumbers page buffer .answers) }
   filed-page =
       let w = fileNumbers page buffer in
       let n : length (w .answers) ≡ length (reads page) = run-length numberStep (openPage buffer 0) (reads page) in
-      let d : close (w .state .buffer) (w .state .position) ≡ c = filed-closing page buffer (w .state .buffer) (w .state .position) (same-state (openPage buffer 0) (reads page)) in
+      let d : close (w .state .buffer) (w .state .position) ≡ c = filed-closing page buffer (w .state) (same-state (openPage buffer 0) (reads page)) in
       let told : filing accepted w buffer answers ≡ record { code = length (reads page) * 4294967296 + filedCode (c .answer); bytes = c .buffer; answers = put answers 0 (w .answers) } =
       λ i. record { code = n i * 4294967296 + filedCode (d i .answer); bytes = d i .buffer; answers = put answers 0 (w .answers) } in
       rw (lt-ltb (length page) (length answers) room) told
@@ -72,9 +74,9 @@ module _ (page buffer answers : List ℕ) (room : length page < length answers) 
     where
       go : (f : Filed) → c .answer ≡ f → filedCode (c .answer) < 4294967296
       go (positionAfter n) e =
-          let w : Within (c .answer) = close-within (adds (recordsOf page) buffer .state .buffer) (adds (recordsOf page) buffer .state .position) in
+          let w : Within (c .answer) = close-within (adds noIndex (recordsOf page) buffer .state .buffer) (adds noIndex (recordsOf page) buffer .state .position) in
           rw e (omega (arith, subst Within e w))
-      go (refusal k n) e = rw (whole-page (recordsOf page) buffer .unclosed e .0) (omega arith)
+      go (refusal k n) e = rw (whole-page noIndex tt (recordsOf page) buffer .unclosed e .0) (omega arith)
 
   -- how many answers there are, and what closing gave, are told by the number
   pub filed-count : pageFile page buffer answers .code / 4294967296 ≡ length (reads page)
@@ -89,7 +91,7 @@ module _ (page buffer answers : List ℕ) (room : length page < length answers) 
       let w = fileNumbers page buffer in
       let n = run-length numberStep (openPage buffer 0) (reads page) in
       let kept : length (pageFile page buffer answers .answers) ≡ length answers = ap (λ (f : Filing). length (f .answers)) filed-page ∙ put-length answers 0 (w .answers) (omega (arith, n, reads-most page, room)) in
-      let closes = whole-page (recordsOf page) buffer .closes h in
-      let to : filedCode (c .answer) ≡ adds (recordsOf page) buffer .state .position + 2 = ap filedCode closes in
+      let closes = whole-page noIndex tt (recordsOf page) buffer .closes h in
+      let to : filedCode (c .answer) ≡ adds noIndex (recordsOf page) buffer .state .position + 2 = ap filedCode closes in
       let left : length (pageFile page buffer answers .bytes) ≡ length (c .buffer) = ap (λ (f : Filing). length (f .bytes)) filed-page in
-      (omega (arith, filed-count, reads-most page, kept, room), omega (arith, filed-code, to, closing-within (recordsOf page) buffer closes, left))
+      (omega (arith, filed-count, reads-most page, kept, room), omega (arith, filed-code, to, closing-within noIndex tt (recordsOf page) buffer closes, left))

@@ -9,12 +9,13 @@ use Rattle.writer.specs.Writing.{fieldMost}
 use Rattle.writer.specs.Placing.{Measured, lengthIs, refusedWith}
 use Rattle.writer.specs.Code.{Puts}
 use Rattle.page_reader.specs.Pages.{pageMost, ReadOutcome}
+use Rattle.page_reader.specs.Reads.{Read, reads}
 use Rattle.page_writer.specs.Adding.{Filed, positionAfter, refusal}
 use Rattle.page_writer.specs.Fold.{Step, Run, run}
 use Rattle.page_writer.specs.WholePage.{OpenPage}
 use Rattle.yewdome.specs.declared.Stepped.{Stepped}
 use Rattle.yewdome.specs.declared.Walked.{Walked}
-use Rattle.yewdome.specs.Filing.{Read, reads, fileOutcome, openPage}
+use Rattle.yewdome.specs.Filing.{fileOutcome, openPage}
 use Rattle.yewdome.specs.Interface.{numberOf}
 
 -- a refusal has a number from 1 on, and a line of at most 2,048

@@ -1,22 +1,25 @@
--- Demand 3 through the C interface, from bytes lent to `yewdome_page_add` to bytes stored by `yewdome_page_read`: `pageAdd`, `pageClose` and
--- `pageRead` (specs/Interface.antt) are the definitions that the contracts of the exported functions are equations with. The lent records
--- are any lists of bytes, and so is the buffer. proofs/Demand3.antt has the theorem,
--- `exported-page : (lents : List (List ℕ)) (buffer : List ℕ) → ExportedPage lents buffer`. The run is that of
--- page_writer/specs/Fold.antt; the fields of a closed page and those that overwrite some are those of page_writer/specs/WholePage.antt.
-use Prim.Native.Nat.{ℕ, _+_, _-_, _%_, _≤_}
+-- Demand 3 through the C interface, from bytes lent to `yewdome_page_add` or `yewdome_page_add_indexed` to bytes stored by
+-- `yewdome_page_read` or `yewdome_page_look_up`: `pageAdd`, `pageAddIndex`, `pageClose`, `pageRead` and `pageLookUp` (specs/Interface.antt)
+-- are the definitions that the contracts of the exported functions are equations with. The lent records are any lists of bytes, and so is
+-- the buffer. proofs/Demand3.antt has the theorem, `exported-page`, of a `b : Beside` that is empty (`IsEmpty b`), `lents : List (List ℕ)` and
+-- `buffer : List ℕ`: `ExportedPage b lents buffer`. The run is that of page_writer/specs/Fold.antt; the fields of a closed page and those
+-- that overwrite some are those of page_writer/specs/WholePage.antt.
+use Prim.Native.Nat.{ℕ, suc, _+_, _-_, _%_, _≤_, _<_}
 use mathlib.Core.Path.{_≡_}
 use mathlib.Core.Bool.{Bool, true, false}
-use mathlib.Core.List.{List, [], _∷_, map}
+use mathlib.Core.List.{List, [], _∷_, _++_, map}
 use lib.Dec.{ltb}
 use lib.ListN.{length, take}
 use Rattle.party.specs.declared.Party.{Party}
 use Rattle.party.specs.Party.{Same}
 use Rattle.page_reader.specs.Pages.{pageMost}
+use Rattle.page_reader.specs.Reads.{Read, reads}
+use Rattle.page_writer.specs.Beside.{Beside, noIndex, anIndex}
 use Rattle.page_writer.specs.Adding.{endLine}
 use Rattle.page_writer.specs.Fold.{Step, Run, run, acceptedOf}
 use Rattle.page_writer.specs.WholePage.{OpenPage, Field, kept, new, pageOf, readNew, Overwrites}
 use Rattle.flat.specs.Flat.{recordSize, unflatten}
-use Rattle.yewdome.specs.Interface.{Called, readInto, pageRead, pageAdd, pageClose}
+use Rattle.yewdome.specs.Interface.{Called, readInto, pageLookUp, pageRead, pageAdd, pageAddIndex, pageClose}
 
 -- ---- adding and closing
 -- a number below 65,536 is a position; every other is a refusal, 41 and 42 included, and gives none
@@ -30,24 +33,25 @@ lastGiven code at = elim (isPosition code) [ true ↦ code | false ↦ at ]
 -- an add of a lent record, as a step of a run
 abbrev pub addStep : OpenPage → List ℕ → Step OpenPage ℕ
 addStep s lent =
-    let c = pageAdd lent (s .buffer) (s .position) in
-    record { state = record { buffer = c .bytes; position = lastGiven (c .code) (s .position) }; answer = c .code }
+    let c = pageAdd lent (s .buffer) (s .position) (s .index) in
+    let b = pageAddIndex lent (s .buffer) (s .position) (s .index) in
+    record { state = record { buffer = c .bytes; position = lastGiven (c .code) (s .position); index = b }; answer = c .code }
 
 -- the adds, from an empty page
-abbrev pub adds : List (List ℕ) → List ℕ → Run OpenPage ℕ
-adds lents buffer = run addStep (record { buffer = buffer; position = 0 }) lents
+abbrev pub adds : Beside → List (List ℕ) → List ℕ → Run OpenPage ℕ
+adds b lents buffer = run addStep (record { buffer = buffer; position = 0; index = b }) lents
 
 -- the records of those that gave a position
-abbrev pub records : List (List ℕ) → List ℕ → List Party
-records lents buffer = map unflatten (acceptedOf lents (map isPosition (adds lents buffer .answers)))
+abbrev pub records : Beside → List (List ℕ) → List ℕ → List Party
+records b lents buffer = map unflatten (acceptedOf lents (map isPosition (adds b lents buffer .answers)))
 
 -- the closing, in the buffer and at the position that the adds left
-abbrev pub closing : List (List ℕ) → List ℕ → Called
-closing lents buffer = pageClose (adds lents buffer .state .buffer) (adds lents buffer .state .position)
+abbrev pub closing : Beside → List (List ℕ) → List ℕ → Called
+closing b lents buffer = pageClose (adds b lents buffer .state .buffer) (adds b lents buffer .state .position)
 
 -- the closed page: the bytes before the position that closing gave
-abbrev pub page : List (List ℕ) → List ℕ → List ℕ
-page lents buffer = take (closing lents buffer .code) (closing lents buffer .bytes)
+abbrev pub page : Beside → List (List ℕ) → List ℕ → List ℕ
+page b lents buffer = take (closing b lents buffer .code) (closing b lents buffer .bytes)
 
 -- ---- reading
 -- how many bytes a read moved past
@@ -68,12 +72,23 @@ Reads page at [] =
 Reads page at (f ∷ fs) =
     (into : List ℕ) → recordSize ≤ length into → let c = pageRead page at into in Gives c at into f × Reads page (at + movedBy c) fs
 
+-- ---- looking up
+-- looking up field k in an index beside a page of n fields gives what the reader's k-th step gives, in number and bytes
+abbrev pub LooksAs : Beside → List ℕ → ℕ → Type 0
+LooksAs noIndex page n = Unit {0}
+LooksAs (anIndex numbers) page n =
+    (before : List Read) (r : Read) (later : List Read) → reads page ≡ before ++ r ∷ later → length before < n → (into : List ℕ)
+    → pageLookUp page numbers (suc (length before)) into ≡ pageRead page (r .at) into
+
 -- ---- demand 3
-pub record ExportedPage (lents : List (List ℕ)) (buffer : List ℕ) : Type 0 where
+pub record ExportedPage (b : Beside) (lents : List (List ℕ)) (buffer : List ℕ) : Type 0 where
   -- reading the closed page from the start gives the records of the accepted adds and no others, in number and order, each the same record,
   -- and then the end
-  pub reads : isPosition (closing lents buffer .code) ≡ true → Reads (page lents buffer) 0 (map kept (records lents buffer))
+  pub reads : isPosition (closing b lents buffer .code) ≡ true → Reads (page b lents buffer) 0 (map kept (records b lents buffer))
+  -- and looking up field k, where an index is kept, is the reader's k-th step, before the page is closed and after
+  pub open-looks : let s = adds b lents buffer .state in LooksAs (s .index) (take (s .position) (s .buffer)) (length (records b lents buffer))
+  pub looks : isPosition (closing b lents buffer .code) ≡ true → LooksAs (adds b lents buffer .state .index) (page b lents buffer) (length (records b lents buffer))
   -- closing gives a position in every buffer of at least 2 bytes
-  pub closes : 2 ≤ length buffer → isPosition (closing lents buffer .code) ≡ true
+  pub closes : 2 ≤ length buffer → isPosition (closing b lents buffer .code) ≡ true
   -- whichever fields are then overwritten: every other still gives its record in its turn, and each overwritten one what document 01 says
-  pub overwritten : (fs : List Field) → Overwrites (records lents buffer) fs → length (pageOf fs endLine) ≤ pageMost → Reads (pageOf fs endLine) 0 fs
+  pub overwritten : (fs : List Field) → Overwrites (records b lents buffer) fs → length (pageOf fs endLine) ≤ pageMost → Reads (pageOf fs endLine) 0 fs

@@ -1,47 +1,16 @@
--- The reads of a page from its start, and filing the records that they give on a new page. Document 01 has the read and the add
--- ('Pages (added)'); that one follows the other, up to the end, is ours.
-use Prim.Native.Nat.{ℕ, zero, suc}
-use mathlib.Core.Bool.{Bool, true, false, _||_}
+-- Filing the records that the reads of a page give on a new page, without an index. Document 01 has the read and the add ('Pages (added)');
+-- that one follows the other, up to the end, is ours.
+use Prim.Native.Nat.{ℕ}
 use mathlib.Core.List.{List, [], _∷_}
-use lib.Dec.{eqb}
-use lib.ListN.{length}
 use Rattle.party.specs.declared.Party.{Party}
-use Rattle.page_reader.specs.Pages.{ReadOutcome, aRecord, theEnd, aRefusal, PageRead, readAt}
+use Rattle.page_reader.specs.Pages.{ReadOutcome, aRecord, theEnd, aRefusal}
+use Rattle.page_reader.specs.Reads.{Read, reads}
+use Rattle.page_writer.specs.Beside.{noIndex}
 use Rattle.page_writer.specs.Adding.{Filed, positionAfter, refusal}
 use Rattle.page_writer.specs.Fold.{Step, Run, run}
 use Rattle.page_writer.specs.WholePage.{OpenPage, addStep}
 
--- ---- the reads of a page
--- a read, and the position where it was
-pub record Read : Type 0 where
-  pub at : ℕ
-  pub gave : PageRead
-
--- the read at a position
-abbrev pub readHere : List ℕ → ℕ → Read
-readHere page at = record { at = at; gave = readAt page at }
-
--- a read that gives the end
-abbrev pub isEnd : ReadOutcome → Bool
-isEnd (aRecord p) = false
-isEnd theEnd = true
-isEnd (aRefusal k n) = false
-
--- the last read: the end, or one that does not move on
-abbrev pub isLast : PageRead → ℕ → Bool
-isLast r at = isEnd (r .outcome) || eqb (r .next) at
-
--- at most n reads from a position on, each at the next position that the last gave, up to the last
-unfoldable pub readsFrom : ℕ → List ℕ → ℕ → List Read
-readsFrom zero page at = []
-readsFrom (suc n) page at =
-    let r = readAt page at in
-    readHere page at ∷ elim (isLast r at) [ true ↦ [] | false ↦ readsFrom n page (r .next) ]
-
--- those of the whole page: each but the last moves past a byte, so that there are no more than this
-abbrev pub reads : List ℕ → List Read
-reads page = readsFrom (suc (length page)) page 0
-
+-- ---- the records of a page
 -- the record that a read gives, if it gives one, before later ones
 abbrev pub recordOf : ReadOutcome → List Party → List Party
 recordOf (aRecord p) later = p ∷ later
@@ -73,9 +42,9 @@ fileOutcome s (aRefusal k n) = record { state = s; answer = aRefusal k n }
 abbrev pub fileStep : OpenPage → Read → Step OpenPage ReadOutcome
 fileStep s r = fileOutcome s (r .gave .outcome)
 
--- a buffer and a position, as an open page
+-- a buffer and a position, as an open page without an index
 abbrev pub openPage : List ℕ → ℕ → OpenPage
-openPage buffer position = record { buffer = buffer; position = position }
+openPage buffer position = record { buffer = buffer; position = position; index = noIndex }
 
 -- the reads of a page as a run of these, from an empty page in a buffer
 abbrev pub fileAll : List ℕ → List ℕ → Run OpenPage ReadOutcome

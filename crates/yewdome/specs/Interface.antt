@@ -16,11 +16,14 @@ use Rattle.choices.specs.Choices.{parse, parseWithVariant}
 use Rattle.writer.specs.Writing.{put}
 use Rattle.writer.specs.Placing.{Measured, lengthIs, refusedWith, Placing, measure, place}
 use Rattle.page_reader.specs.Pages.{ReadOutcome, aRecord, theEnd, aRefusal, PageRead, bodiless, outcomeOf, readAt, bodyPlace}
-use Rattle.page_writer.specs.Adding.{Filed, positionAfter, refusal, Call, add, close}
+use Rattle.page_reader.specs.Reads.{Read, reads}
+use Rattle.page_reader.specs.Index.{Looked, found, notFound, lookUp}
+use Rattle.page_writer.specs.Beside.{Beside}
+use Rattle.page_writer.specs.Adding.{Filed, positionAfter, refusal, Call, add, addIndex, close}
 use Rattle.page_writer.specs.Fold.{Step, Run, run}
 use Rattle.page_writer.specs.WholePage.{OpenPage}
 use Rattle.flat.specs.Flat.{recordSize, stored, unflatten}
-use Rattle.yewdome.specs.Filing.{Read, reads, fileStep, openPage}
+use Rattle.yewdome.specs.Filing.{fileStep, openPage}
 
 -- what a call gives: its number, and the lent bytes after it
 pub record Called : Type 0 where
@@ -126,6 +129,20 @@ askedRead (refused k n) r at = bodiless (aRefusal k n) at
 abbrev pub pageRead : List ℕ → ℕ → List ℕ → Called
 pageRead page at bytes = readInto (askedRead (lentReply (length bytes) true) (readAt page at) at) at bytes
 
+-- a lookup, in these terms: the read at the field's position, or a refusal, which moves past no byte
+abbrev pub lookedInto : Looked → List ℕ → Called
+lookedInto (found r) bytes = readInto (r .gave) (r .at) bytes
+lookedInto (notFound k n) bytes = record { code = codeOf (refused k n) * 4294967296; bytes = bytes }
+
+-- one that passes the tests of the lent record
+abbrev pub askedLook : Reply → Looked → Looked
+askedLook accepted x = x
+askedLook (refused k n) x = notFound k n
+
+-- `yewdome_page_look_up` (document 02, Three)
+abbrev pub pageLookUp : List ℕ → List ℕ → ℕ → List ℕ → Called
+pageLookUp page index k bytes = lookedInto (askedLook (lentReply (length bytes) true) (lookUp page index k)) bytes
+
 -- `yewdome_page_body`: the body's place in the page × 4,294,967,296, and its length
 abbrev pub pageBody : List ℕ → ℕ → ℕ
 pageBody page at = bodyPlace page at .start * 4294967296 + bodyPlace page at .len
@@ -139,9 +156,18 @@ filedCode (refusal k n) = codeOf (refused k n)
 abbrev pub filed : Call → Called
 filed c = record { code = filedCode (c .answer); bytes = c .buffer }
 
--- `yewdome_page_add`
-abbrev pub pageAdd : List ℕ → List ℕ → ℕ → Called
-pageAdd bytes buffer at = asked (recordReply bytes) (filed (add buffer at (said (unflatten bytes)))) buffer
+-- `yewdome_page_add`, without an index, and `yewdome_page_add_indexed`, with one (document 02, Three)
+abbrev pub pageAdd : List ℕ → List ℕ → ℕ → Beside → Called
+pageAdd bytes buffer at b = asked (recordReply bytes) (filed (add buffer at b (said (unflatten bytes)))) buffer
+
+-- what stands beside a page after a call that passes these tests; one that does not changes no number
+abbrev pub askedBeside : Reply → Beside → Beside → Beside
+askedBeside accepted after b = after
+askedBeside (refused k n) after b = b
+
+-- the index after the latter
+abbrev pub pageAddIndex : List ℕ → List ℕ → ℕ → Beside → Beside
+pageAddIndex bytes buffer at b = askedBeside (recordReply bytes) (addIndex buffer at b (said (unflatten bytes))) b
 
 -- `yewdome_page_close`
 abbrev pub pageClose : List ℕ → ℕ → Called

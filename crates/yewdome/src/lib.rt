@@ -11,9 +11,13 @@ use flat::load;
 use flat::store;
 use page_reader::ReadOutcome;
 use page_reader::body_place;
+use page_reader::index::INDEX_SIZE;
+use page_reader::index::LookOutcome;
+use page_reader::index::look_up;
 use page_reader::read_at;
 use page_writer::Filed;
 use page_writer::add;
+use page_writer::add_indexed;
 use page_writer::close;
 use party::option_at;
 use reader::Answer;
@@ -27,9 +31,11 @@ ghost use lib.ListN.{length};
 ghost use Rattle.errors.specs.Refusals.{toldError};
 ghost use Rattle.reader.specs.Reading.{toldAnswer};
 ghost use Rattle.writer.specs.Placing.{toldMeasured};
+ghost use Rattle.page_reader.specs.Reads.{readHere};
+ghost use Rattle.page_writer.specs.Beside.{noIndex, anIndex};
 ghost use Rattle.page_writer.specs.Adding.{toldFiled};
-ghost use Rattle.yewdome.specs.Filing.{readHere, openPage};
-ghost use Rattle.yewdome.specs.Interface.{codeOf, lentReply, recordReply, given, partyRead, choiceAt, partyParse, partyParseWithVariant, measuredCode, partyMeasure, partyPlace, pageRead, pageBody, filedCode, pageAdd, pageClose, pageAnswers, pageFile};
+ghost use Rattle.yewdome.specs.Filing.{openPage};
+ghost use Rattle.yewdome.specs.Interface.{codeOf, lentReply, recordReply, given, partyRead, choiceAt, partyParse, partyParseWithVariant, measuredCode, partyMeasure, partyPlace, pageRead, pageLookUp, pageBody, filedCode, pageAdd, pageAddIndex, pageClose, pageAnswers, pageFile};
 ghost use Rattle.yewdome.specs.Code.{Named, Measurable, Within, stepBy, toldStep, Walks};
 
 // The interface's own numbers, × 65,536: 41 no such option or choice, 42 a lent record of under 237 bytes, 43 too few numbers lent for
@@ -206,6 +212,36 @@ pub extern "C" fn yewdome_page_read(page: &[u8], at: usize, record: &mut [u8]) -
     }
 }
 
+// Looks up field k of a page, counted from 1, in an index and stores the record that it gives. Gives what `yewdome_page_read` does at the
+// field's position; at 18, 31, 21 and 42 no byte is moved past.
+#[no_mangle]
+pub extern "C" fn yewdome_page_look_up(
+    page: &[u8],
+    index: &[u32; INDEX_SIZE],
+    k: usize,
+    record: &mut [u8],
+) -> u64
+    ensures { λ r. ⌜ (record { code = r; bytes = now («record» .exit) }) ≡ pageLookUp (now (page .entry)) (now (index .entry)) k (now («record» .entry)) ⌝ }
+{
+    let refusal = lent(record.len(), true);
+    if refusal != 0 {
+        return (refusal as u64) * 4294967296;
+    }
+    let got = look_up(page, index, k);
+    let outcome = got.outcome;
+    match outcome {
+        LookOutcome::Record { at, next } => {
+            let party = got.party;
+            store(party, record);
+            (next - at) as u64
+        }
+        LookOutcome::Refused { error, at, next } => {
+            (code(error) as u64) * 4294967296 + ((next - at) as u64)
+        }
+        LookOutcome::NotFound(e) => (code(e) as u64) * 4294967296,
+    }
+}
+
 // The place in the page of the body of the field at a position × 4,294,967,296, and its length; 0 where there is no field, or its tag is none
 // of the eleven.
 #[no_mangle]
@@ -230,13 +266,31 @@ fn filed(answer: Filed) -> u32
 // Adds a stored record to the page in a buffer at a position, and gives the position after.
 #[no_mangle]
 pub extern "C" fn yewdome_page_add(record: &[u8], buf: &mut [u8], position: usize) -> u32
-    ensures { λ r. ⌜ (record { code = r; bytes = now (buf .exit) }) ≡ pageAdd (now («record» .entry)) (now (buf .entry)) position ⌝ }
+    ensures { λ r. ⌜ (record { code = r; bytes = now (buf .exit) }) ≡ pageAdd (now («record» .entry)) (now (buf .entry)) position noIndex ⌝ }
 {
     let refusal = lent_record(record);
     if refusal != 0 {
         return refusal;
     }
     filed(add(load(record), buf, position))
+}
+
+// Adds a stored record to the page with an index in a buffer at a position, notes its entry, and gives the position after.
+#[no_mangle]
+pub extern "C" fn yewdome_page_add_indexed(
+    record: &[u8],
+    buf: &mut [u8],
+    position: usize,
+    index: &mut [u32; INDEX_SIZE],
+) -> u32
+    ensures { λ r. ⌜ (record { code = r; bytes = now (buf .exit) }) ≡ pageAdd (now («record» .entry)) (now (buf .entry)) position (anIndex (now (index .entry))) ⌝ }
+    ensures index { λ r. ⌜ anIndex (now (index .exit)) ≡ pageAddIndex (now («record» .entry)) (now (buf .entry)) position (anIndex (now (index .entry))) ⌝ }
+{
+    let refusal = lent_record(record);
+    if refusal != 0 {
+        return refusal;
+    }
+    filed(add_indexed(load(record), buf, position, index))
 }
 
 // Closes the page in a buffer at a position, and gives the page's length.

@@ -6,6 +6,9 @@ use party_answers::model::{Call, Reader};
 pub const RECORD_LENGTH: usize = 237;
 pub const LONGEST_FIELD: usize = 188;
 pub const LONGEST_PAGE: usize = 32_768;
+/// The most entries of an index, and how many numbers it is: a count, and three for each entry.
+pub const MOST_ENTRIES: usize = 256;
+pub const INDEX_LENGTH: usize = 1 + 3 * MOST_ENTRIES;
 
 // A slice of the library is a pointer and a length.
 unsafe extern "C" {
@@ -52,6 +55,22 @@ unsafe extern "C" {
         buf_len: usize,
         position: usize,
     ) -> u32;
+    fn yewdome_page_add_indexed(
+        record: *const u8,
+        record_len: usize,
+        buf: *mut u8,
+        buf_len: usize,
+        position: usize,
+        index: *mut u32,
+    ) -> u32;
+    fn yewdome_page_look_up(
+        page: *const u8,
+        page_len: usize,
+        index: *const u32,
+        k: usize,
+        record: *mut u8,
+        record_len: usize,
+    ) -> u64;
     fn yewdome_page_close(buf: *mut u8, buf_len: usize, position: usize) -> u32;
 }
 
@@ -101,6 +120,27 @@ pub fn add(record: &[u8], buf: &mut [u8], position: usize) -> u32 {
     let (out, len) = (buf.as_mut_ptr(), buf.len());
     // SAFETY: as in `read`.
     unsafe { yewdome_page_add(record.as_ptr(), record.len(), out, len, position) }
+}
+
+/// `yewdome_page_add_indexed`.
+pub fn add_indexed(
+    record: &[u8],
+    buf: &mut [u8],
+    position: usize,
+    index: &mut [u32; INDEX_LENGTH],
+) -> u32 {
+    let (out, len) = (buf.as_mut_ptr(), buf.len());
+    let (text, room) = (record.as_ptr(), record.len());
+    // SAFETY: as in `read`; an index is as many numbers as its type says.
+    unsafe { yewdome_page_add_indexed(text, room, out, len, position, index.as_mut_ptr()) }
+}
+
+/// `yewdome_page_look_up`.
+pub fn look_up(page: &[u8], index: &[u32; INDEX_LENGTH], k: usize, record: &mut [u8]) -> u64 {
+    let (text, len) = (page.as_ptr(), page.len());
+    let (out, room) = (record.as_mut_ptr(), record.len());
+    // SAFETY: as in `add_indexed`.
+    unsafe { yewdome_page_look_up(text, len, index.as_ptr(), k, out, room) }
 }
 
 /// `yewdome_page_close`.

@@ -7,13 +7,15 @@
 //!
 //! The Rust has no pages. For it a page is written by `to_swift_string` and LF into one `String`,
 //! and read by its lines that start with a colon; it tests neither that a field reads back nor
-//! where the page ends.
+//! where the page ends. To look a field up it finds the lines before it, and parses the field alone.
 //!
 //! With the name of a row as argument it makes a thousand of our calls of that row and times nothing,
 //! for `valgrind --tool=callgrind` to count.
 
 use party_answers::model::{Choice, Opt};
-use party_compare::ours::{self, LONGEST_FIELD, LONGEST_PAGE, RECORD_LENGTH};
+use party_compare::ours::{
+    self, INDEX_LENGTH, LONGEST_FIELD, LONGEST_PAGE, MOST_ENTRIES, RECORD_LENGTH,
+};
 use std::hint::black_box;
 use std::time::Instant;
 use swift_mt_message::fields::field50::*;
@@ -60,6 +62,7 @@ fn main() {
     for fields in [1, 10, 100, (LONGEST_PAGE - 2) / (TAG.len() + ACCOUNT_AND_NAMES.len() + 1)] {
         page(fields);
     }
+    indexed();
 }
 
 /// An option's rows: a body read, its record measured, for which the Rust writes it, and written.
@@ -153,6 +156,56 @@ fn page(fields: usize) {
     );
 }
 
+/// The rows of a page of 256 fields 50K: filed without an index and with one, and fields looked up in
+/// it.
+fn indexed() {
+    if !is_asked("a page of 256 ") && !is_asked("field ") {
+        return;
+    }
+    let value = Field50K::parse(ACCOUNT_AND_NAMES).expect("the Rust reads it");
+    let mut record = [0; RECORD_LENGTH];
+    ours::read(Opt::K50 as u8, ACCOUNT_AND_NAMES.as_bytes(), &mut record);
+    let mut buffer = vec![0; LONGEST_PAGE];
+    let mut index = [0; INDEX_LENGTH];
+    let text = written(&value, MOST_ENTRIES);
+    let length = filed_indexed(&record, &mut buffer, &mut index);
+    assert_eq!(&buffer[..length], text.as_bytes(), "the page is filed");
+    assert_eq!(index[0] as usize, MOST_ENTRIES, "each field has its entry");
+    row(
+        "a page of 256 filed",
+        length,
+        || drop(black_box(written(black_box(&value), MOST_ENTRIES))),
+        || _ = black_box(filed(black_box(&record), &mut buffer, MOST_ENTRIES)),
+    );
+    row(
+        "a page of 256 filed with an index",
+        length,
+        || drop(black_box(written(black_box(&value), MOST_ENTRIES))),
+        || _ = black_box(filed_indexed(black_box(&record), &mut buffer, &mut index)),
+    );
+    for k in [1, 100, 256] {
+        let page = text.as_bytes();
+        let moved = ours::look_up(page, &index, k, &mut record);
+        assert_eq!(moved as usize, TAG.len() + ACCOUNT_AND_NAMES.len() + 1, "field {k} is found");
+        row(
+            &format!("field {k} of 256 looked up"),
+            ACCOUNT_AND_NAMES.len(),
+            || drop(black_box(nth(black_box(&text), black_box(k)))),
+            || {
+                let (page, k) = (black_box(page), black_box(k));
+                black_box(ours::look_up(page, black_box(&index), k, &mut record));
+                black_box(&record);
+            },
+        );
+    }
+}
+
+/// Field k of a page, counted from 1, as the Rust finds and reads it.
+fn nth(page: &str, k: usize) -> Option<Field50K> {
+    let field = page.strip_suffix("\n-\n").unwrap_or(page).split("\n:").nth(k - 1)?;
+    Field50K::parse(field.trim_start_matches(':').strip_prefix(&TAG[1..])?).ok()
+}
+
 /// A page as the Rust writes its fields.
 fn written(value: &Field50K, fields: usize) -> String {
     let mut page = String::with_capacity(LONGEST_PAGE);
@@ -176,6 +229,16 @@ fn filed(record: &[u8], buffer: &mut [u8], fields: usize) -> usize {
     let mut position = 0;
     for _ in 0..fields {
         position = ours::add(record, buffer, position) as usize;
+    }
+    ours::close(buffer, position) as usize
+}
+
+/// The same with an index, 256 fields.
+fn filed_indexed(record: &[u8], buffer: &mut [u8], index: &mut [u32; INDEX_LENGTH]) -> usize {
+    index[0] = 0;
+    let mut position = 0;
+    for _ in 0..MOST_ENTRIES {
+        position = ours::add_indexed(record, buffer, position, index) as usize;
     }
     ours::close(buffer, position) as usize
 }

@@ -1,7 +1,7 @@
 //! Calls that no type makes, whole pages, and the header.
 
 use super::*;
-use crate::pages::{LONGEST_BODY, LONGEST_FIELD};
+use crate::pages::{Entry, LONGEST_BODY, LONGEST_FIELD, MOST_ENTRIES};
 use crate::record::LENGTH;
 
 const STALE: u8 = 0xa5;
@@ -20,6 +20,18 @@ fn lent(length: usize) -> Vec<u8> {
     let mut bytes = record.bytes().to_vec();
     bytes.resize(length, STALE);
     bytes
+}
+
+/// How many numbers an index is.
+const NUMBERS: usize = 1 + 3 * MOST_ENTRIES;
+const STALE_HALF: u32 = STALE_NUMBER as u32;
+
+/// An index of raw numbers, as the library has it: these first, and stale ones after them.
+fn index_of(first: &[u32]) -> Index {
+    let mut numbers = [STALE_HALF; NUMBERS];
+    numbers[..first.len()].copy_from_slice(first);
+    // SAFETY: both are so many numbers of 32 bits; the sizes are compared when this is compiled.
+    unsafe { std::mem::transmute::<[u32; NUMBERS], Index>(numbers) }
 }
 
 fn refused(answer: u32) -> u8 {
@@ -52,17 +64,71 @@ fn a_record_may_be_lent_in_more_bytes() {
         assert_eq!(position, FIELD.len() as u32 + 1);
         assert_eq!(page_close(&mut buffer, position as usize), PAGE.len() as u32);
         assert_eq!(buffer, PAGE);
+        let (mut buffer, mut index) = ([STALE; PAGE.len()], index_of(&[0]));
+        assert_eq!(page_add_indexed(&record, &mut buffer, 0, &mut index), position);
+        assert_eq!(&buffer[..FIELD.len()], FIELD);
+        let mut out = vec![STALE; length];
+        assert_eq!(page_look_up(PAGE, &index, 1, &mut out), FIELD.len() as u64 + 1);
+        assert_eq!(out, record);
     }
 }
 
-/// Measures, places and adds a record, which all three refuse with one number, and looks that no byte
-/// changes.
-fn refused_always(record: &[u8], position: usize) -> u8 {
+#[test]
+fn an_index_is_its_numbers() {
+    assert_eq!((NUMBERS, std::mem::size_of::<Index>()), (769, 3076));
+    assert_eq!((std::mem::size_of::<Entry>(), std::mem::align_of::<Index>()), (12, 4));
+    let record = lent(LENGTH);
     let mut buffer = [STALE; 64];
+    let mut index = index_of(&[0]);
+    assert_eq!(page_add_indexed(&record, &mut buffer, 0, &mut index), 14);
+    assert_eq!(index, index_of(&[1, 3, 0, 13]));
+    assert_eq!(page_add_indexed(&record, &mut buffer, 14, &mut index), 28);
+    assert_eq!(index, index_of(&[2, 3, 0, 13, 3, 14, 13]));
+    assert_eq!(index.count, 2);
+    let entries = [0, 14].map(|position| Entry { option: 3, position, length: 13 });
+    assert_eq!(index.entries(), entries);
+    let stale = Entry { option: STALE_HALF, position: STALE_HALF, length: STALE_HALF };
+    assert!(index.entries[2..].iter().all(|&entry| entry == stale));
+}
+
+/// Where the last of 256 entries stands among the numbers.
+#[test]
+fn the_last_entry_is_the_last_three_numbers() {
+    let mut numbers = [STALE_HALF; NUMBERS];
+    numbers[0] = 255;
+    let mut index = index_of(&numbers);
+    assert_eq!(page_add_indexed(&lent(LENGTH), &mut [STALE; 64], 0, &mut index), 14);
+    numbers[0] = 256;
+    numbers[NUMBERS - 3..].copy_from_slice(&[3, 0, 13]);
+    assert_eq!(index, index_of(&numbers));
+    assert_eq!(page_look_up(PAGE, &index, 256, &mut [STALE; LENGTH]), 14);
+}
+
+/// A refusal of the lookup's own changes no byte; that of a body is the read's.
+#[test]
+fn a_lookup_that_is_refused_changes_no_byte() {
+    let long = vec![b'\n'; LONGEST_PAGE + 1];
+    let index = index_of(&[2, 3, 0, 13, 3, 0, 12]);
+    for (page, k, number) in [(&long[..], 1, 18), (PAGE, 0, 31), (PAGE, 3, 31), (PAGE, 2, 21)] {
+        let mut out = [STALE; LENGTH];
+        let answer = page_look_up(page, &index, k, &mut out);
+        assert_eq!((answer, out), (number << 48, [STALE; LENGTH]));
+    }
+    let bad = b":50K:/12\nACM~\n-\n";
+    let mut out = [STALE; LENGTH];
+    assert_eq!(page_look_up(bad, &index, 1, &mut out), page_read(bad, 0, &mut [STALE; LENGTH]));
+    assert_eq!(out, [STALE; LENGTH]);
+}
+
+/// Measures, places and adds a record, with an index and without, which all refuse with one number,
+/// and looks that nothing changes.
+fn refused_always(record: &[u8], position: usize) -> u8 {
+    let (mut buffer, mut index) = ([STALE; 64], index_of(&[256]));
     let number = refused(party_measure(record));
     assert_eq!(refused(party_place(record, &mut buffer)), number);
     assert_eq!(refused(page_add(record, &mut buffer, position)), number);
-    assert_eq!(buffer, [STALE; 64]);
+    assert_eq!(refused(page_add_indexed(record, &mut buffer, position, &mut index)), number);
+    assert_eq!((buffer, index), ([STALE; 64], index_of(&[256])));
     number
 }
 
@@ -77,6 +143,12 @@ fn a_record_lent_in_fewer_bytes_is_42() {
         let mut out = vec![STALE; length];
         let [answer, moved] = halves(page_read(PAGE, 0, &mut out));
         assert_eq!((refused(answer), moved, out), (42, 0, vec![STALE; length]));
+        let found = index_of(&[1, 3, 0, FIELD.len() as u32]);
+        for (page, k) in [(PAGE, 1), (PAGE, 0), (FIELD, 2), (&[b'\n'; LONGEST_PAGE + 1], 0)] {
+            let mut out = vec![STALE; length];
+            let answer = page_look_up(page, &found, k, &mut out);
+            assert_eq!((answer, out), (42 << 48, vec![STALE; length]), "42 comes first");
+        }
         assert_eq!(refused_always(&lent(length), 0), 42);
         assert_eq!(refused_always(&vec![STALE; length], 1), 42, "42 comes before 41 and 21");
     }
@@ -109,6 +181,8 @@ fn a_presence_that_is_neither_0_nor_1_is_22() {
         record[1] = presence;
         assert_eq!(refused_always(&record, 0), 22);
         assert_eq!(refused(page_add(&record, &mut [STALE; 64], 1)), 21, "21 comes before 22");
+        let added = page_add_indexed(&record, &mut [STALE; 64], 1, &mut index_of(&[256]));
+        assert_eq!(refused(added), 21, "21 comes before 22 and 31");
     }
 }
 
@@ -243,6 +317,7 @@ fn the_header_has_the_version_and_the_lengths() {
         ("LONGEST_BODY", LONGEST_BODY),
         ("LONGEST_FIELD", LONGEST_FIELD),
         ("LONGEST_PAGE", LONGEST_PAGE),
+        ("MOST_ENTRIES", MOST_ENTRIES),
     ] {
         assert_eq!(defined(name), length.to_string(), "{name}");
     }

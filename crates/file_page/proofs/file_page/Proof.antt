@@ -5,6 +5,7 @@ use lib.ListN.{length}
 use lib.Seq.{length-take-le}
 use denote.Ref.{now}
 use borrow.Author.Needs.{needs}
+use Rattle.page_writer.specs.Beside.{noIndex}
 use Rattle.page_writer.specs.Demand3.{closing}
 use Rattle.yewdome.specs.Filing.{recordsOf}
 use Rattle.yewdome.specs.Interface.{Filing}
@@ -14,7 +15,7 @@ use Rattle.file_page.proofs.file_page.Tie as tie
 
 module _ (y : tie.After-yewdome-page-file) where
   -- what is left in the buffer is the closing of the records that the page's reads give
-  left : let a = y .before .before .before .before .before .before .args in y .yewdome-page-file .last .1 .0 ≡ closing (recordsOf (now (a .page))) (now (a .buf)) .buffer
+  left : let a = y .before .before .before .before .before .before .args in y .yewdome-page-file .last .1 .0 ≡ closing noIndex (recordsOf (now (a .page))) (now (a .buf)) .buffer
   left =
       let s = y .before .before .before .before .before .before in
       ap (λ (f : Filing). f .bytes) (y .yewdome-page-file .ensures ∙ filed-page (now (s .args .page)) (now (s .args .buf)) (now (s .args .answers)) (s .pre .1))

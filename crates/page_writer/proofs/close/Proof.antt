@@ -6,7 +6,8 @@ use lib.ListN.{length}
 use denote.Ref.{now}
 use borrow.Author.Needs.{needs}
 use borrow.Author.Tests.{not-true, not-false}
-use Rattle.errors.specs.Refusals.{must}
+use Rattle.errors.specs.Refusals.{Reply, accepted, must, _then_}
+use Rattle.errors.proofs.Replies.{then-accepted}
 use Rattle.page_writer.specs.Adding.{hasSpace, endLine, putting}
 use Rattle.page_writer.proofs.Addings.{close-21, close-by}
 use Rattle.page_writer.proofs.close.Statement.{statement}
@@ -18,7 +19,7 @@ returns-2 c =
     let a = e .before .before .before .before .args in
     let b = now (a .buf) in
     let z : a .at + 2 + 0 ≡ a .at + 2 = omega arith in
-    c .before .before .file-line .ensures ∙ ap (λ (k : ℕ). putting (must (hasSpace (length b) k) 24 0) b (a .at) endLine) z
+    c .before .before .file-line .ensures ∙ ap (λ (k : ℕ). putting (must (hasSpace (length b) k) 24 0 then accepted) b (a .at) endLine) z ∙ ap (λ (r : Reply). putting r b (a .at) endLine) (then-accepted (must (hasSpace (length b) (a .at + 2)) 24 0))
     ∙ sym (close-by b (a .at) (sym (e .before .is-writable .ensures) ∙ not-false _ (e .if1 .left)))
 
 pub close-spec : {M : Type 1} → statement M

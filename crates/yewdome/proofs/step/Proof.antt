@@ -5,7 +5,6 @@ use lib.ListN.{length, replicate}
 use Rattle.flat.specs.Flat.{recordSize}
 use native.Mathlib.Omega.{arith}
 use borrow.Author.Needs.{needs}
-use Rattle.yewdome.specs.Filing.{openPage}
 use Rattle.yewdome.proofs.Steps.{Given, none-given, not-filed, was-filed, was-refused}
 use Rattle.yewdome.proofs.step.Statement.{statement}
 use Rattle.yewdome.proofs.step.Tie as tie
@@ -21,7 +20,7 @@ returns : tie.Need-returns
 returns c =
     let k = c .before .before in
     let a = k .before .before .before .before .args in
-    none-given (read k) (a .files) (openPage (now (a .buf)) (a .position)) (c .if1 .taken)
+    none-given (read k) (a .files) (now (a .buf)) (a .position) (c .if1 .taken)
 
 returns-2 : tie.Need-returns-2
 returns-2 c =
@@ -29,7 +28,7 @@ returns-2 c =
     let t = y .before .before .before in
     let k = t .before .before .before in
     let a = k .before .before .before .before .args in
-    was-filed (read k) (a .files) (openPage (now (a .buf)) (a .position)) (t .if2 .taken) (t .before .if1 .left) (size k) (y .yewdome-page-add .ensures) (c .if3 .taken)
+    was-filed (read k) (a .files) (now (a .buf)) (a .position) (t .if2 .taken) (t .before .if1 .left) (size k) (y .yewdome-page-add .ensures) (c .if3 .taken)
 
 returns-3 : tie.Need-returns-3
 returns-3 c =
@@ -37,13 +36,13 @@ returns-3 c =
     let t = y .before .before .before in
     let k = t .before .before .before in
     let a = k .before .before .before .before .args in
-    was-refused (read k) (a .files) (openPage (now (a .buf)) (a .position)) (t .if2 .taken) (t .before .if1 .left) (size k) (y .yewdome-page-add .ensures) (c .if3 .left)
+    was-refused (read k) (a .files) (now (a .buf)) (a .position) (t .if2 .taken) (t .before .if1 .left) (size k) (y .yewdome-page-add .ensures) (c .if3 .left)
 
 returns-4 : tie.Need-returns-4
 returns-4 c =
     let k = c .before .before .before in
     let a = k .before .before .before .before .args in
-    not-filed (read k) (a .files) (openPage (now (a .buf)) (a .position)) (c .if2 .left)
+    not-filed (read k) (a .files) (now (a .buf)) (a .position) (c .if2 .left)
 
 pub step-spec : {M : Type 1} → statement M
 step-spec =

@@ -8,7 +8,8 @@ use lib.ListN.{length, set, length-set}
 use denote.Ref.{now}
 use borrow.Author.Needs.{needs}
 use Rattle.page_reader.specs.Pages.{readAt}
-use Rattle.yewdome.specs.Filing.{isLast, openPage}
+use Rattle.page_reader.specs.Reads.{isLast}
+use Rattle.yewdome.specs.Filing.{openPage}
 use Rattle.yewdome.proofs.Walks.{Partly, begins, Turn, few, there, same-numbers, at-end, at-stay, goes-on, next-within, finishes, continues}
 use Rattle.yewdome.proofs.walk.Statement.{statement}
 use Rattle.yewdome.proofs.walk.Tie as tie

@@ -4,6 +4,7 @@ use borrow.Author.Needs.{needs}
 use lib.Dec.{leb}
 use lib.ListN.{length, getD}
 use Rattle.party.specs.Party.{said}
+use Rattle.page_writer.specs.Beside.{noIndex}
 use Rattle.page_writer.specs.Adding.{add}
 use Rattle.flat.specs.Flat.{unflatten}
 use Rattle.yewdome.specs.Interface.{recordReply, filed}
@@ -16,14 +17,14 @@ returns : tie.Need-returns
 returns c =
     let t = c .before in
     let a = t .before .before .before .args in
-    refuses (recordReply (a .«record» .now)) (t .lent-record .ensures) (c .if1 .taken) (filed (add (a .buf .now) (a .position) (said (unflatten (a .«record» .now))))) (a .buf .now)
+    refuses (recordReply (a .«record» .now)) (t .lent-record .ensures) (c .if1 .taken) (filed (add (a .buf .now) (a .position) noIndex (said (unflatten (a .«record» .now))))) (a .buf .now)
 
 filed-requires : tie.Need-filed-requires
 filed-requires c κs =
     let f = c .before .before in
     let l = f .before .before in
     let a = l .before .before .before .before .before .args in
-    told-within (f .add .result) (f .add .ensures) (add-within (a .buf .now) (a .position) (said (l .load .result)))
+    told-within (f .add .result) (f .add .ensures) (add-within (a .buf .now) (a .position) noIndex (said (l .load .result)))
 
 returns-2 : tie.Need-returns-2
 returns-2 c =
@@ -32,7 +33,7 @@ returns-2 c =
     let t = l .before in
     let a = t .before .before .before .before .args in
     let s = a .«record» .now in
-    filed-told (f .add .result) (f .add .ensures) (c .filed .ensures) ∙ adds s (a .buf .now) (a .position) (passes (length s) (leb (getD s 0 0) 10) (t .before .lent-record .ensures) (t .if1 .left)) (l .load .ensures)
+    filed-told (f .add .result) (f .add .ensures) (c .filed .ensures) ∙ adds s (a .buf .now) (a .position) noIndex (passes (length s) (leb (getD s 0 0) 10) (t .before .lent-record .ensures) (t .if1 .left)) (l .load .ensures)
 
 pub yewdome-page-add-spec : {M : Type 1} → statement M
 yewdome-page-add-spec =

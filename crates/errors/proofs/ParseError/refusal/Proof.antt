@@ -71,10 +71,15 @@ returns-21 c = c .at21 .ensures ∙ sym (ap refusalOf (c .before .enum-told14 .g
 returns-22 : tie.Need-returns-22
 returns-22 c = c .at22 .ensures ∙ sym (ap refusalOf (c .before .enum-told15 .given .1))
 
+returns-23 : tie.Need-returns-23
+returns-23 c = c .at23 .ensures ∙ sym (ap refusalOf (c .before .enum-told16 .given .1))
+
 pub refusal-spec : {M : Type 1} → statement M
 refusal-spec =
     tie.close
     (tie.spec
+    (λ c. search needs)
+    (λ c κs. search needs)
     (λ c. search needs)
     (λ c κs. search needs)
     (λ c. search needs)
@@ -140,4 +145,5 @@ refusal-spec =
     returns-19
     returns-20
     returns-21
-    returns-22)
+    returns-22
+    returns-23)

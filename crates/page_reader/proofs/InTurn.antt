@@ -9,10 +9,10 @@ use lib.Dec.{eqb, leb}
 use lib.ListN.{length}
 use borrow.Author.Tests.{eqb-false, leb-true, leb-false}
 use Rattle.field_utils.proofs.Tests.{either-right}
 use Rattle.page_reader.specs.Pages.{pageMost, PageRead, readAt}
+use Rattle.page_reader.specs.Reads.{Read, readHere, isEnd, isLast, readsFrom, reads}
 use Rattle.page_reader.proofs.Cases.{by-case, case-long}
 use Rattle.page_reader.proofs.Moves.{stays-or-moves}
-use Rattle.yewdome.specs.Filing.{Read, readHere, isEnd, isLast, readsFrom, reads}
 
 module _ (page : List ℕ) (at : ℕ) where
   abbrev r : PageRead

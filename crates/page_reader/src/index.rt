@@ -1,0 +1,181 @@
+// The index beside a page (document 02, Three): for each field its tag, first position and length. It is lent as numbers: how many entries
+// it has, and three for each of 256. Any numbers may be lent; an entry is believed only where the page has it.
+use crate::PAGE_MOST;
+use crate::ReadCase;
+use crate::Tag;
+use crate::parse_tag;
+use crate::past;
+use crate::read_case;
+use crate::text_in;
+use errors::Outcome;
+use errors::ParseError;
+use party::Party;
+use party::PartyOption;
+use party::blank;
+use party::index_of;
+use reader::behind;
+use reader::read;
+ghost use mathlib.Core.Path.{_≡_};
+ghost use Prim.Native.Nat.{_≤_};
+ghost use lib.ListN.{length};
+ghost use Rattle.page_reader.specs.declared.ReadCase.the-variants.{Opening};
+ghost use Rattle.page_reader.specs.Pages.{readCase};
+ghost use Rattle.page_reader.specs.Index.{indexSize, entriesOf, lookUp, bodyOf, toldLookup, partyLooked};
+ghost use Rattle.page_reader.specs.Code.{HoldsBy, Finds};
+
+// The most entries of an index.
+pub const INDEX_MOST: usize = 256;
+
+// How many numbers an index is: a count, then tag, position and length of each entry, the tag as the option's place in the table.
+pub const INDEX_SIZE: usize = 769;
+
+// What a lookup gives: the field's record or its body's refusal, each with the field's position and the next, or 18, 31 or 21, which carry
+// none.
+pub enum LookOutcome {
+    Record {
+        at: usize,
+        next: usize,
+    },
+    Refused {
+        error: ParseError,
+        at: usize,
+        next: usize,
+    },
+    NotFound(ParseError),
+}
+
+// The same with the record, which is blank but where it gives one.
+pub struct Lookup {
+    pub outcome: LookOutcome,
+    pub party: Party,
+}
+
+// Where a field that is looked up stands in the page, with its option and how many bytes precede its body; or the refusal.
+enum Place {
+    Field {
+        option: PartyOption,
+        skip: usize,
+        at: usize,
+        to: usize,
+    },
+    Missing(ParseError),
+}
+
+// How many entries an index has.
+pub fn entry_count(index: &[u32; INDEX_SIZE]) -> usize
+    ensures { λ r. ⌜ r ≡ length (entriesOf (now (index .entry))) ⌝ }
+    ensures sized { λ r. ⌜ length (now (index .entry)) ≡ indexSize ⌝ }
+{
+    let numbers = &index[..];
+    let count = numbers[0];
+    if count < 256 {
+        count as usize
+    } else {
+        INDEX_MOST
+    }
+}
+
+// Where the field from one position to another stands, if it has this tag and length; else 21.
+fn field_in(page: &[u8], at: usize, to: usize, tag: u32, len: u32) -> Place
+    requires { ⌜ (at ≤ to) × (to ≤ length (now page)) ⌝ }
+    ensures { λ r. ⌜ HoldsBy (Opening to) (now (page .entry)) at tag len r ⌝ }
+{
+    let text = text_in(page, at, to);
+    if text.len() != len as usize {
+        return Place::Missing(ParseError::Position);
+    }
+    let found = parse_tag(text);
+    let Tag::Known { option, skip } = found else {
+        return Place::Missing(ParseError::Position);
+    };
+    if index_of(option) != tag as usize {
+        return Place::Missing(ParseError::Position);
+    }
+    Place::Field {
+        option,
+        skip,
+        at,
+        to,
+    }
+}
+
+// Where the field at a position stands, if it has this tag and length; else, and where no field is, 21.
+fn field_here(page: &[u8], position: u32, tag: u32, len: u32) -> Place
+    ensures { λ r. ⌜ HoldsBy (readCase (now (page .entry)) position) (now (page .entry)) position tag len r ⌝ }
+{
+    let at = position as usize;
+    match read_case(page, at) {
+        ReadCase::TooLong => Place::Missing(ParseError::Position),
+        ReadCase::NoStart => Place::Missing(ParseError::Position),
+        ReadCase::AtLength => Place::Missing(ParseError::Position),
+        ReadCase::Opening { to } => field_in(page, at, to, tag, len),
+        ReadCase::Ending { to: _ } => Place::Missing(ParseError::Position),
+        ReadCase::Stray { to: _ } => Place::Missing(ParseError::Position),
+    }
+}
+
+// Where field k stands by its entry, in the order 18, 31, 21.
+fn find(page: &[u8], index: &[u32; INDEX_SIZE], k: usize) -> Place
+    ensures { λ r. ⌜ Finds (now (page .entry)) (now (index .entry)) k r ⌝ }
+{
+    if PAGE_MOST < page.len() {
+        return Place::Missing(ParseError::PageTooLong);
+    }
+    if k == 0 {
+        return Place::Missing(ParseError::NoEntry);
+    }
+    if entry_count(index) < k {
+        return Place::Missing(ParseError::NoEntry);
+    }
+    let last = 3 * k;
+    field_here(page, index[last - 1], index[last - 2], index[last])
+}
+
+// Looks up field k of a page, counted from 1: reads as the reader does at the position that entry k gives.
+pub fn look_up(page: &[u8], index: &[u32; INDEX_SIZE], k: usize) -> Lookup
+    ensures { λ r. ⌜ toldLookup r (bodyOf (lookUp (now (page .entry)) (now (index .entry)) k)) ≡ lookUp (now (page .entry)) (now (index .entry)) k ⌝ }
+    ensures beside { λ r. ⌜ r .party ≡ partyLooked (lookUp (now (page .entry)) (now (index .entry)) k) ⌝ }
+{
+    match find(page, index, k) {
+        Place::Field {
+            option,
+            skip,
+            at,
+            to,
+        } => {
+            let answer = read(option, behind(text_in(page, at, to), skip));
+            let next = past(page, to);
+            let outcome = answer.outcome;
+            let party = answer.party;
+            match outcome {
+                Outcome::Accepted => Lookup {
+                    outcome: LookOutcome::Record { at, next },
+                    party,
+                },
+                Outcome::Refused(error) => Lookup {
+                    outcome: LookOutcome::Refused { error, at, next },
+                    party,
+                },
+            }
+        }
+        Place::Missing(e) => Lookup {
+            outcome: LookOutcome::NotFound(e),
+            party: blank(),
+        },
+    }
+}
+
+// The body of field k, as a part of the page: empty at 18, 31 and 21.
+pub fn look_up_body<'a>(page: &'a [u8], index: &[u32; INDEX_SIZE], k: usize) -> &'a [u8]
+    ensures { λ r. ⌜ now r ≡ bodyOf (lookUp (now (page .entry)) (now (index .entry)) k) ⌝ }
+{
+    match find(page, index, k) {
+        Place::Field {
+            option: _,
+            skip,
+            at,
+            to,
+        } => behind(text_in(page, at, to), skip),
+        Place::Missing(_) => &page[..0],
+    }
+}

@@ -1,0 +1,55 @@
+-- `yewdome::yewdome_page_add_indexed` meets its contract: what adding gave is told. Assumes nothing.
+use mathlib.Core.Path.{_∙_}
+use borrow.Author.Needs.{needs}
+use lib.Dec.{leb}
+use lib.ListN.{length, getD}
+use Rattle.party.specs.Party.{said}
+use Rattle.page_writer.specs.Beside.{anIndex}
+use Rattle.page_writer.specs.Adding.{add, addIndex}
+use Rattle.flat.specs.Flat.{unflatten}
+use Rattle.yewdome.specs.Interface.{recordReply, filed}
+use Rattle.yewdome.proofs.Answers.{refuses, refuses-index, passes}
+use Rattle.yewdome.proofs.Pages.{add-within, told-within, filed-told, adds, adds-index}
+use Rattle.yewdome.proofs.yewdome_page_add_indexed.Statement.{statement}
+use Rattle.yewdome.proofs.yewdome_page_add_indexed.Tie as tie
+
+returns : tie.Need-returns
+returns c =
+    let t = c .before in
+    let a = t .before .before .before .args in
+    let s = said (unflatten (a .«record» .now)) in
+    let b = anIndex (a .index .now) in
+    let r = recordReply (a .«record» .now) in
+    (refuses r (t .lent-record .ensures) (c .if1 .taken) (filed (add (a .buf .now) (a .position) b s)) (a .buf .now), refuses-index r (t .lent-record .ensures) (c .if1 .taken) (addIndex (a .buf .now) (a .position) b s) b)
+
+filed-requires : tie.Need-filed-requires
+filed-requires c κs =
+    let f = c .before .before in
+    let l = f .before .before .before in
+    let a = l .before .before .before .before .before .args in
+    told-within (f .add-indexed .result) (f .add-indexed .ensures .0) (add-within (a .buf .now) (a .position) (anIndex (a .index .now)) (said (l .load .result)))
+
+returns-2 : tie.Need-returns-2
+returns-2 c =
+    let f = c .before .before .before in
+    let l = f .before .before .before in
+    let t = l .before in
+    let a = t .before .before .before .before .args in
+    let s = a .«record» .now in
+    let b = anIndex (a .index .now) in
+    let p = passes (length s) (leb (getD s 0 0) 10) (t .before .lent-record .ensures) (t .if1 .left) in (
+      filed-told (f .add-indexed .result) (f .add-indexed .ensures .0) (c .filed .ensures) ∙ adds s (a .buf .now) (a .position) b p (l .load .ensures),
+      f .add-indexed .ensures .1 ∙ adds-index s (a .buf .now) (a .position) b p (l .load .ensures),
+    )
+
+pub yewdome-page-add-indexed-spec : {M : Type 1} → statement M
+yewdome-page-add-indexed-spec =
+    tie.close
+    (tie.spec
+    (λ c κs. search needs)
+    returns
+    (λ c κs. search needs)
+    (λ c κs. search needs)
+    filed-requires
+    (λ c. search needs)
+    returns-2)
