@@ -160,7 +160,7 @@ uint32_t yewdome_party_place(const uint8_t *record, size_t record_length,
 uint64_t yewdome_page_read(const uint8_t *page, size_t page_length, size_t at,
                            uint8_t *record, size_t record_length);
 
-/* What of a page's read `yewdome_number` and `yewdome_line` take. */
+/* What of a page's read, or lookup, `yewdome_number` and `yewdome_line` take. */
 static inline uint32_t yewdome_read_answer(uint64_t read)
 {
     return (uint32_t)(read >> 32);
@@ -240,9 +240,9 @@ uint32_t yewdome_page_add_indexed(const uint8_t *record, size_t record_length,
  * Looks up field k, counted from 1, by its entry, and stores the record, if it gives one. The page
  * is a closed one, or the open one: the bytes of the buffer before its position. Gives what
  * `yewdome_page_read` gives at the field's position, `entries[k - 1].position`, and never the end;
- * the body is what `yewdome_page_body` gives there. Or it gives a refusal that moves past no byte:
- * 42, then 18, then 31 where k is 0 or the index has fewer entries, then 21 where the page has no
- * field of the entry's tag and length at its position.
+ * the body is what `yewdome_page_body` gives there. Or it gives a refusal of its own, told from a
+ * body's by that it moves past no byte: 42, then 18, then 31 where k is 0 or the index has fewer
+ * entries, then 21 where the page has no field of the entry's tag and length at its position.
  */
 uint64_t yewdome_page_look_up(const uint8_t *page, size_t page_length,
                               const struct yewdome_index *index, size_t k,

@@ -213,7 +213,8 @@ pub struct Entry {
 
 /// An index beside a page, which [`add_indexed`] fills and [`look_up`] takes. It can be stored and
 /// restored with its page: any numbers may stand in it, and an entry is believed only where the
-/// page has it. No function makes one from a page.
+/// page has it. No function makes one from a page. Two are equal where all their numbers are, those
+/// after the count too.
 #[derive(Debug, Clone, PartialEq, Eq, Hash)]
 #[repr(C)]
 pub struct Index {

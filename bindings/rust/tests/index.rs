@@ -422,10 +422,3 @@ fn an_index_is_stored_and_restored() {
     assert_eq!(index_of(&restored), index);
     is_of(&index_of(&restored), &buffer[..position]);
 }
-
-#[test]
-fn an_index_has_3076_bytes() {
-    assert_eq!(std::mem::size_of::<Index>(), 3076);
-    assert_eq!(std::mem::size_of::<Entry>(), 12);
-    assert_eq!(std::mem::align_of::<Index>(), 4);
-}

@@ -1,4 +1,5 @@
 // A page with an index: files records until no entry is free and some more, and looks every field up.
+use crate::Checked;
 use crate::count::Adds;
 use crate::count::Looks;
 use crate::last_given;
@@ -49,7 +50,7 @@ fn fill(buf: &mut [u8], index: &mut [u32; INDEX_SIZE]) -> usize {
 }
 
 // Whether two texts are the same.
-fn is_same(a: &[u8], b: &[u8]) -> bool {
+fn same_bytes(a: &[u8], b: &[u8]) -> bool {
     if a.len() != b.len() {
         return false;
     }
@@ -63,14 +64,8 @@ fn is_same(a: &[u8], b: &[u8]) -> bool {
     true
 }
 
-// What came of a lookup: whether it gave what the reader's read gave, and the next position.
-struct Looked {
-    agrees: bool,
-    next: usize,
-}
-
 // Looks up field k, which is to stand at a position, and compares it with the read there.
-fn look(page: &[u8], index: &[u32; INDEX_SIZE], k: usize, at: usize) -> Looked {
+fn look(page: &[u8], index: &[u32; INDEX_SIZE], k: usize, at: usize) -> Checked {
     let read = read_at(page, at);
     let looked = look_up(page, index, k);
     let outcome = read.outcome;
@@ -91,8 +86,8 @@ fn look(page: &[u8], index: &[u32; INDEX_SIZE], k: usize, at: usize) -> Looked {
         } => false,
         LookOutcome::NotFound(_) => false,
     };
-    let is_body = is_same(look_up_body(page, index, k), body_at(page, at));
-    Looked {
+    let is_body = same_bytes(look_up_body(page, index, k), body_at(page, at));
+    Checked {
         agrees: is_record & is_there & is_body & same(party, other),
         next: read.next,
     }

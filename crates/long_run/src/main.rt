@@ -95,7 +95,7 @@ fn is_same(outcome: ReadOutcome, other: Outcome) -> bool {
     }
 }
 
-// What came of a read: whether it gave what it was to give, and the next position.
+// What came of a read, or of looking a field up: whether it gave what it was to give, and the next position.
 struct Checked {
     agrees: bool,
     next: usize,

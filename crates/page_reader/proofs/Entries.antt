@@ -18,12 +18,12 @@ use Rattle.page_reader.specs.declared.index.LookOutcome.the-variants.{Re
 use Rattle.page_reader.specs.declared.index.Lookup.{Lookup}
 use Rattle.page_reader.specs.Pages.{pageMost, past, Tagged, untagged, tagged, PageRead, readTagged, readField, textIn, readCase, readAt}
 use Rattle.page_reader.specs.Reads.{Read, readHere}
-use Rattle.page_reader.specs.Index.{Entry, indexMost, indexSize, entriesIn, entriesOf, Met, aField, taggedAs, metBy, fieldAt, Looked, found, notFound, looking, isThere, entryOf, lookReply, lookUp, bodyOf, toldLookup, partyLooked}
+use Rattle.page_reader.specs.Index.{Entry, indexMost, indexSize, entriesIn, entriesOf, noEntry, Met, aField, taggedAs, metBy, fieldAt, Looked, found, notFound, looking, isThere, entryOf, lookReply, lookUp, bodyOf, toldLookup, partyLooked}
 use Rattle.page_reader.specs.Code.{IsField}
 use Rattle.page_reader.proofs.Cases.{Tells, by-case}
 
 -- ---- the entries that an index has
-pub in-length : (n : ℕ) (l : List ℕ) → length l ≡ 3 * n → length (entriesIn l) ≡ n
+in-length : (n : ℕ) (l : List ℕ) → length l ≡ 3 * n → length (entriesIn l) ≡ n
 unfolding entriesIn
 in-length zero [] h = refl
 in-length zero (a ∷ l) h = absurd (omega arith)
@@ -60,12 +60,12 @@ entry-at (count ∷ l) (suc i) o h =
     let b : suc (suc (3 * i)) ≡ 3 * suc i - 1 = omega arith in
     let c : suc (suc (suc (3 * i))) ≡ 3 * suc i = omega arith in
     let z : suc i - 1 ≡ i = omega arith in
-    ap (λ (j : ℕ). getD (take count (entriesIn l)) j (record { tag = 0; position = 0; len = 0 })) z
+    ap (λ (j : ℕ). getD (take count (entriesIn l)) j noEntry) z
     ∙ cut (omega (arith, n, h))
-    ∙ in-at l i (record { tag = 0; position = 0; len = 0 }) (omega (arith, n, h))
+    ∙ in-at l i noEntry (omega (arith, n, h))
     ∙ (λ j. record { tag = getD (count ∷ l) (a j) 0; position = getD (count ∷ l) (b j) 0; len = getD (count ∷ l) (c j) 0 })
   where
-    cut : i < count → getD (take count (entriesIn l)) i (record { tag = 0; position = 0; len = 0 }) ≡ getD (entriesIn l) i (record { tag = 0; position = 0; len = 0 })
+    cut : i < count → getD (take count (entriesIn l)) i noEntry ≡ getD (entriesIn l) i noEntry
     cut m = rw getD-take
 
 -- ---- whether an entry is what the page has

@@ -43,7 +43,7 @@ pub record IsField (x : ReadCase) (page : List ℕ) (o : PartyOption) (skip at t
   pub case : x ≡ Opening to
   pub option : tagIn options (textIn page at to) ≡ tagged o (drop skip (textIn page at to))
 
--- what a case of a read meets there has a tag and a length, or it is 21
+-- by the case of the read at a position: the field there, if it has this tag and length, else 21
 abbrev pub HoldsBy : ReadCase → List ℕ → ℕ → ℕ → ℕ → Place → Type 0
 HoldsBy x page at tag len (Field o skip from to) =
     (from ≡ at) × IsField x page o skip at to × (isThere (metBy x page at) (record { tag = tag; position = at; len = len }) ≡ true)

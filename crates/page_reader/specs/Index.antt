@@ -68,14 +68,14 @@ unfoldable pub fieldAt : List ℕ → ℕ → Met
 fieldAt page at = metBy (readCase page at) page at
 
 -- a field, if there is one, before later ones
-abbrev pub before : Met → List Entry → List Entry
-before noField later = later
-before (aField e) later = e ∷ later
+abbrev pub metBefore : Met → List Entry → List Entry
+metBefore noField later = later
+metBefore (aField e) later = e ∷ later
 
 -- the fields that reads of a page meet, in their order
 unfoldable pub fieldsIn : List ℕ → List Read → List Entry
 fieldsIn page [] = []
-fieldsIn page (r ∷ rs) = before (fieldAt page (r .at)) (fieldsIn page rs)
+fieldsIn page (r ∷ rs) = metBefore (fieldAt page (r .at)) (fieldsIn page rs)
 
 -- the list of the fields that reading a page from 0 meets
 abbrev pub fieldsMet : List ℕ → List Entry
@@ -101,9 +101,13 @@ isThere (aField f) e = eqb (f .tag) (e .tag) && eqb (f .position) (e .position) 
 abbrev pub hasEntry : List ℕ → ℕ → Bool
 hasEntry index k = leb 1 k && leb k (length (entriesOf index))
 
--- its entry
+-- the entry where there is none
+abbrev pub noEntry : Entry
+noEntry = record { tag = 0; position = 0; len = 0 }
+
+-- the entry of field k
 abbrev pub entryOf : List ℕ → ℕ → Entry
-entryOf index k = getD (entriesOf index) (k - 1) (record { tag = 0; position = 0; len = 0 })
+entryOf index k = getD (entriesOf index) (k - 1) noEntry
 
 -- a refusal that applies to a lookup: 18, 31, 21
 abbrev pub lookReply : List ℕ → List ℕ → ℕ → Reply
@@ -111,7 +115,7 @@ lookReply page index k =
     let e = entryOf index k in
     must (leb (length page) pageMost) 18 0 then must (hasEntry index k) 31 0 then must (isThere (fieldAt page (e .position)) e) 21 0
 
--- looking up field k: else what the reader says at the position that entry k gives
+-- looking up field k: the refusal that applies, else what the reader says at the position that entry k gives
 unfoldable pub lookUp : List ℕ → List ℕ → ℕ → Looked
 lookUp page index k = looking (lookReply page index k) (readHere page (entryOf index k .position))
 

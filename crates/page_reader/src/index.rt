@@ -61,7 +61,7 @@ enum Place {
     Missing(ParseError),
 }
 
-// How many entries an index has.
+// How many entries an index has. It is taken as a slice, whose length is then known.
 pub fn entry_count(index: &[u32; INDEX_SIZE]) -> usize
     ensures { λ r. ⌜ r ≡ length (entriesOf (now (index .entry))) ⌝ }
     ensures sized { λ r. ⌜ length (now (index .entry)) ≡ indexSize ⌝ }

@@ -27,26 +27,25 @@ use Rattle.page_reader.specs.Pages.{pageMost}
 use Rattle.page_reader.specs.Index.{Entry}
 use Rattle.page_writer.specs.Beside.{Beside, noIndex, noting}
 use Rattle.page_writer.specs.Adding.{linesCarried, isCarried, writable, hasSpace, withLf, endLine, positionAfter, refusal, Call, putting, recordSpace, asked, recordReply, addReply, freeBeside, add, entryFor, addIndex, close}
-use Rattle.page_writer.specs.Code.{fieldCall, addWhere}
+use Rattle.page_writer.specs.Code.{lineReply, fieldCall}
 
 pub position≢refusal : {m k n : ℕ} → positionAfter m ≡ refusal k n → ⊥
 position≢refusal e = let z : _≡_ {A = ℕ} 0 1 = cc in omega arith
 
 -- ---- adding
--- with an index or without, by whether an entry is free
-pub add-where : (buffer : List ℕ) (at : ℕ) (b : Beside) (s : Said) → add buffer at b s ≡ addWhere buffer at (freeBeside b) s
-unfolding add
-add-where buffer at b s = refl
+module _ (buffer : List ℕ) (at : ℕ) (b : Beside) (s : Said) where
+  pub add-by : add buffer at b s ≡ putting (addReply buffer at (freeBeside b) s) buffer at (withLf (writtenField s))
+  unfolding add
+  add-by = refl
 
-module _ (buffer : List ℕ) (at : ℕ) (free : Bool) (s : Said) where
-  pub add-21 : writable buffer at ≡ false → addWhere buffer at free s ≡ record { answer = refusal 21 0; buffer = buffer }
-  unfolding addReply
+  pub add-21 : writable buffer at ≡ false → add buffer at b s ≡ record { answer = refusal 21 0; buffer = buffer }
+  unfolding add addReply
   add-21 w = rw w
 
   -- by what a page asks of the record
   pub add-asked : {r : Reply} → writable buffer at ≡ true → asked s ≡ r
-      → addWhere buffer at free s ≡ putting (r then must (recordSpace (length buffer) at s) 24 0 then must free 31 0) buffer at (withLf (writtenField s))
-  unfolding addReply recordReply
+      → add buffer at b s ≡ putting (r then lineReply (length buffer) at (writtenField s) 2 (freeBeside b)) buffer at (withLf (writtenField s))
+  unfolding add addReply recordReply
   add-asked w e = rw (w, e)
 
 -- an accepted one
@@ -130,7 +129,7 @@ asked-unmeasured s {k} {l} m =
     let same : refusedWith 22 0 ≡ refusedWith k l = measure-22 s e ∙ m in
     rw e cc
 
-pub asked-by : (s : Said) {t : Bool} → isGiven s ≡ true → isCarried s ≡ t → asked s ≡ must t 23 0
+asked-by : (s : Said) {t : Bool} → isGiven s ≡ true → isCarried s ≡ t → asked s ≡ must t 23 0
 unfolding asked
 asked-by s g c = rw (g, c)
 
@@ -148,27 +147,25 @@ pub tag-within : (p : Party) → length (tagOf (p .option)) ≤ length (writtenF
 unfolding writtenField said
 tag-within p = omega (arith, length-append (tagOf (p .option)) (writtenBody (said p)))
 
-pub field-body : (p : Party) {field : List ℕ} → field ≡ writtenField (said p) → drop (length (tagOf (p .option))) field ≡ writtenBody (said p)
+field-body : (p : Party) {field : List ℕ} → field ≡ writtenField (said p) → drop (length (tagOf (p .option))) field ≡ writtenBody (said p)
 unfolding writtenField said
 field-body p e = ap (drop (length (tagOf (p .option)))) e ∙ drop-append-seam (tagOf (p .option)) (writtenBody (said p))
 
 -- a field that is filed, by whether it is carried
 pub field-by : (buffer : List ℕ) (at : ℕ) (field : List ℕ) (start : ℕ) (identified free : Bool) {t : Bool} → (linesCarried (pieces (drop start field)) && not identified) ≡ t
-    → fieldCall buffer at field start identified free ≡ putting (must t 23 0 then must (hasSpace (length buffer) (at + length (withLf field) + 2)) 24 0 then must free 31 0) buffer at (withLf field)
-field-by buffer at field start identified free e =
-    ap (λ (t : Bool). putting (must t 23 0 then must (hasSpace (length buffer) (at + length (withLf field) + 2)) 24 0 then must free 31 0) buffer at (withLf field)) e
+    → fieldCall buffer at field start identified free ≡ putting (must t 23 0 then lineReply (length buffer) at field 2 free) buffer at (withLf field)
+field-by buffer at field start identified free e = ap (λ (t : Bool). putting (must t 23 0 then lineReply (length buffer) at field 2 free) buffer at (withLf field)) e
 
--- what filing a record's is
-module _ (p : Party) (buffer : List ℕ) (at : ℕ) (free : Bool) (g : isGiven (said p) ≡ true) (w : writable buffer at ≡ true) where
-  by-body : List ℕ → Call
-  by-body body =
-      putting (must (linesCarried (pieces body) && not (identified59F (said p))) 23 0 then must (recordSpace (length buffer) at (said p)) 24 0 then must free 31 0) buffer at
-      (withLf (writtenField (said p)))
-
-  pub field-is : {field : List ℕ} {start : ℕ} {identified : Bool} → field ≡ writtenField (said p) → start ≡ length (tagOf (p .option)) → identified ≡ identified59F (said p)
-      → fieldCall buffer at field start identified free ≡ addWhere buffer at free (said p)
-  unfolding by-body isCarried
-  field-is f s i = (λ j. fieldCall buffer at (f j) (s j) (i j) free) ∙ ap by-body (field-body p refl) ∙ sym (add-asked buffer at free (said p) w (asked-by (said p) g refl))
+-- a record's, as it is added
+pub field-is : (p : Party) (buffer : List ℕ) (at : ℕ) (b : Beside) {field : List ℕ} {start : ℕ} {identified : Bool} → isGiven (said p) ≡ true → writable buffer at ≡ true
+    → field ≡ writtenField (said p) → start ≡ length (tagOf (p .option)) → identified ≡ identified59F (said p)
+    → fieldCall buffer at field start identified (freeBeside b) ≡ add buffer at b (said p)
+unfolding isCarried
+field-is p buffer at b g w f s i =
+    (λ j. fieldCall buffer at (f j) (s j) (i j) (freeBeside b))
+    ∙ field-by buffer at (writtenField (said p)) (length (tagOf (p .option))) (identified59F (said p)) (freeBeside b)
+    (ap (λ (l : List ℕ). linesCarried (pieces l) && not (identified59F (said p))) (field-body p refl))
+    ∙ sym (add-asked buffer at b (said p) w (asked-by (said p) g refl))
 
 -- ---- a record placed in a room for it
 -- the record is given, and the first n bytes of the room are its field

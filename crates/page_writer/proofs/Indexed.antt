@@ -1,7 +1,7 @@
 -- An index beside a page of fields: the reads of the page in their turn, and what looking a field up gives. Assumes nothing.
 use mathlib.Core.Path.{_≡_, refl, sym, _∙_, ap, subst}
 use mathlib.Core.Bool.{true, false}
-use mathlib.Core.List.{List, [], _∷_, _++_, map, append-assoc, append-nil}
+use mathlib.Core.List.{List, [], _∷_, _++_, map, map-append, append-assoc, append-nil}
 use Prim.Native.Nat.{ℕ, zero, suc, _+_, _-_, _≤_, _<_}
 use native.Mathlib.Omega.{arith}
 use borrow.Author.Tests.{eq-eqb, ne-eqb}
@@ -15,10 +15,10 @@ use Rattle.writer.specs.Writing.{writtenField}
 use Rattle.writer.proofs.Relined.{All}
 use Rattle.page_reader.specs.Pages.{pageMost, ReadOutcome, PageRead, bodiless, readField, readAt}
 use Rattle.page_reader.specs.Reads.{Read, readHere, isEnd, isLast, reads}
-use Rattle.page_reader.specs.Index.{Entry, indexSize, entriesOf, Met, aField, fieldAt, before as addBefore, fieldsIn, found, entryOf, lookUp}
+use Rattle.page_reader.specs.Index.{Entry, indexSize, entriesOf, noEntry, Met, aField, fieldAt, metBefore, fieldsIn, found, entryOf, lookUp}
 use Rattle.page_reader.proofs.Cases.{field-next}
 use Rattle.page_reader.proofs.InTurn.{rest, rest-start, rest-last, rest-next}
-use Rattle.page_reader.proofs.Entries.{entries-length, look-found}
+use Rattle.page_reader.proofs.Entries.{entries-length, look-none, look-past, look-found}
 use Rattle.page_writer.specs.Adding.{withLf, entryFor}
 use Rattle.page_writer.specs.WholePage.{kept, pageOf, Gives}
 use Rattle.page_writer.specs.Indexed.{Indexed, IndexedBeside}
@@ -29,10 +29,6 @@ use Rattle.page_writer.proofs.Noting.{entriesFrom, from-length, from-st
 use Rattle.page_writer.proofs.Invariant.{Fit, fieldsOf, fields-snoc, fit-sound, fields-sound}
 
 -- ---- lists
-map-split : {A B : Type 0} (f : A → B) (xs ys : List A) → map f (xs ++ ys) ≡ map f xs ++ map f ys
-map-split f [] ys = refl
-map-split f (x ∷ xs) ys = ap (_∷_ (f x)) (map-split f xs ys)
-
 -- an element of a list, by those before it
 nth : {A B : Type 0} (f : A → B) (xs : List A) (none : A) (y : B) (before : List B) (r : B) (later : List B) → map f xs ++ y ∷ [] ≡ before ++ r ∷ later → length before < length xs
     → r ≡ f (getD xs (length before) none)
@@ -72,7 +68,7 @@ module _ {tail : List ℕ} {last : ReadOutcome} {n : ℕ} (t : Tail tail last n)
     next = at + length (withLf (writtenField (said p)))
 
     splits : map kept list ≡ map kept before ++ kept p ∷ map kept later
-    splits = ap (map kept) e ∙ map-split kept before (p ∷ later)
+    splits = ap (map kept) e ∙ map-append kept before (p ∷ later)
 
     fits : Fit p
     fits = all-later Fit before (p ∷ later) (subst (All Fit) e fit) .0
@@ -141,8 +137,8 @@ module _ {tail : List ℕ} {last : ReadOutcome} {n : ℕ} (t : Tail tail last n)
 
   fields-in : (es : List Entry) → All MetAt es → fieldsIn page (map readOf es ++ readHere page end ∷ []) ≡ es
   unfolding fieldsIn
-  fields-in [] h = ap (λ (x : Met). addBefore x []) (structured .none)
-  fields-in (x ∷ es) h = ap (λ (y : Met). addBefore y (fieldsIn page (map readOf es ++ readHere page end ∷ []))) (h .0) ∙ ap (_∷_ x) (fields-in es (h .1))
+  fields-in [] h = ap (λ (x : Met). metBefore x []) (structured .none)
+  fields-in (x ∷ es) h = ap (λ (y : Met). metBefore y (fieldsIn page (map readOf es ++ readHere page end ∷ []))) (h .0) ∙ ap (_∷_ x) (fields-in es (h .1))
 
   -- ---- an index that has their entries
   module _ (d : List ℕ) (size : length d ≡ indexSize) (q : entriesOf d ≡ entriesFrom 0 list) where
@@ -153,11 +149,8 @@ module _ {tail : List ℕ} {last : ReadOutcome} {n : ℕ} (t : Tail tail last n)
     look : (i : ℕ) (x : Entry) → i < length list → entryOf d (suc i) ≡ x → fieldAt page (x .position) ≡ aField x → lookUp page d (suc i) ≡ found (readHere page (x .position))
     look i x h e f = look-found page d (suc i) m (omega arith) (omega (arith, h, count)) e f
 
-    abbrev none : Entry
-    none = record { tag = 0; position = 0; len = 0 }
-
-    entry-is : (i : ℕ) → entryOf d (suc i) ≡ getD (entriesFrom 0 list) i none
-    entry-is i = let z : suc i - 1 ≡ i = omega arith in ap (λ (j : ℕ). getD (entriesOf d) j none) z ∙ ap (λ (l : List Entry). getD l i none) q
+    entry-in : (i : ℕ) → entryOf d (suc i) ≡ getD (entriesFrom 0 list) i noEntry
+    entry-in i = let z : suc i - 1 ≡ i = omega arith in ap (λ (j : ℕ). getD (entriesOf d) j noEntry) z ∙ ap (λ (l : List Entry). getD l i noEntry) q
 
     pub indexed : Indexed d page list
     indexed = record {
@@ -167,17 +160,19 @@ module _ {tail : List ℕ} {last : ReadOutcome} {n : ℕ} (t : Tail tail last n)
       step = λ before r later e h.
           let i = length before in
           let k : i < length (entriesFrom 0 list) = omega (arith, h, from-length 0 list) in
-          let x = getD (entriesFrom 0 list) i none in
-          look i x h (entry-is i) (all-at MetAt (entriesFrom 0 list) none mets i k)
-          ∙ ap found (sym (nth readOf (entriesFrom 0 list) none (readHere page end) before r later (sym reads-are ∙ e) k));
+          let x = getD (entriesFrom 0 list) i noEntry in
+          look i x h (entry-in i) (all-at MetAt (entriesFrom 0 list) noEntry mets i k)
+          ∙ ap found (sym (nth readOf (entriesFrom 0 list) noEntry (readHere page end) before r later (sym reads-are ∙ e) k));
+      past = λ k h. look-past page d k m (omega (arith, h)) (omega (arith, h, count));
+      zeroth = look-none page d 0 m refl;
       gives = λ before p later e.
           let i = length before in
           let at = length (fieldsOf before) in
           let rest = entriesFrom (at + length (withLf (writtenField (said p)))) later in
-          let x : getD (entriesFrom 0 list) i none ≡ entryFor at (said p) =
-          ap (λ (l : List Party). getD (entriesFrom 0 l) i none) e ∙ ap (λ (l : List Entry). getD l i none) (from-start before p later)
-          ∙ ap (λ (j : ℕ). getD (entriesFrom 0 before ++ entryFor at (said p) ∷ rest) j none) (sym (from-length 0 before)) ∙ getD-append-seam (entriesFrom 0 before) (entryFor at (said p)) rest none in
-          (readHere page at, look i (entryFor at (said p)) (omega (arith, ap length e, length-append before (p ∷ later))) (entry-is i ∙ x) (met-here before p later e), gives-here before p later e);
+          let x : getD (entriesFrom 0 list) i noEntry ≡ entryFor at (said p) =
+          ap (λ (l : List Party). getD (entriesFrom 0 l) i noEntry) e ∙ ap (λ (l : List Entry). getD l i noEntry) (from-start before p later)
+          ∙ ap (λ (j : ℕ). getD (entriesFrom 0 before ++ entryFor at (said p) ∷ rest) j noEntry) (sym (from-length 0 before)) ∙ getD-append-seam (entriesFrom 0 before) (entryFor at (said p)) rest noEntry in
+          (readHere page at, look i (entryFor at (said p)) (omega (arith, ap length e, length-append before (p ∷ later))) (entry-in i ∙ x) (met-here before p later e), gives-here before p later e);
     }
 
   -- of what stands beside the page

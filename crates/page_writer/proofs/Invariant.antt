@@ -120,7 +120,7 @@ module _ (len : ℕ) (indexed : Bool) (s : OpenPage) (m : Model) (h : Invariant 
       both (leb (s .position) (length (s .buffer))) (startsLine (s .buffer) (s .position)) (le-leb (s .position) (length (s .buffer)) (omega (arith, within, h .size))) starts
 
   -- an entry is free in the run where one is in the model
-  pub free-is : freeBeside (s .index) ≡ isFree indexed (length (m .list))
+  free-is : freeBeside (s .index) ≡ isFree indexed (length (m .list))
   free-is = noted-free (s .index) (m .list) (h .noted) ∙ ap (λ (i : Bool). isFree i (length (m .list))) (h .kind)
 
   module _ (p : Party) where

@@ -64,7 +64,7 @@ module _ (e : Entry) where
   in-put n (a ∷ []) h = absurd (omega arith)
   in-put n (a ∷ b ∷ []) h = absurd (omega arith)
 
-  pub noted-length : (d : List ℕ) → length d ≡ indexSize → length (entriesOf d) < indexMost → length (noted e d) ≡ indexSize
+  noted-length : (d : List ℕ) → length d ≡ indexSize → length (entriesOf d) < indexMost → length (noted e d) ≡ indexSize
   unfolding noted
   noted-length d size free =
       let n = length (entriesOf d) in
@@ -72,7 +72,7 @@ module _ (e : Entry) where
       put-length (put d (3 * n + 1) numbers) 0 (suc n ∷ []) (omega (arith, a, size)) ∙ a ∙ size
 
   -- those that it had, and the new one
-  pub noted-entries : (d : List ℕ) → length d ≡ indexSize → length (entriesOf d) < indexMost → entriesOf (noted e d) ≡ entriesOf d ++ e ∷ []
+  noted-entries : (d : List ℕ) → length d ≡ indexSize → length (entriesOf d) < indexMost → entriesOf (noted e d) ≡ entriesOf d ++ e ∷ []
   unfolding noted entriesOf
   noted-entries [] size free = absurd (omega arith)
   noted-entries (c ∷ l) size free =
@@ -93,7 +93,7 @@ unfolding entriesFrom
 from-length at [] = refl
 from-length at (p ∷ ps) = ap suc (from-length (at + length (withLf (writtenField (said p)))) ps)
 
-pub from-append : (at : ℕ) (ps qs : List Party) → entriesFrom at (ps ++ qs) ≡ entriesFrom at ps ++ entriesFrom (at + length (pageOf (map kept ps) [])) qs
+from-append : (at : ℕ) (ps qs : List Party) → entriesFrom at (ps ++ qs) ≡ entriesFrom at ps ++ entriesFrom (at + length (pageOf (map kept ps) [])) qs
 unfolding entriesFrom pageOf
 from-append at [] qs = ap (λ (n : ℕ). entriesFrom n qs) (let z : at ≡ at + 0 = omega arith in z)
 from-append at (p ∷ ps) qs =

@@ -162,16 +162,16 @@ unfolding readField
 field-read p body next = ap (λ (t : Tagged). readTagged t next) (tag-back (p .option) body)
 
 -- its text keeps every byte, and has its record's tag
-pub kept-text : (p : Party) → isCarried (said p) ≡ true → withoutCr (writtenField (said p)) ≡ writtenField (said p)
+pub kept-whole : (p : Party) → isCarried (said p) ≡ true → withoutCr (writtenField (said p)) ≡ writtenField (said p)
 unfolding writtenField said
-kept-text p e = tag-less (p .option) (writtenBody (said p)) ∙ ap (_++_ (tagOf (p .option))) (cr-kept (writtenBody (said p)) (carried-end (said p) e))
+kept-whole p e = tag-less (p .option) (writtenBody (said p)) ∙ ap (_++_ (tagOf (p .option))) (cr-kept (writtenBody (said p)) (carried-end (said p) e))
 
 -- so a read meets its entry
 pub kept-met : (p : Party) → isCarried (said p) ≡ true → (at : ℕ) → let x = withoutCr (writtenField (said p)) in taggedAs (tagIn options x) at (length x) ≡ aField (entryFor at (said p))
 unfolding writtenField said
 kept-met p e at =
     let f = writtenField (said p) in
-    ap (λ (x : List ℕ). taggedAs (tagIn options x) at (length x)) (kept-text p e) ∙ ap (λ (t : Tagged). taggedAs t at (length f)) (tag-back (p .option) (writtenBody (said p)))
+    ap (λ (x : List ℕ). taggedAs (tagIn options x) at (length x)) (kept-whole p e) ∙ ap (λ (t : Tagged). taggedAs t at (length f)) (tag-back (p .option) (writtenBody (said p)))
 
 pub kept-sound : (p : Party) → Given p → isCarried (said p) ≡ true → Sound (kept p)
 unfolding writtenField said front-lined
@@ -181,5 +181,5 @@ kept-sound p g e =
     record {
       lined = tagged-lined o (writtenBody (said p));
       bounded = later-none (writtenBody (said p)) (carried-bounded (said p) e);
-      gives = λ next. subst (λ (r : PageRead). Gives r (kept p)) (sym (ap (λ (t : List ℕ). readField t next) (kept-text p e) ∙ field-read p (writtenBody (said p)) next)) (accepted-record _ _ p (b .accepts) (b .same));
+      gives = λ next. subst (λ (r : PageRead). Gives r (kept p)) (sym (ap (λ (t : List ℕ). readField t next) (kept-whole p e) ∙ field-read p (writtenBody (said p)) next)) (accepted-record _ _ p (b .accepts) (b .same));
     }

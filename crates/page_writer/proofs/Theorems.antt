@@ -229,6 +229,7 @@ delivered-page b empty ps buffer e d m = delivered (acceptedAdds b ps buffer) (a
 -- demand 3: for every list of adds, every buffer, and no index or any empty one
 pub whole-page : (b : Beside) → IsEmpty b → (ps : List Party) (buffer : List ℕ) → WholePage b ps buffer
 whole-page b empty ps buffer = record {
+  opened = open-page b empty ps buffer;
   closed = closed-page b empty ps buffer;
   in-turn = λ before p later e. turn-in b before p later buffer e;
   exactly = λ before p later e. exact b empty before p buffer;

@@ -79,8 +79,8 @@ recordSpace len at s = hasSpace len (at + length (withLf (writtenField s)) + 2)
 unfoldable pub asked : Said → Reply
 asked s = must (isGiven s) 22 0 then must (isCarried s) 23 0
 
--- a refusal that applies to a record at a position, by the buffer's length and whether an entry is free alone: 22, 23, 24, 31 (document
--- 02, Three)
+-- a refusal that applies to a record at a position, from the buffer's length and whether an entry is free, and nothing else: 22, 23, 24, 31
+-- (document 02, Three)
 unfoldable pub recordReply : ℕ → ℕ → Bool → Said → Reply
 recordReply len at free s = asked s then must (recordSpace len at s) 24 0 then must free 31 0
 

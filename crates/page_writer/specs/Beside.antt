@@ -23,7 +23,7 @@ abbrev pub entriesBeside : Beside → List Entry
 entriesBeside noIndex = []
 entriesBeside (anIndex numbers) = entriesOf numbers
 
--- an entry is free, else 31: of 256, where a page is kept with an index; a page without one needs none
+-- an entry is free, else 31: with an index under 256 are used; without one none is needed
 abbrev pub isFree : Bool → ℕ → Bool
 isFree true n = ltb n indexMost
 isFree false n = true

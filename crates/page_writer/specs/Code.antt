@@ -4,23 +4,28 @@ use mathlib.Core.Path.{_≡_}
 use mathlib.Core.Bool.{Bool, not, _&&_}
 use mathlib.Core.List.{List}
 use lib.ListN.{length, take, drop}
-use Rattle.errors.specs.Refusals.{must, _then_, refusalOf}
+use Rattle.errors.specs.Refusals.{Reply, must, _then_, refusalOf}
 use Rattle.party.specs.Party.{Said}
-use Rattle.writer.specs.Writing.{writtenField, pieces, fieldMost}
+use Rattle.writer.specs.Writing.{pieces, fieldMost}
 use Rattle.page_reader.specs.Pages.{pageMost}
 use Rattle.page_reader.specs.Index.{indexMost, indexSize, entriesOf}
 use Rattle.page_writer.specs.declared.Held.{Held}
 use Rattle.page_writer.specs.declared.Held.the-variants.{Field, Refused}
-use Rattle.page_writer.specs.Adding.{linesCarried, hasSpace, withLf, refusal, Call, putting, addReply}
+use Rattle.page_writer.specs.Beside.{Beside}
+use Rattle.page_writer.specs.Adding.{linesCarried, hasSpace, withLf, refusal, Call, putting, freeBeside, add}
 
--- a text and its LF put at a position, where they and so many spare bytes have space, else 24, and where an entry is free, else 31
+-- a text and its LF, and so many spare bytes, have space at a position, else 24, and an entry is free, else 31
+abbrev pub lineReply : ℕ → ℕ → List ℕ → ℕ → Bool → Reply
+lineReply len at text spare free = must (hasSpace len (at + length (withLf text) + spare)) 24 0 then must free 31 0
+
+-- they are put there
 abbrev pub lineCall : List ℕ → ℕ → List ℕ → ℕ → Bool → Call
-lineCall buffer at text spare free = putting (must (hasSpace (length buffer) (at + length (withLf text) + spare)) 24 0 then must free 31 0) buffer at (withLf text)
+lineCall buffer at text spare free = putting (lineReply (length buffer) at text spare free) buffer at (withLf text)
 
 -- a field put at a position, by where its body starts and whether it is a 59F with an identifier: 23, 24, 31
 abbrev pub fieldCall : List ℕ → ℕ → List ℕ → ℕ → Bool → Bool → Call
 fieldCall buffer at field start identified free =
-    putting (must (linesCarried (pieces (drop start field)) && not identified) 23 0 then must (hasSpace (length buffer) (at + length (withLf field) + 2)) 24 0 then must free 31 0) buffer at (withLf field)
+    putting (must (linesCarried (pieces (drop start field)) && not identified) 23 0 then lineReply (length buffer) at field 2 free) buffer at (withLf field)
 
 -- what is held of a record, put at a position, or its refusal
 abbrev pub heldCall : List ℕ → ℕ → Held → List ℕ → Bool → Call
@@ -32,14 +37,10 @@ abbrev pub Fits : Held → List ℕ → Type 0
 Fits (Field n start identified) room = (start ≤ n) × (n ≤ length room) × (n ≤ fieldMost)
 Fits (Refused e) room = Unit {0}
 
--- an add where an entry is free or not
-abbrev pub addWhere : List ℕ → ℕ → Bool → Said → Call
-addWhere buffer at free s = putting (addReply buffer at free s) buffer at (withLf (writtenField s))
-
--- what is held of a record is what adding it asks for
+-- filing what is held gives what adding the record gives
 pub record Holds (buffer : List ℕ) (at : ℕ) (s : Said) (held : Held) (room : List ℕ) : Type 0 where
   pub fits : Fits held room
-  pub adds : (free : Bool) → heldCall buffer at held room free ≡ addWhere buffer at free s
+  pub adds : (b : Beside) → heldCall buffer at held room (freeBeside b) ≡ add buffer at b s
 
 -- an entry can be noted: the index has so many, of which one is free, and a field stands from a position to another of a page
 pub record Notes (numbers : List ℕ) (count at next : ℕ) : Type 0 where

@@ -41,7 +41,7 @@ abbrev pub page : Beside → List Party → List ℕ → ℕ → List ℕ
 page b ps buffer to = take to (closing b ps buffer .buffer)
 
 -- an open page, the bytes before its position, is the fields of a list; reading it gives the list's records and then 17, at its length; and
--- so its index, if one is kept
+-- its index, if one is kept, is that of these fields
 pub record OpenReads (s : OpenPage) (list : List Party) : Type 0 where
   pub bytes : take (s .position) (s .buffer) ≡ pageOf (map kept list) []
   pub reads : ReadsAs (take (s .position) (s .buffer)) 0 (map kept list) (aRefusal 17 0)
@@ -61,7 +61,8 @@ pub record ClosedPage (b : Beside) (ps : List Party) (buffer : List ℕ) (to : �
   pub bound : length (page b ps buffer to) ≤ 185 * length (acceptedAdds b ps buffer) + 2
 
 pub record WholePage (b : Beside) (ps : List Party) (buffer : List ℕ) : Type 0 where
-  -- what holds of the closed page
+  -- what holds of the open page, and of the closed one
+  pub opened : OpenReads (adds b ps buffer .state) (acceptedAdds b ps buffer)
   pub closed : {to : ℕ} → closing b ps buffer .answer ≡ positionAfter to → ClosedPage b ps buffer to
   -- each add answers in the run what it answers in its turn
   pub in-turn : (before : List Party) (p : Party) (later : List Party) → ps ≡ before ++ p ∷ later → let c = addStep (adds b before buffer .state) p in

@@ -5,7 +5,7 @@ use mathlib.Core.List.{List, [], _∷_, _++_}
 use lib.ListN.{length}
 use Rattle.party.specs.declared.Party.{Party}
 use Rattle.page_reader.specs.Reads.{Read, reads}
-use Rattle.page_reader.specs.Index.{indexMost, indexSize, entriesOf, fieldsMet, found, lookUp}
+use Rattle.page_reader.specs.Index.{indexMost, indexSize, entriesOf, fieldsMet, found, notFound, lookUp}
 use Rattle.page_writer.specs.Beside.{Beside, noIndex, anIndex}
 use Rattle.page_writer.specs.WholePage.{kept, Gives}
 
@@ -24,7 +24,10 @@ pub record Indexed (numbers page : List ℕ) (list : List Party) : Type 0 where
   -- looking up field k is the reader's k-th step
   pub step : (before : List Read) (r : Read) (later : List Read) → reads page ≡ before ++ r ∷ later → length before < length list
       → lookUp page numbers (suc (length before)) ≡ found r
-  -- and gives the k-th record
+  -- where there is no field k, it is 31
+  pub past : (k : ℕ) → length list < k → lookUp page numbers k ≡ notFound 31 0
+  pub zeroth : lookUp page numbers 0 ≡ notFound 31 0
+  -- it gives the k-th record
   pub gives : (before : List Party) (p : Party) (later : List Party) → list ≡ before ++ p ∷ later
       → (r : Read) × (lookUp page numbers (suc (length before)) ≡ found r) × Gives (r .gave) (kept p)
 

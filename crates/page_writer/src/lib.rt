@@ -151,8 +151,8 @@ enum Held {
     Refused(ParseError),
 }
 
-// Places the field of a record that is to be added at a position in a room, to see the lines as they would stand. The record, which goes
-// by value, is asked before it is handed on.
+// Places in a room the field of a record that is to be added at a position, to see the lines as they would stand. What else is asked of
+// the record is taken first, since placing takes it by value.
 fn hold(p: Party, buf: &[u8], at: usize, room: &mut [u8]) -> Held
     requires { ⌜ length (now room) ≡ fieldMost ⌝ }
     ensures { λ r. ⌜ Holds (now (buf .entry)) at (said p) r (now (room .exit)) ⌝ }

@@ -24,10 +24,11 @@ use Rattle.page_writer.specs.Fold.{run}
 use Rattle.page_writer.specs.Demand3.{adds}
 use Rattle.promises.specs.Filing.{of}
 
--- an empty index, whose other numbers are any; and one of entries, three numbers each
+-- an empty index, whose other numbers are any
 abbrev empty : Beside
 empty = anIndex (0 ∷ replicate 768 7)
 
+-- one of a count and the numbers of its first entry
 abbrev index : ℕ → List ℕ → List ℕ
 index count numbers = count ∷ numbers ++ replicate 765 0
 
@@ -35,10 +36,11 @@ index count numbers = count ∷ numbers ++ replicate 765 0
 abbrev full : Beside
 full = anIndex (256 ∷ replicate 768 0)
 
--- a page of two fields, and its index
+-- a page of two fields
 abbrev page : List ℕ
 page = bytes ":50K:A\n:50:BC\n-\n"
 
+-- its index
 abbrev made : List ℕ
 made = 2 ∷ 3 ∷ 0 ∷ 6 ∷ 0 ∷ 7 ∷ 6 ∷ replicate 762 0
 
@@ -67,6 +69,7 @@ pub record IndexRuledOut : Type 0 where
   pub none-first : lookUp page (index 0 (9 ∷ 9 ∷ 9 ∷ [])) 1 ≡ notFound 31 0
   -- either before 18
   pub too-long-first : lookUp (replicate 32769 0) made 0 ≡ notFound 18 0
+  pub too-long-at-an-entry : lookUp (replicate 32769 0) made 1 ≡ notFound 18 0
   -- a lookup that trusts an entry: another tag, position or length; the end line, a line that is stray, the page's length, past it
   pub other-tag : lookUp page (index 1 (0 ∷ 0 ∷ 6 ∷ [])) 1 ≡ notFound 21 0
   pub other-position : lookUp page (index 1 (3 ∷ 1 ∷ 6 ∷ [])) 1 ≡ notFound 21 0
@@ -101,6 +104,7 @@ index-ruled-out = record {
   third = refl;
   none-first = refl;
   too-long-first = refl;
+  too-long-at-an-entry = refl;
   other-tag = refl;
   other-position = refl;
   other-field = refl;

@@ -15,6 +15,7 @@ use Rattle.field_utils.specs.Names.{parseLines, parseNameAndAddress}
 use Rattle.writer.specs.Writing.{writtenField, nameLines}
 use Rattle.writer.specs.Given.{areNames, isGiven}
 use Rattle.page_reader.specs.Pages.{ReadOutcome, aRecord, theEnd, PageRead, readAt}
+use Rattle.page_reader.proofs.Entries.{found-here}
 use Rattle.page_reader.proofs.Moves.{next-most}
 use Rattle.page_writer.specs.Beside.{Beside, noIndex, anIndex, noting}
 use Rattle.page_writer.specs.Adding.{writable, endLine, Filed, positionAfter, refusal, Call, putting, withLf, asked, recordReply, addReply, add, entryFor, addIndex}
@@ -23,12 +24,12 @@ use Rattle.page_writer.specs.WholePage.{OpenPage, lastGiven as lastOf, addStep 
 use Rattle.page_writer.specs.Indexed.{IsEmpty, IndexedBeside}
 use Rattle.page_writer.specs.Demand3.{adds as partyAdds, acceptedAdds, closing as closingOf}
 use Rattle.page_writer.proofs.Fold.{run-map, alike, accepted-map}
-use Rattle.page_writer.proofs.Theorems.{open-page, whole-page}
+use Rattle.page_writer.proofs.Theorems.{whole-page}
 use Rattle.flat.specs.Flat.{recordSize, isFlat, unflatten}
 use Rattle.flat.proofs.Laws.{loaded-not}
 use Rattle.yewdome.specs.Interface.{Called, codeOf, recordReply as lentRecord, readCode, readInto, pageRead, filedCode, filed, pageAdd, pageAddIndex, pageClose}
 use Rattle.yewdome.specs.Code.{Named, Within}
-use Rattle.yewdome.specs.Demand3.{isPosition, lastGiven, addStep, adds, records, closing, page, movedBy, Gives, Reads, LooksAs, ExportedPage}
+use Rattle.yewdome.specs.Demand3.{isPosition, lastGiven, addStep, adds, records, closing, page, movedBy, Gives, Reads, ExportedBeside, ExportedPage}
 use Rattle.yewdome.proofs.Pages.{add-within, close-within, onward-from}
 use Rattle.yewdome.proofs.Looks.{look-read}
 use Rattle.yewdome.proofs.Theorems.{lent-named, page-loads, read-moved}
@@ -135,9 +136,19 @@ reads page at (f ∷ fs) h = λ into i.
     (field-given page at into i f (h .0), subst (λ (k : ℕ). Reads page k fs) (sym (next-is page at into i)) (reads page (readAt page at .next) fs (h .1)))
 
 -- ---- looking up
-looks-as : (b : Beside) (page : List ℕ) (list : List Party) → IndexedBeside b page list → LooksAs b page (length list)
+looks-as : (b : Beside) (page : List ℕ) (list : List Party) → IndexedBeside b page list → ExportedBeside b page list
 looks-as noIndex page list h = tt
-looks-as (anIndex d) page list h = λ before r later e l into. look-read page d (suc (length before)) into r (h .step before r later e l)
+looks-as (anIndex d) page list h = record {
+  indexed = h;
+  step = λ before r later e l into. look-read page d (suc (length before)) into r (h .step before r later e l);
+  gives = λ before p later e into i.
+      let g = h .gives before p later e in
+      let r = g .0 in
+      let k = suc (length before) in
+      let f = found-here page d k (g .1) in
+      subst (λ (c : Called). (isPosition (c .code) ≡ true) × Same (unflatten (c .bytes)) p) (sym (look-read page d k into r (g .1)))
+      (record-given page (r .at) into i (g .2 .0) p (ap (λ (x : PageRead). x .outcome) (sym f) ∙ g .2 .1) (g .2 .2));
+}
 
 -- ---- demand 3
 module _ (b : Beside) (empty : IsEmpty b) (lents : List (List ℕ)) (buffer : List ℕ) where
@@ -179,14 +190,14 @@ module _ (b : Beside) (empty : IsEmpty b) (lents : List (List ℕ)) (buffer : Li
         let c = closed h in
         subst (λ (x : List ℕ). Reads x 0 (map kept (records b lents buffer))) (sym (c .2))
         (reads _ 0 (map kept (records b lents buffer)) (subst (λ (x : List Party). ReadsAs (take (c .0) (closingOf b ps buffer .buffer)) 0 (map kept x) theEnd) (sym list) (whole-page b empty ps buffer .closed (c .1) .reads)));
-    open-looks = subst (λ (s : OpenPage). LooksAs (s .index) (take (s .position) (s .buffer)) (length (records b lents buffer))) (sym (alike-run .0))
-        (subst (λ (x : List Party). LooksAs (left .index) (take (left .position) (left .buffer)) (length x)) (sym list)
-        (looks-as (left .index) _ (acceptedAdds b ps buffer) (open-page b empty ps buffer .indexed)));
+    open-looks = subst (λ (s : OpenPage). ExportedBeside (s .index) (take (s .position) (s .buffer)) (records b lents buffer)) (sym (alike-run .0))
+        (subst (λ (x : List Party). ExportedBeside (left .index) (take (left .position) (left .buffer)) x) (sym list)
+        (looks-as (left .index) _ (acceptedAdds b ps buffer) (whole-page b empty ps buffer .opened .indexed)));
     looks = λ h.
         let c = closed h in
-        subst (λ (s : OpenPage). LooksAs (s .index) (page b lents buffer) (length (records b lents buffer))) (sym (alike-run .0))
-        (subst (λ (x : List ℕ). LooksAs (left .index) x (length (records b lents buffer))) (sym (c .2))
-        (subst (λ (x : List Party). LooksAs (left .index) (take (c .0) (closingOf b ps buffer .buffer)) (length x)) (sym list)
+        subst (λ (s : OpenPage). ExportedBeside (s .index) (page b lents buffer) (records b lents buffer)) (sym (alike-run .0))
+        (subst (λ (x : List ℕ). ExportedBeside (left .index) x (records b lents buffer)) (sym (c .2))
+        (subst (λ (x : List Party). ExportedBeside (left .index) (take (c .0) (closingOf b ps buffer .buffer)) x) (sym list)
         (looks-as (left .index) _ (acceptedAdds b ps buffer) (whole-page b empty ps buffer .closed (c .1) .indexed))));
     closes = λ n.
         let e = whole-page b empty ps buffer .closes n in

@@ -18,6 +18,7 @@ use Rattle.page_writer.specs.Beside.{Beside, noIndex, anIndex}
 use Rattle.page_writer.specs.Adding.{endLine}
 use Rattle.page_writer.specs.Fold.{Step, Run, run, acceptedOf}
 use Rattle.page_writer.specs.WholePage.{OpenPage, Field, kept, new, pageOf, readNew, Overwrites}
+use Rattle.page_writer.specs.Indexed.{Indexed}
 use Rattle.flat.specs.Flat.{recordSize, unflatten}
 use Rattle.yewdome.specs.Interface.{Called, readInto, pageLookUp, pageRead, pageAdd, pageAddIndex, pageClose}
 
@@ -73,21 +74,29 @@ Reads page at (f ∷ fs) =
     (into : List ℕ) → recordSize ≤ length into → let c = pageRead page at into in Gives c at into f × Reads page (at + movedBy c) fs
 
 -- ---- looking up
--- looking up field k in an index beside a page of n fields gives what the reader's k-th step gives, in number and bytes
-abbrev pub LooksAs : Beside → List ℕ → ℕ → Type 0
-LooksAs noIndex page n = Unit {0}
-LooksAs (anIndex numbers) page n =
-    (before : List Read) (r : Read) (later : List Read) → reads page ≡ before ++ r ∷ later → length before < n → (into : List ℕ)
-    → pageLookUp page numbers (suc (length before)) into ≡ pageRead page (r .at) into
+-- an index beside a page of the fields of a list: it is the page's (page_writer/specs/Indexed.antt), and looking up field k gives
+pub record ExportedIndex (numbers page : List ℕ) (list : List Party) : Type 0 where
+  pub indexed : Indexed numbers page list
+  -- what reading gives at the reader's k-th step, in number and bytes
+  pub step : (before : List Read) (r : Read) (later : List Read) → reads page ≡ before ++ r ∷ later → length before < length list → (into : List ℕ)
+      → pageLookUp page numbers (suc (length before)) into ≡ pageRead page (r .at) into
+  -- and so the k-th record, in any lent record of at least 237 bytes
+  pub gives : (before : List Party) (p : Party) (later : List Party) → list ≡ before ++ p ∷ later → (into : List ℕ) → recordSize ≤ length into
+      → let c = pageLookUp page numbers (suc (length before)) into in (isPosition (c .code) ≡ true) × Same (unflatten (c .bytes)) p
+
+-- of what stands beside the page
+abbrev pub ExportedBeside : Beside → List ℕ → List Party → Type 0
+ExportedBeside noIndex page list = Unit {0}
+ExportedBeside (anIndex numbers) page list = ExportedIndex numbers page list
 
 -- ---- demand 3
 pub record ExportedPage (b : Beside) (lents : List (List ℕ)) (buffer : List ℕ) : Type 0 where
   -- reading the closed page from the start gives the records of the accepted adds and no others, in number and order, each the same record,
   -- and then the end
   pub reads : isPosition (closing b lents buffer .code) ≡ true → Reads (page b lents buffer) 0 (map kept (records b lents buffer))
-  -- and looking up field k, where an index is kept, is the reader's k-th step, before the page is closed and after
-  pub open-looks : let s = adds b lents buffer .state in LooksAs (s .index) (take (s .position) (s .buffer)) (length (records b lents buffer))
-  pub looks : isPosition (closing b lents buffer .code) ≡ true → LooksAs (adds b lents buffer .state .index) (page b lents buffer) (length (records b lents buffer))
+  -- and so does looking up field by field, where an index is kept, before the page is closed and after
+  pub open-looks : let s = adds b lents buffer .state in ExportedBeside (s .index) (take (s .position) (s .buffer)) (records b lents buffer)
+  pub looks : isPosition (closing b lents buffer .code) ≡ true → ExportedBeside (adds b lents buffer .state .index) (page b lents buffer) (records b lents buffer)
   -- closing gives a position in every buffer of at least 2 bytes
   pub closes : 2 ≤ length buffer → isPosition (closing b lents buffer .code) ≡ true
   -- whichever fields are then overwritten: every other still gives its record in its turn, and each overwritten one what document 01 says

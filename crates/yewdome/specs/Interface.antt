@@ -165,7 +165,7 @@ abbrev pub askedBeside : Reply → Beside → Beside → Beside
 askedBeside accepted after b = after
 askedBeside (refused k n) after b = b
 
--- the index after the latter
+-- what stands beside the page after `yewdome_page_add_indexed`
 abbrev pub pageAddIndex : List ℕ → List ℕ → ℕ → Beside → Beside
 pageAddIndex bytes buffer at b = askedBeside (recordReply bytes) (addIndex buffer at b (said (unflatten bytes))) b
 

@@ -14,9 +14,9 @@ use Rattle.writer.specs.Writing.{writtenField}
 use Rattle.page_reader.specs.Index.{Entry, indexMost, entriesOf}
 use Rattle.page_writer.specs.declared.Filed.{Filed}
 use Rattle.page_writer.specs.Beside.{anIndex, noted}
-use Rattle.page_writer.specs.Adding.{withLf, addReply, freeBeside, toldCall}
-use Rattle.page_writer.specs.Code.{addWhere, Notes}
-use Rattle.page_writer.proofs.Addings.{add-where, reply-space, reply-free, add-record, put-accepted, put-refused, index-by, entry-is}
+use Rattle.page_writer.specs.Adding.{withLf, addReply, freeBeside, add, toldCall}
+use Rattle.page_writer.specs.Code.{heldCall, Notes}
+use Rattle.page_writer.proofs.Addings.{add-by, reply-space, reply-free, add-record, put-accepted, put-refused, index-by, entry-is}
 use Rattle.page_writer.proofs.add_indexed.Statement.{statement}
 use Rattle.page_writer.proofs.add_indexed.Tie as tie
 
@@ -49,8 +49,10 @@ module _ (k : tie.After-file-held) where
   counted = e .entry-count .ensures .0
 
   -- what the add is
-  called : {r : Filed} → k .file-held .result ≡ r → toldCall r (k .file-held .last .0) ≡ addWhere buffer at (freeBeside (anIndex d)) s
-  called q = sym (ap (λ (x : Filed). toldCall x (k .file-held .last .0)) q) ∙ k .file-held .ensures ∙ h .hold .ensures .adds _ ∙ ap (λ (n : ℕ). addWhere buffer at (ltb n indexMost) s) counted
+  called : {r : Filed} → k .file-held .result ≡ r → toldCall r (k .file-held .last .0) ≡ add buffer at (anIndex d) s
+  called q =
+      sym (ap (λ (x : Filed). toldCall x (k .file-held .last .0)) q) ∙ k .file-held .ensures
+      ∙ ap (λ (n : ℕ). heldCall buffer at (h .hold .result) (h .hold .last .1 .1 .1 .0) (ltb n indexMost)) counted ∙ h .hold .ensures .adds (anIndex d)
 
 -- an accepted one
 module _ (t : tie.After-next) where
@@ -61,7 +63,7 @@ module _ (t : tie.After-next) where
   next = t .next .given .0 .0
 
   passed : (reply f ≡ accepted) × (next ≡ at f + length (withLf (writtenField (s f))))
-  passed = put-accepted (reply f) (buffer f) (at f) (withLf (writtenField (s f))) (called f (t .next .given .1))
+  passed = put-accepted (reply f) (buffer f) (at f) (withLf (writtenField (s f))) (called f (t .next .given .1) ∙ add-by (buffer f) (at f) (anIndex (d f)) (s f))
 
   notes : Notes (d f) (e f .entry-count .result) (at f) next
   notes =
@@ -93,7 +95,7 @@ add-indexed-spec =
     (λ c.
     let t = c .before .before .before in
     let k = f t in (
-      called k (t .next .given .1) ∙ sym (add-where (buffer k) (at k) (anIndex (d k)) (s k)),
+      called k (t .next .given .1),
       ap anIndex (c .note .ensures ∙ ap (λ (e : Entry). noted e (d k)) (entry-is (start k .args .p) (at k) (passed t .1))) ∙ sym (index-by (buffer k) (at k) (anIndex (d k)) (s k) (passed t .0)),
     ))
     (λ c. search needs)
@@ -101,4 +103,4 @@ add-indexed-spec =
     let t = c .before in
     let k = t .before .before .before .before in
     let q = called k (t .e .given .1) in
-    (q ∙ sym (add-where (buffer k) (at k) (anIndex (d k)) (s k)), sym (index-by (buffer k) (at k) (anIndex (d k)) (s k) (put-refused (reply k) (buffer k) (at k) (withLf (writtenField (s k))) q)))))
+    (q, sym (index-by (buffer k) (at k) (anIndex (d k)) (s k) (put-refused (reply k) (buffer k) (at k) (withLf (writtenField (s k))) (q ∙ add-by (buffer k) (at k) (anIndex (d k)) (s k)))))))

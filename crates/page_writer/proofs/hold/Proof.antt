@@ -1,5 +1,5 @@
 -- `page_writer::hold` meets its contract, by what is placed in the room. Assumes nothing.
-use mathlib.Core.Path.{_≡_, sym, _∙_, ap, subst}
+use mathlib.Core.Path.{_≡_, sym, _∙_, ap}
 use mathlib.Core.Bool.{true}
 use mathlib.Core.List.{List}
 use Prim.Native.Nat.{ℕ}
@@ -13,7 +13,7 @@ use Rattle.party.specs.Party.{said}
 use Rattle.writer.specs.declared.Measured.{Measured}
 use Rattle.writer.specs.Placing.{place, toldPlacing}
 use Rattle.page_writer.specs.Adding.{writable}
-use Rattle.page_writer.proofs.Addings.{add-21, add-asked, asked-unmeasured, tag-within, field-is, Held, room-measured, room-held}
+use Rattle.page_writer.proofs.Addings.{add-21, add-asked, asked-unmeasured, tag-within, field-is, room-measured, room-held}
 use Rattle.page_writer.proofs.hold.Statement.{statement}
 use Rattle.page_writer.proofs.hold.Tie as tie
 
@@ -47,7 +47,7 @@ returns-2 c =
     let n = t .len .given .0 .0 in
     record {
       fits = (omega (arith, g, tag-within (a .p), h .len), omega (arith, ap length (h .text), h .len, length-take n (room k)), omega (arith, ap length (h .text), h .len, length-take n (room k), h .size));
-      adds = λ free. field-is (a .p) (now (a .buf)) (a .at) free (h .given) (writable-here k) (h .text) g (asked-it k .is-identified-59f .ensures);
+      adds = λ b. field-is (a .p) (now (a .buf)) (a .at) b (h .given) (writable-here k) (h .text) g (asked-it k .is-identified-59f .ensures);
     }
 
 returns-3 : tie.Need-returns-3
@@ -56,7 +56,7 @@ returns-3 c =
     let k = t .before .before .before .before in
     let a = start k .args in
     let m = room-measured (a .p) (now (a .room)) (start k .pre) (placed-here k (t .e .given .1)) in
-    record { fits = tt; adds = λ free. sym (add-asked (now (a .buf)) (a .at) free (said (a .p)) (writable-here k) (asked-unmeasured (said (a .p)) m)) }
+    record { fits = tt; adds = λ b. sym (add-asked (now (a .buf)) (a .at) b (said (a .p)) (writable-here k) (asked-unmeasured (said (a .p)) m)) }
 
 pub hold-spec : {M : Type 1} → statement M
 hold-spec =
@@ -68,7 +68,7 @@ hold-spec =
     (λ c.
     let i = c .before in
     let a = i .before .before .before .before .before .args in
-    record { fits = tt; adds = λ free. sym (add-21 (now (a .buf)) (a .at) free (said (a .p)) (sym (i .is-writable .ensures) ∙ not-true _ (c .if1 .taken))) })
+    record { fits = tt; adds = λ b. sym (add-21 (now (a .buf)) (a .at) b (said (a .p)) (sym (i .is-writable .ensures) ∙ not-true _ (c .if1 .taken))) })
     (λ c κs. search needs)
     (λ c. search needs)
     (λ c. search needs)
