@@ -1,8 +1,11 @@
 //! The index beside a page: adds that fill it, lookups by it, and indexes of any numbers.
 
+mod parties;
+
+use parties::{one_of_each, parsed, refused};
 use yewdome::fields::*;
 use yewdome::pages::*;
-use yewdome::{Result, SwiftField};
+use yewdome::Result;
 
 const STALE: u8 = 0xa5;
 const TAGS: [&str; 11] =
@@ -26,33 +29,8 @@ fn index_of(entries: &[Entry]) -> Index {
     index
 }
 
-fn refused<T: std::fmt::Debug>(answer: Result<T>) -> u8 {
-    answer.expect_err("this is refused").number()
-}
-
-fn parsed<T: SwiftField>(body: &str) -> T {
-    T::parse(body).expect("the body is good")
-}
-
 fn of_50k(name: &str) -> Field50K {
     Field50K { account: None, name_and_address: vec![name.to_string()] }
-}
-
-/// A value of each option, which a page carries.
-fn good() -> [Party; 11] {
-    [
-        parsed::<Field50NoOption>("PLAIN\nSTREET").into(),
-        parsed::<Field50A>("/C/123\nDEUTDEFF").into(),
-        parsed::<Field50F>("/12\n1/JANE ROE\n2/LOW ROAD").into(),
-        parsed::<Field50K>("/DE89\nMUELLER GMBH").into(),
-        parsed::<Field50C>("BNPAFRPPXXX").into(),
-        parsed::<Field50L>("TREASURY 7").into(),
-        parsed::<Field50G>("/99\nCHASUS33").into(),
-        parsed::<Field50H>("/ACC~1\nHOLDER LTD").into(),
-        parsed::<Field59NoOption>("/12\nBENEFICIARY SA").into(),
-        parsed::<Field59A>("BNPAFRPP").into(),
-        parsed::<Field59F>("1/CARLA BIANCHI\n2/VIA ROMA 3").into(),
-    ]
 }
 
 /// A value that no reader gives, 22, and one that a page cannot carry, 23.
@@ -127,7 +105,9 @@ fn an_index_has_the_fields_of_its_page() {
     for start in [Index::new(), stale()] {
         let (mut buffer, mut index, mut position) = ([STALE; 500], start, 0);
         let mut refusals = [0; 25];
-        for party in good().iter().flat_map(|it| bad().into_iter().chain([it.clone()])).cycle() {
+        for party in
+            one_of_each().iter().flat_map(|it| bad().into_iter().chain([it.clone()])).cycle()
+        {
             match added(&party, &mut buffer, position, &mut index) {
                 Ok(next) => position = next,
                 Err(refusal) => refusals[usize::from(refusal.number())] += 1,
@@ -261,13 +241,13 @@ fn an_entry_that_the_page_has_not_is_21() {
 #[test]
 fn an_entry_that_is_off_by_one_is_21() {
     let (mut buffer, mut index, mut position) = ([STALE; LONGEST_PAGE], Index::new(), 0);
-    for party in good() {
+    for party in one_of_each() {
         let next = add_indexed(&party, &mut buffer, position, &mut index);
         position = next.expect("a page carries it");
     }
     let length = close(&mut buffer, position).expect("there is space");
     for page in [&buffer[..position], &buffer[..length]] {
-        for k in 1..=good().len() {
+        for k in 1..=one_of_each().len() {
             for off in [1, u32::MAX] {
                 let numbers: [fn(&mut Entry) -> &mut u32; 3] =
                     [|it| &mut it.option, |it| &mut it.position, |it| &mut it.length];
@@ -284,7 +264,7 @@ fn an_entry_that_is_off_by_one_is_21() {
 
 /// A body that is refused is no refusal of the lookup.
 #[test]
-fn a_damaged_field_is_found_and_its_neighbours_are_good() {
+fn a_damaged_field_is_found_and_its_neighbours_are_one_of_each() {
     let (mut buffer, mut index, mut position) = ([STALE; 64], Index::new(), 0);
     for name in ["A", "B", "C"] {
         let next = add_indexed(&of_50k(name), &mut buffer, position, &mut index);

@@ -1,8 +1,10 @@
 //! Pages filed from typed values and read back, every refusal of a page, and whole pages.
 
+mod parties;
+
+use parties::{one_of_each, parsed, refused};
 use yewdome::fields::*;
 use yewdome::pages::*;
-use yewdome::{Result, SwiftField};
 
 const STALE: u8 = 0xa5;
 
@@ -11,14 +13,6 @@ fn of_50k(account: &str, names: &[&str]) -> Field50K {
         account: Some(account.to_string()),
         name_and_address: names.iter().map(|name| name.to_string()).collect(),
     }
-}
-
-fn refused<T: std::fmt::Debug>(answer: Result<T>) -> u8 {
-    answer.expect_err("this is refused").number()
-}
-
-fn parsed<T: SwiftField>(body: &str) -> T {
-    T::parse(body).expect("the body is good")
 }
 
 /// Number, line, and the bytes moved past, of the first read.
@@ -31,18 +25,8 @@ fn first(page: &[u8]) -> (u8, u16, usize) {
 
 /// A value for each of the structs and the enums, which all can be filed.
 fn all() -> Vec<Party> {
-    vec![
-        parsed::<Field50NoOption>("PLAIN\nSTREET").into(),
-        parsed::<Field50A>("/C/123\nDEUTDEFF").into(),
-        parsed::<Field50F>("/12\n1/JANE ROE\n2/LOW ROAD").into(),
-        parsed::<Field50K>("/DE89\nMUELLER GMBH").into(),
-        parsed::<Field50C>("BNPAFRPPXXX").into(),
-        parsed::<Field50L>("TREASURY 7").into(),
-        parsed::<Field50G>("/99\nCHASUS33").into(),
-        parsed::<Field50H>("/ACC~1\nHOLDER LTD").into(),
-        parsed::<Field59NoOption>("/12\nBENEFICIARY SA").into(),
-        parsed::<Field59A>("BNPAFRPP").into(),
-        parsed::<Field59F>("1/CARLA BIANCHI\n2/VIA ROMA 3").into(),
+    let mut all = one_of_each().to_vec();
+    all.extend([
         parsed::<Field50InstructingParty>("BNPAFRPP").into(),
         parsed::<Field50OrderingCustomerFGH>("/99\nCHASUS33").into(),
         parsed::<Field50OrderingCustomerAFK>("/12\nA").into(),
@@ -50,7 +34,8 @@ fn all() -> Vec<Party> {
         parsed::<Field50Creditor>("DEUTDEFF").into(),
         parsed::<Field59>("1/A").into(),
         parsed::<Field59Debtor>("A").into(),
-    ]
+    ]);
+    all
 }
 
 #[test]
