@@ -35,7 +35,7 @@ in-length (suc n) (a ∷ b ∷ c ∷ l) h = ap suc (in-length n l (omega arith))
 pub entries-length : (l : List ℕ) → length l ≡ indexSize → length (entriesOf l) ≡ min (getD l 0 0) indexMost
 unfolding entriesOf
 entries-length [] h = absurd (omega arith)
-entries-length (count ∷ l) h = length-take count (entriesIn l) ∙ ap (min count) (in-length 256 l (omega arith))
+entries-length (count ∷ l) h = length-take count (entriesIn l) ∙ ap (min count) (in-length indexMost l (omega arith))
 
 -- an entry by its three numbers
 abbrev numbersAt : List ℕ → ℕ → Entry
@@ -124,7 +124,7 @@ found-here page index k {r} e = go (lookReply page index k) e
     go accepted q = let z : readHere page (entryOf index k .position) ≡ r = cc in subst (λ (x : Read). x .gave ≡ readAt page (x .at)) z refl
     go (refused i n) q = absurd (let z : _≡_ {A = ℕ} 0 1 = cc in omega arith)
 
--- every refusal is one of three
+-- its refusal is the one that applies, and what holds of that holds of it
 pub refusal-of : (P : Reply → Type 0) (page index : List ℕ) (k : ℕ) {i n : ℕ} → lookUp page index k ≡ notFound i n → P (lookReply page index k) → P (refused i n)
 unfolding lookUp
 refusal-of P page index k {i} {n} e h = go (lookReply page index k) e h

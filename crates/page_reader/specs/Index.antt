@@ -1,5 +1,5 @@
 -- The index beside a page, and looking a field up in it (document 02, Three).
-use Prim.Native.Nat.{ℕ, _-_}
+use Prim.Native.Nat.{ℕ, _+_, _*_, _-_}
 use mathlib.Core.Bool.{Bool, false, _&&_}
 use mathlib.Core.List.{List, [], _∷_}
 use lib.Dec.{leb, eqb}
@@ -29,7 +29,7 @@ indexMost = 256
 
 -- an index is 769 numbers: how many entries it has, and three numbers for each of 256
 abbrev pub indexSize : ℕ
-indexSize = 769
+indexSize = 3 * indexMost + 1
 
 -- numbers as entries, each three: tag, position, length
 unfoldable pub entriesIn : List ℕ → List Entry

@@ -27,7 +27,7 @@ ghost use Rattle.page_reader.specs.Code.{HoldsBy, Finds};
 pub const INDEX_MOST: usize = 256;
 
 // How many numbers an index is: a count, then tag, position and length of each entry, the tag as the option's place in the table.
-pub const INDEX_SIZE: usize = 769;
+pub const INDEX_SIZE: usize = 3 * INDEX_MOST + 1;
 
 // What a lookup gives: the field's record or its body's refusal, each with the field's position and the next, or 18, 31 or 21, which carry
 // none.
@@ -68,7 +68,7 @@ pub fn entry_count(index: &[u32; INDEX_SIZE]) -> usize
 {
     let numbers = &index[..];
     let count = numbers[0];
-    if count < 256 {
+    if count < INDEX_MOST as u32 {
         count as usize
     } else {
         INDEX_MOST

@@ -161,7 +161,7 @@ pub field-read : (p : Party) (body : List ℕ) (next : ℕ) → readField (tagOf
 unfolding readField
 field-read p body next = ap (λ (t : Tagged). readTagged t next) (tag-back (p .option) body)
 
--- its text keeps every byte, and has its record's tag
+-- no CR is dropped of its text, which so keeps every byte
 pub kept-whole : (p : Party) → isCarried (said p) ≡ true → withoutCr (writtenField (said p)) ≡ writtenField (said p)
 unfolding writtenField said
 kept-whole p e = tag-less (p .option) (writtenBody (said p)) ∙ ap (_++_ (tagOf (p .option))) (cr-kept (writtenBody (said p)) (carried-end (said p) e))

@@ -18,5 +18,6 @@ entry-count-spec =
     (tie.spec
     (λ c. search needs)
     (λ c. search needs)
+    (λ c. search needs)
     (λ c. (omega (arith, c .if1 .taken, entries-length (now (c .before .before .before .args .index)) (sized (c .before))), sized (c .before)))
     (λ c. (omega (arith, c .if1 .left, entries-length (now (c .before .before .before .args .index)) (sized (c .before))), sized (c .before))))
