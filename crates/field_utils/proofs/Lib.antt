@@ -1,3 +1,5 @@
+pub mod FirstLf
+pub mod Passing
 pub mod Places
 pub mod Trims
 pub mod Identifiers

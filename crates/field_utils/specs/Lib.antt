@@ -1,4 +1,6 @@
 pub mod Lines
+pub mod Words
+pub mod WordExamples
 pub mod Cursor
 pub mod Trim
 pub mod Identifier

@@ -16,6 +16,7 @@ use swift_utils::is_digit;
 use swift_utils::parse_account;
 
 pub mod lines;
+mod words;
 
 ghost use mathlib.Core.Path.{_≡_};
 ghost use mathlib.Core.List.{[]};

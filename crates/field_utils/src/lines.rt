@@ -1,10 +1,18 @@
 // What the Rust has of std: the lines of a text by a cursor, and a text trimmed.
+use crate::words::BLOCK;
+use crate::words::is_clear;
+use crate::words::lf_mask;
+use crate::words::word_at;
 ghost use mathlib.Core.Path.{_≡_};
 ghost use Prim.Native.Nat.{_+_, _-_, _≤_};
 ghost use lib.ListN.{length, take, drop};
 ghost use Rattle.field_utils.specs.Lines.{upto, lines, withoutCr};
 ghost use Rattle.field_utils.specs.Cursor.{nextLine};
+ghost use Rattle.field_utils.specs.Words.{Passed};
 ghost use Rattle.field_utils.specs.Trim.{white, trimmed, trimmedEnd};
+
+// Up to so many bytes are searched by single words, before blocks of them are passed.
+const NEAR: usize = 128;
 
 // Where a byte first stands from a place on, or the length where it does not; a place past the length is given back.
 pub fn find(s: &[u8], from: usize, b: u8) -> usize
@@ -20,11 +28,61 @@ pub fn find(s: &[u8], from: usize, b: u8) -> usize
     i
 }
 
+// How many bytes stand before the first LF, or how many there are, by words of eight bytes; up to seven at the end go singly.
+fn find_by_word(s: &[u8]) -> usize
+    ensures { λ r. ⌜ r ≡ upto 10 (now (s .entry)) ⌝ }
+{
+    let words = s.len() - s.len() % 8;
+    let mut i = 0;
+    while i < words {
+        let mask = lf_mask(word_at(s, i));
+        if mask != 0 {
+            return i + u64::trailing_zeros(mask) as usize / 8;
+        }
+        i += 8;
+    }
+    find(s, i, b'\n')
+}
+
+// The same as a place, from another on.
+fn find_from(s: &[u8], from: usize) -> usize
+    requires { ⌜ from ≤ length (now s) ⌝ }
+    ensures { λ r. ⌜ r ≡ from + upto 10 (drop from (now (s .entry))) ⌝ }
+{
+    from + find_by_word(&s[from..])
+}
+
+// The place after the blocks from a place on that are seen to have no LF.
+fn pass_blocks(s: &[u8], from: usize) -> usize
+    requires { ⌜ from ≤ length (now s) ⌝ }
+    ensures { λ r. ⌜ Passed (now (s .entry)) from r ⌝ }
+{
+    let mut i = from;
+    while BLOCK <= s.len() - i {
+        if !is_clear(s, i) {
+            return i;
+        }
+        i += BLOCK;
+    }
+    i
+}
+
 // Where the next LF stands from a place on, or the length where there is none; a place past the length is given back.
 pub fn find_lf(s: &[u8], from: usize) -> usize
     ensures { λ r. ⌜ r ≡ from + upto 10 (drop from (now (s .entry))) ⌝ }
 {
-    find(s, from, b'\n')
+    if s.len() <= from {
+        return from;
+    }
+    if s.len() - from < NEAR {
+        return find_from(s, from);
+    }
+    let end = from + NEAR;
+    let found = find_by_word(&s[from..end]);
+    if found < NEAR {
+        return from + found;
+    }
+    find_from(s, pass_blocks(s, end))
 }
 
 // A cursor over the lines of a text: the place where the next one starts.

@@ -1,13 +1,14 @@
 // The list of the Rust's answers: its lines, their fields, and the bytes that a field stands for. tests/README.md has the format.
+use field_utils::lines::find_lf;
 use party::TEXT_MOST;
 use party::Text;
-ghost use Prim.Native.Nat.{_+_, _≤_, _<_};
+ghost use Prim.Native.Nat.{_+_, _≤_, _<_, min};
 ghost use mathlib.Core.Path.{_≡_};
 ghost use lib.ListN.{length};
 ghost use Rattle.io.specs.Counts.{Counts};
 
 // The place of the first byte b from a place on, or the length.
-pub(crate) fn find(s: &[u8], from: usize, b: u8) -> usize
+fn find(s: &[u8], from: usize, b: u8) -> usize
     requires { ⌜ from ≤ length (now s) ⌝ }
     ensures { λ r. ⌜ (from ≤ r) × (r ≤ length (now (s .entry))) ⌝ }
 {
@@ -21,13 +22,27 @@ pub(crate) fn find(s: &[u8], from: usize, b: u8) -> usize
     i
 }
 
-// The place after that byte, or the length.
-pub(crate) fn past(s: &[u8], from: usize, b: u8) -> usize
+// The same of LF: where a line ends that starts at a place.
+pub(crate) fn line_end(s: &[u8], from: usize) -> usize
+    requires { ⌜ from ≤ length (now s) ⌝ }
+    ensures { λ r. ⌜ (from ≤ r) × (r ≤ length (now (s .entry))) ⌝ }
+{
+    find_lf(s, from)
+}
+
+// The place after another, or the length.
+fn past(s: &[u8], at: usize) -> usize
+    ensures { λ r. ⌜ r ≡ min (at + 1) (length (now (s .entry))) ⌝ }
+{
+    if at < s.len() { at + 1 } else { s.len() }
+}
+
+// The place after the line that starts at a place, or the length.
+pub(crate) fn past_line(s: &[u8], from: usize) -> usize
     requires { ⌜ from ≤ length (now s) ⌝ }
     ensures { λ r. ⌜ (r ≤ length (now (s .entry))) × (from < length (now (s .entry)) → from < r) ⌝ }
 {
-    let end = find(s, from, b);
-    if end < s.len() { end + 1 } else { end }
+    past(s, line_end(s, from))
 }
 
 pub(crate) fn same(s: &[u8], t: &[u8]) -> bool {
@@ -75,7 +90,7 @@ pub(crate) fn field(line: &[u8], k: usize) -> &[u8] {
     let mut from = 0;
     let mut left = k;
     while 0 < left {
-        from = past(line, from, b'\t');
+        from = past(line, find(line, from, b'\t'));
         left -= 1;
     }
     let end = find(line, from, b'\t');

@@ -21,9 +21,9 @@ use compare::compare;
 use libc::STDIN_FILENO;
 use libc::STDOUT_FILENO;
 use list::field;
-use list::find;
 use list::is_plain;
-use list::past;
+use list::line_end;
+use list::past_line;
 use list::unescape;
 use rules::Rule;
 use rules::expect;
@@ -77,13 +77,13 @@ fn replay(list: &[u8]) -> Tally {
     let mut tally = Tally::new();
     let mut at = 0;
     while at < list.len() {
-        let end = find(list, at, b'\n');
+        let end = line_end(list, at);
         let line = &list[at..end];
         tally = tally.next_line();
         if !is_comment(line) {
             tally = tally.note(judge(line));
         }
-        at = past(list, at, b'\n');
+        at = past_line(list, at);
     }
     tally
 }

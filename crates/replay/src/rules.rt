@@ -4,8 +4,8 @@ use crate::answer::Reply;
 use crate::answer::Said;
 use crate::answer::refused;
 use crate::asked::Question;
-use crate::list::find;
-use crate::list::past;
+use crate::list::line_end;
+use crate::list::past_line;
 use choices::Choice;
 use party::Party;
 use party::PartyOption;
@@ -139,7 +139,7 @@ pub(crate) fn is_accepted(said: Said) -> bool {
 fn line_at(body: &[u8], from: usize) -> &[u8]
     requires { ⌜ from ≤ length (now body) ⌝ }
 {
-    let end = find(body, from, b'\n');
+    let end = line_end(body, from);
     if from < end && end < body.len() && body[end - 1] == b'\r' {
         return &body[from..end - 1];
     }
@@ -149,7 +149,7 @@ fn line_at(body: &[u8], from: usize) -> &[u8]
 // Whether there are two lines or more, and the first is `/` and 1 to 34 bytes of which one is not legal.
 fn has_illegal_account(body: &[u8]) -> bool {
     let first = line_at(body, 0);
-    if first.len() < 2 || past(body, 0, b'\n') == body.len() {
+    if first.len() < 2 || past_line(body, 0) == body.len() {
         return false;
     }
     first.len() <= 35 && starts_with_slash(first) && !all_legal(first)
@@ -174,7 +174,7 @@ fn all_legal(s: &[u8]) -> bool {
 fn reply_50h(body: &[u8]) -> Reply
     requires { ⌜ length (now body) ≤ bodyMost ⌝ }
 {
-    let mut at = past(body, 0, b'\n');
+    let mut at = past_line(body, 0);
     let mut number = 2;
     while at < body.len() {
         let name = line_at(body, at);
@@ -184,7 +184,7 @@ fn reply_50h(body: &[u8]) -> Reply
         if !all_legal(name) {
             return refused(3, number);
         }
-        at = past(body, at, b'\n');
+        at = past_line(body, at);
         number += 1;
     }
     if 6 < number {
@@ -199,11 +199,11 @@ fn reply_50h(body: &[u8]) -> Reply
 // Its record: the first line without `/`, and up to four lines after it.
 fn party_50h(body: &[u8]) -> Party {
     let mut names = EMPTY;
-    let mut at = past(body, 0, b'\n');
+    let mut at = past_line(body, 0);
     let mut count = 0;
     while count < 4 && at < body.len() {
         names[count] = text_of(line_at(body, at));
-        at = past(body, at, b'\n');
+        at = past_line(body, at);
         count += 1;
     }
     let bic = blank().bic;

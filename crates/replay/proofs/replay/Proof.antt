@@ -29,6 +29,6 @@ replay-spec =
     (λ c κs. search needs)
     (λ c κs. search needs)
     (λ c κs. search needs)
-    (λ c. omega (arith, c .past .ensures .1 (omega arith)))
+    (λ c. omega (arith, c .past-line .ensures .1 (omega arith)))
     (λ c. search needs)
     (λ c. search needs))
