@@ -1,10 +1,10 @@
 -- `lines::find_lf` meets its contract: an LF that is near is the first; where there is none, what is near is passed, and then the blocks. Assumes nothing.
 use mathlib.Core.Path.{_≡_, refl, sym, _∙_, ap}
 use mathlib.Core.List.{List}
-use Prim.Native.Nat.{ℕ, _+_, _-_, _≤_}
+use Prim.Native.Nat.{ℕ, _+_, _-_}
 use native.Mathlib.Omega.{arith}
 use denote.Ref.{now}
-use lib.ListN.{length, take, drop, length-take}
+use lib.ListN.{take, drop, length-take}
 use borrow.Author.Needs.{needs}
 use Rattle.field_utils.specs.Lines.{upto}
 use Rattle.field_utils.proofs.Places.{upto-length, upto-done}

@@ -1,5 +1,5 @@
 -- `lines::pass_blocks` meets its contract: a block that is seen to be clear is passed. Assumes nothing.
-use mathlib.Core.Path.{_≡_, refl}
+use mathlib.Core.Path.{refl}
 use Prim.Native.Nat.{_-_}
 use native.Mathlib.Omega.{arith}
 use lib.ListN.{length}
