@@ -15,6 +15,7 @@ const HIGHS: u64 = 0x8080808080808080;
 // How many bytes are passed at a time where no LF is near.
 pub(crate) const BLOCK: usize = 256;
 
+// A byte as a number of 64 bits.
 fn wide(b: u8) -> u64
     ensures same { λ r. ⌜ r ≡ b ⌝ }
     ensures small { λ r. ⌜ r < 256 ⌝ }
