@@ -86,6 +86,7 @@ static const char *name(unsigned number)
         CASE(NOT_CARRIED);
         CASE(NO_SPACE);
         CASE(NO_ENTRY);
+        CASE(OUTSIDE_PROFILE);
         CASE(NO_SUCH_OPTION);
         CASE(SHORT_RECORD);
         CASE(SHORT_ANSWERS);

@@ -100,6 +100,8 @@ enum yewdome_refusal {
     YEWDOME_NO_SPACE = 24,        /* too little space */
     /* of an index */
     YEWDOME_NO_ENTRY = 31,        /* no free entry in the index, or no such entry */
+    /* of a body that is read under the network profile; it names a line */
+    YEWDOME_OUTSIDE_PROFILE = 32, /* a line that breaks a rule of the profile */
     /* of a call */
     YEWDOME_NO_SUCH_OPTION = 41,  /* no option, or no choice, has the place */
     YEWDOME_SHORT_RECORD = 42,    /* a lent record of under YEWDOME_RECORD_LENGTH bytes */
@@ -131,6 +133,34 @@ uint32_t yewdome_party_parse(uint8_t choice, const uint8_t *body, size_t body_le
 /* The same by a choice and a letter, 0 for none; 14 comes after 41. */
 uint32_t yewdome_party_parse_with_variant(uint8_t choice, const uint8_t *body, size_t body_length,
                                           uint8_t letter, uint8_t *record, size_t record_length);
+
+/*
+ * The same three under the network profile. A refusal of the function above stands. What it accepts
+ * is then tested line by line, as the body came, with nothing trimmed: 32 names the first line at
+ * which one of these rules is broken.
+ *
+ * - a line has only letters, digits, space and / - ? : ( ) . , ' +
+ * - the BIC has no small letter; anywhere else small letters are good
+ * - no line comes after the BIC's: YEWDOME_FIELD50_INSTRUCTING_PARTY, which trims a body that it
+ *   detects, may have lines of spaces before it, but none after it
+ * - no line is empty
+ * - no line after the first starts with : or -
+ *
+ * Lines are counted from 1. LF ends one, and one CR directly before it is no part of it; any other
+ * CR is a byte outside the set. What follows the last LF is a line where it is not empty.
+ *
+ * The record stored is the one that the function above stores. `yewdome_page_add` accepts it, space
+ * allowing, but for 59F with an identifier, which is 23.
+ */
+uint32_t yewdome_profile_read(uint8_t option, const uint8_t *body, size_t body_length,
+                              uint8_t *record, size_t record_length);
+
+uint32_t yewdome_profile_parse(uint8_t choice, const uint8_t *body, size_t body_length,
+                               uint8_t *record, size_t record_length);
+
+uint32_t yewdome_profile_parse_with_variant(uint8_t choice, const uint8_t *body,
+                                            size_t body_length, uint8_t letter,
+                                            uint8_t *record, size_t record_length);
 
 /*
  * Measures a record: gives the length of its field, tag and body, or the refusal: 42, 41, 22. To be

@@ -11,8 +11,8 @@ macro_rules! kinds {
         /// What is refused, by the names and numbers of `bindings/c/yewdome.h`.
         ///
         /// 1 to 14 are of a body and its variant, 15 to 18 of a page that is read, 21 to 24 of a
-        /// position, a value or a buffer, 31 of an index. 41 to 43 are of a call that this crate
-        /// does not make.
+        /// position, a value or a buffer, 31 of an index, 32 of a body under the network profile.
+        /// 41 to 43 are of a call that this crate does not make.
         #[derive(Debug, Clone, Copy, PartialEq, Eq, Hash)]
         #[repr(u8)]
         pub enum ErrorKind {
@@ -61,6 +61,7 @@ kinds! {
     NotCarried = 23: "record that a page cannot carry",
     NoSpace = 24: "too little space",
     NoEntry = 31: "no free entry in the index, or no such entry",
+    OutsideProfile = 32: "line that breaks a rule of the network profile",
     NoSuchOption = 41: "no such option or choice",
     ShortRecord = 42: "lent record too short",
     ShortAnswers = 43: "too few numbers lent for the answers",

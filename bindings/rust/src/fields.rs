@@ -31,6 +31,12 @@ macro_rules! option {
             }
         }
 
+        impl $crate::profile::Profiled for $name {
+            fn profiled(body: &str) -> $crate::Result<$crate::record::Record> {
+                $crate::library::read_profiled($place, body.as_bytes())
+            }
+        }
+
         impl From<$name> for $crate::pages::Party {
             fn from(field: $name) -> Self {
                 Self::$name(field)
@@ -105,6 +111,20 @@ macro_rules! choice {
                 match self {
                     $(Self::$variant(_) => None$(.or(Some($tag)))?,)+
                 }
+            }
+        }
+
+        impl $crate::profile::Profiled for $name {
+            fn profiled(body: &str) -> $crate::Result<$crate::record::Record> {
+                $crate::library::parse_profiled($place, body.as_bytes())
+            }
+
+            fn profiled_with_variant(
+                body: &str,
+                variant: Option<&str>,
+            ) -> $crate::Result<$crate::record::Record> {
+                let letter = $crate::fields::letter(variant)?;
+                $crate::library::parse_profiled_with_variant($place, body.as_bytes(), letter)
             }
         }
 

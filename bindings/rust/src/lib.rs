@@ -33,6 +33,24 @@
 //! # Ok::<(), yewdome::ParseError>(())
 //! ```
 //!
+//! # The network profile
+//!
+//! ```
+//! use yewdome::fields::{Field50A, Field50OrderingCustomerAFK};
+//! use yewdome::{profile, ErrorKind, SwiftField};
+//!
+//! let customer: Field50OrderingCustomerAFK = profile::parse("/12\nJohn Doe (1)")?;
+//! assert_eq!(customer, Field50OrderingCustomerAFK::parse("/12\nJohn Doe (1)")?);
+//! assert_eq!(customer, profile::parse_with_variant("/12\nJohn Doe (1)", Some("K"))?);
+//!
+//! // a small letter in the BIC is good without the profile
+//! assert!(Field50A::parse("/12\nBNPAFRPp").is_ok());
+//! let refusal = profile::parse::<Field50A>("/12\nBNPAFRPp").unwrap_err();
+//! assert_eq!((refusal.kind(), refusal.line()), (ErrorKind::OutsideProfile, 2));
+//! assert_eq!(refusal.number(), 32);
+//! # Ok::<(), yewdome::ParseError>(())
+//! ```
+//!
 //! # A page
 //!
 //! ```
@@ -123,6 +141,7 @@ pub mod fields;
 #[allow(unsafe_code)]
 mod library;
 pub mod pages;
+pub mod profile;
 mod record;
 pub mod traits;
 

@@ -33,6 +33,28 @@ extern "C" {
         record: *mut u8,
         record_length: usize,
     ) -> u32;
+    fn yewdome_profile_read(
+        option: u8,
+        body: *const u8,
+        body_length: usize,
+        record: *mut u8,
+        record_length: usize,
+    ) -> u32;
+    fn yewdome_profile_parse(
+        choice: u8,
+        body: *const u8,
+        body_length: usize,
+        record: *mut u8,
+        record_length: usize,
+    ) -> u32;
+    fn yewdome_profile_parse_with_variant(
+        choice: u8,
+        body: *const u8,
+        body_length: usize,
+        letter: u8,
+        record: *mut u8,
+        record_length: usize,
+    ) -> u32;
     fn yewdome_party_measure(record: *const u8, record_length: usize) -> u32;
     fn yewdome_party_place(
         record: *const u8,
@@ -111,6 +133,22 @@ fn party_parse_with_variant(choice: u8, body: &[u8], letter: u8, record: &mut [u
     unsafe { yewdome_party_parse_with_variant(choice, text, length, letter, out, room) }
 }
 
+fn profile_read(option: u8, body: &[u8], record: &mut [u8]) -> u32 {
+    let (text, length) = (body.as_ptr(), body.len());
+    unsafe { yewdome_profile_read(option, text, length, record.as_mut_ptr(), record.len()) }
+}
+
+fn profile_parse(choice: u8, body: &[u8], record: &mut [u8]) -> u32 {
+    let (text, length) = (body.as_ptr(), body.len());
+    unsafe { yewdome_profile_parse(choice, text, length, record.as_mut_ptr(), record.len()) }
+}
+
+fn profile_parse_with_variant(choice: u8, body: &[u8], letter: u8, record: &mut [u8]) -> u32 {
+    let (text, length) = (body.as_ptr(), body.len());
+    let (out, room) = (record.as_mut_ptr(), record.len());
+    unsafe { yewdome_profile_parse_with_variant(choice, text, length, letter, out, room) }
+}
+
 fn party_measure(record: &[u8]) -> u32 {
     unsafe { yewdome_party_measure(record.as_ptr(), record.len()) }
 }
@@ -175,6 +213,21 @@ pub(crate) fn parse(choice: u8, body: &[u8]) -> Result<Record> {
 /// The same by a letter; 0 is none.
 pub(crate) fn parse_with_variant(choice: u8, body: &[u8], letter: u8) -> Result<Record> {
     record_of(|out| party_parse_with_variant(choice, body, letter, out))
+}
+
+/// Reads a body by an option as [`read`] does, under the network profile.
+pub(crate) fn read_profiled(option: u8, body: &[u8]) -> Result<Record> {
+    record_of(|out| profile_read(option, body, out))
+}
+
+/// The same by a choice as [`parse`] does.
+pub(crate) fn parse_profiled(choice: u8, body: &[u8]) -> Result<Record> {
+    record_of(|out| profile_parse(choice, body, out))
+}
+
+/// The same by a letter; 0 is none.
+pub(crate) fn parse_profiled_with_variant(choice: u8, body: &[u8], letter: u8) -> Result<Record> {
+    record_of(|out| profile_parse_with_variant(choice, body, letter, out))
 }
 
 /// The length of the field of a record, tag and body.

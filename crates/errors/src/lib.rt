@@ -50,6 +50,8 @@ pub enum ParseError {
     NoSpace,
     // 31: no free entry in an index, or no such entry
     NoEntry,
+    // 32: a line that breaks a rule of the network profile
+    OutsideProfile(usize),
 }
 
 // An answer with nothing beside it: accepted, or the refusal.
@@ -93,6 +95,7 @@ impl ParseError {
             ParseError::NotCarried => at(23, 0),
             ParseError::NoSpace => at(24, 0),
             ParseError::NoEntry => at(31, 0),
+            ParseError::OutsideProfile(n) => at(32, n),
         }
     }
 }

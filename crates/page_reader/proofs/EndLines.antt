@@ -64,6 +64,12 @@ begins-not : (b : ℕ) (l : List ℕ) → Begins b l → eqb b 45 ≡ false → 
 unfolding isEnd
 begins-not b l f e = ⊎-elim (λ q. ap isEnd q) (λ q. ap isEnd (q .1) ∙ is-first b (q .0) e) f
 
+-- a line that starts with no hyphen is none
+pub ends-not : (t : Bool) (l : List ℕ) → starts 45 l ≡ false → endsPage t l ≡ false
+unfolding endsPage starts isEnd
+ends-not t [] e = ap isEnd (less-none t)
+ends-not t (b ∷ l) e = begins-not b (lessCr t (b ∷ l)) (less-first t b l) e
+
 -- an end line opens no field
 pub not-both : (t : Bool) (l : List ℕ) → endsPage t l ≡ true → opens l ≡ false
 unfolding endsPage starts

@@ -129,7 +129,7 @@ asked-unmeasured s {k} {l} m =
     let same : refusedWith 22 0 ≡ refusedWith k l = measure-22 s e ∙ m in
     rw e cc
 
-asked-by : (s : Said) {t : Bool} → isGiven s ≡ true → isCarried s ≡ t → asked s ≡ must t 23 0
+pub asked-by : (s : Said) {t : Bool} → isGiven s ≡ true → isCarried s ≡ t → asked s ≡ must t 23 0
 unfolding asked
 asked-by s g c = rw (g, c)
 

@@ -35,7 +35,7 @@ use Rattle.writer.proofs.NamePasses.{AllPass}
 use Rattle.writer.proofs.Facts.{Facts, names-are}
 use Rattle.writer.proofs.Bare.{bare}
 use Rattle.writer.proofs.Sufficient.{lines-of, parts, given-facts}
-use Rattle.writer.proofs.Necessary.{readLines}
+use Rattle.writer.proofs.Necessary.{light, readLines}
 use Rattle.writer.proofs.Back.{accepted-is, body-bare, plain, identified-body, identified-no}
 use Rattle.writer.proofs.Theorems.{necessary, reading-back, written-most}
 use Rattle.page_reader.specs.Pages.{pageMost, isEnd, endsPage, isBoundary, tagged, PageRead, readTagged, readField, readAt}
@@ -94,7 +94,7 @@ module _ (body : List ℕ) where
       omega (arith, withoutCr-short cut, cut-weight (p .later) k, weight-joined (p .first) (upToBoundary (p .later)), weight-joined (p .first) (p .later), ap length (p .joins))
 
 -- ---- numbered lines are neither
-numbered-not : (l : List ℕ) → isNumbered l ≡ true → isBoundary true l ≡ false
+pub numbered-not : (l : List ℕ) → isNumbered l ≡ true → isBoundary true l ≡ false
 unfolding isNumbered starts withoutCr endsPage digit
 numbered-not [] e = absurd (false≢true e)
 numbered-not (d ∷ []) e = absurd (false≢true e)
@@ -205,7 +205,7 @@ module _ (p : Party) (g : Given p) where
       (record {
         reply = subst (λ (x : List ℕ). foundBy (limitsOf o .layout) o (cutBody x) .reply ≡ accepted) q (b .good .reply);
         heavy = subst (λ (x : List ℕ). weight (bare (parts p)) ≤ weight (readLines (limitsOf o .layout) (cutBody x))) q
-            (subst (λ (s : Said). weight (bare s) ≤ weight (readLines (limitsOf o .layout) (cutBody body))) same (b .good .light));
+            (subst (λ (s : Said). weight (bare s) ≤ weight (readLines (limitsOf o .layout) (cutBody body))) same (light (b .good)));
       })
 
   alone-not : isCarried (said p) ≡ false → Alone p → ⊥

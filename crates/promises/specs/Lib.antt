@@ -5,6 +5,7 @@ pub mod Pages
 pub mod Delivered
 pub mod Filing
 pub mod Index
+pub mod Profile
 pub mod OperationsLeaves
 pub mod OperationsReaders
 pub mod OperationsBuffers

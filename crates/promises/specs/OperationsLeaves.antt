@@ -14,7 +14,7 @@ use Rattle.party.specs.Limits.{limitsOf, placeOf, optionAt}
 use Rattle.party.specs.Text.{padded, textOf}
 use Rattle.party.specs.Party.{IsParty, blank, said, Same}
 use Rattle.party.specs.declared.Numbering.the-variants.{Unnumbered, Numbered, InTurn}
-use Rattle.swift_utils.specs.Bytes.{bytes, all, letter, digit, alphanumeric, signs, legal}
+use Rattle.swift_utils.specs.Bytes.{bytes, all, letter, small, digit, alphanumeric, signs, legal, narrowSigns, narrow}
 use Rattle.swift_utils.specs.Classes.{classOf, classTable, entryAtLeast}
 use Rattle.swift_utils.specs.Checks.{parseSwiftChars, parseLength, parseAccount, bicLength}
 use Rattle.field_utils.specs.declared.lines.Line.the-variants.{Next, Done}
@@ -92,7 +92,7 @@ party-operations = record {
 
 pub record SwiftUtilsOperations : Type 0 where
   -- puts each class one entry late: A has that of `@`
-  pub class-table-is-late : getD classTable 65 0 ≡ 4
+  pub class-table-is-late : getD classTable 65 0 ≡ 6
   -- takes every printable byte
   pub is-legal-takes-tilde : legal 126 ≡ false
   -- goes one past 9
@@ -100,7 +100,7 @@ pub record SwiftUtilsOperations : Type 0 where
   -- begins at 1
   pub is-digit-refuses-0 : digit 48 ≡ true
   -- asks for an entry above k
-  pub all-at-least-asks-for-more : all (entryAtLeast classTable 3) (bytes "1") ≡ true
+  pub all-at-least-asks-for-more : all (entryAtLeast classTable 4) (bytes "1") ≡ true
   -- tests the first byte alone
   pub all-at-least-tests-one : all (entryAtLeast classTable 2) (bytes "A\n") ≡ false
   -- takes letters alone
@@ -123,7 +123,7 @@ pub record SwiftUtilsOperations : Type 0 where
   pub is-bic-length-refuses-11 : bicLength 11 ≡ true
 
 pub swift-utils-operations : SwiftUtilsOperations
-unfolding letter digit alphanumeric signs legal classOf classTable parseSwiftChars parseAccount bicLength
+unfolding letter small digit alphanumeric signs legal narrowSigns narrow classOf classTable parseSwiftChars parseAccount bicLength
 swift-utils-operations = record {
   class-table-is-late = refl;
   is-legal-takes-tilde = refl;

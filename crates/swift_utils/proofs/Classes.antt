@@ -1,13 +1,13 @@
 -- What the class of a byte says: whether it is legal, a letter, a digit. Assumes nothing.
 use mathlib.Core.Path.{_≡_, refl, sym, _∙_, ap}
-use mathlib.Core.Bool.{Bool, true, false, not, _&&_, _||_, and-false, false≢true}
+use mathlib.Core.Bool.{Bool, true, false, not, _&&_, _||_, and-false, or-true, false≢true}
 use mathlib.Core.List.{List, [], _∷_}
 use Prim.Native.Nat.{ℕ, _+_, _≤_, _<_}
 use native.Mathlib.Omega.{arith}
 use lib.Dec.{leb, eqb}
 use lib.ListN.{length, getD}
-use borrow.Author.Tests.{leb-true, lt-leb, ne-eqb}
-use Rattle.swift_utils.specs.Bytes.{all, letter, digit, legal, alphanumeric, among, signs}
+use borrow.Author.Tests.{leb-true, eqb-true, lt-leb, ne-eqb, not-true}
+use Rattle.swift_utils.specs.Bytes.{all, between, letter, small, digit, legal, alphanumeric, among, signs, narrowSigns, narrow}
 use Rattle.swift_utils.specs.Classes.{classOf, atLeast, plain}
 use Rattle.swift_utils.proofs.Parts.{part, part-cons, part-none}
 
@@ -31,28 +31,81 @@ alphanumeric-not-lf : (b : ℕ) → (letter b || digit b) ≡ true → eqb 10 b 
 unfolding letter digit
 alphanumeric-not-lf b e = ne-eqb 10 b (λ g. false≢true (ap (λ (c : ℕ). letter c || digit c) g ∙ e))
 
--- what a class says of the tests that make it: letter, digit, any other legal byte, LF
-record Says (l d o n : Bool) (class : ℕ) : Type 0 where
+small-letter : (b : ℕ) → small b ≡ true → letter b ≡ true
+unfolding letter small
+small-letter b e = rw (e, or-true (between 65 90 b))
+
+-- the network profile's signs are among the others, and LF is none of them
+among-all : (f : ℕ → Bool) (l : List ℕ) (b : ℕ) → all f l ≡ true → among l b ≡ true → f b ≡ true
+among-all f [] b e h = absurd (false≢true h)
+among-all f (a ∷ l) b e h = go (f a) (eqb b a) refl refl e (among-all f l b)
+  where
+    go : (u t : Bool) → f a ≡ u → eqb b a ≡ t → (u && all f l) ≡ true → (all f l ≡ true → among l b ≡ true → f b ≡ true) → f b ≡ true
+    go true true p q k ih = ap f (eqb-true b a q) ∙ p
+    go true false p q k ih = ih k (rw q at h)
+    go false t p q k ih = absurd (false≢true k)
+
+narrow-sign : (b : ℕ) → among narrowSigns b ≡ true → among signs b ≡ true
+unfolding narrowSigns signs
+narrow-sign b = among-all (among signs) narrowSigns b refl
+
+narrow-not-lf : (b : ℕ) → among narrowSigns b ≡ true → eqb 10 b ≡ false
+unfolding narrowSigns
+narrow-not-lf b h = not-true (eqb 10 b) (among-all (λ (a : ℕ). not (eqb 10 a)) narrowSigns b refl h)
+
+-- the tests that make a class, and what they have to do with one another: letter, small letter, digit, a sign of the network profile, any
+-- sign, LF
+record Tests (l s d w o n : Bool) : Type 0 where
+  other : l ≡ true → d ≡ false
+  one : s ≡ true → l ≡ true
+  sign : w ≡ true → o ≡ true
+  lf : ((l || d) || w) ≡ true → n ≡ false
+
+-- what a class says of them
+record Says (l s d w o n : Bool) (class : ℕ) : Type 0 where
   legal : leb 1 class ≡ ((l || d) || o)
   plain : leb 2 class ≡ (((l || d) || o) && not n)
-  alphanumeric : leb 3 class ≡ (l || d)
-  letter : leb 4 class ≡ l
-  digit : eqb class 3 ≡ d
+  narrow : leb 3 class ≡ ((l || d) || w)
+  alphanumeric : leb 4 class ≡ (l || d)
+  letter : leb 5 class ≡ l
+  digit : eqb class 4 ≡ d
+  small : eqb class 5 ≡ s
 
-byTests : Bool → Bool → Bool → Bool → ℕ
-byTests l d g n = elim l [ true ↦ 4 | false ↦ elim d [ true ↦ 3 | false ↦ elim g [ true ↦ elim n [ true ↦ 1 | false ↦ 2 ] | false ↦ 0 ] ] ]
+byTests : Bool → Bool → Bool → Bool → Bool → Bool → ℕ
+byTests l s d w g n =
+    elim l [
+      | true ↦ elim s [ true ↦ 5 | false ↦ 6 ]
+      | false ↦ elim d [ true ↦ 4 | false ↦ elim g [ true ↦ elim w [ true ↦ 3 | false ↦ elim n [ true ↦ 1 | false ↦ 2 ] ] | false ↦ 0 ] ]
+    ]
 
-tests-say : (l d o n : Bool) → (l ≡ true → d ≡ false) → ((l || d) ≡ true → n ≡ false) → Says l d o n (byTests l d ((l || d) || o) n)
+not-small : (s : Bool) → (s ≡ true → false ≡ true) → false ≡ s
+not-small true h = absurd (false≢true (h refl))
+not-small false h = refl
+
+tests-say : (l s d w o n : Bool) → Tests l s d w o n → Says l s d w o n (byTests l s d ((l || d) || w) ((l || d) || o) n)
 unfolding byTests
-tests-say true d o n h k = record { legal = refl; plain = rw (k refl); alphanumeric = refl; letter = refl; digit = sym (h refl) }
-tests-say false true o n h k = record { legal = refl; plain = rw (k refl); alphanumeric = refl; letter = refl; digit = refl }
-tests-say false false true true h k = record { legal = refl; plain = refl; alphanumeric = refl; letter = refl; digit = refl }
-tests-say false false true false h k = record { legal = refl; plain = refl; alphanumeric = refl; letter = refl; digit = refl }
-tests-say false false false n h k = record { legal = refl; plain = refl; alphanumeric = refl; letter = refl; digit = refl }
+tests-say true true d w o n h = record { legal = refl; plain = rw (h .lf refl); narrow = refl; alphanumeric = refl; letter = refl; digit = sym (h .other refl); small = refl }
+tests-say true false d w o n h = record { legal = refl; plain = rw (h .lf refl); narrow = refl; alphanumeric = refl; letter = refl; digit = sym (h .other refl); small = refl }
+tests-say false s true w o n h = record { legal = refl; plain = rw (h .lf refl); narrow = refl; alphanumeric = refl; letter = refl; digit = refl; small = not-small s (h .one) }
+tests-say false s false true true n h = record { legal = refl; plain = rw (h .lf refl); narrow = refl; alphanumeric = refl; letter = refl; digit = refl; small = not-small s (h .one) }
+tests-say false s false true false n h = absurd (false≢true (h .sign refl))
+tests-say false s false false true true h = record { legal = refl; plain = refl; narrow = refl; alphanumeric = refl; letter = refl; digit = refl; small = not-small s (h .one) }
+tests-say false s false false true false h = record { legal = refl; plain = refl; narrow = refl; alphanumeric = refl; letter = refl; digit = refl; small = not-small s (h .one) }
+tests-say false s false false false n h = record { legal = refl; plain = refl; narrow = refl; alphanumeric = refl; letter = refl; digit = refl; small = not-small s (h .one) }
 
-says : (b : ℕ) → Says (letter b) (digit b) (among signs b) (eqb 10 b) (classOf b)
-unfolding classOf byTests legal alphanumeric
-says b = tests-say (letter b) (digit b) (among signs b) (eqb 10 b) (letter-not-digit b) (alphanumeric-not-lf b)
+-- LF is neither a letter, a digit nor a sign of the network profile
+byte-not-lf : (b : ℕ) → ((letter b || digit b) || among narrowSigns b) ≡ true → eqb 10 b ≡ false
+byte-not-lf b e = go (letter b || digit b) refl
+  where
+    go : (t : Bool) → (letter b || digit b) ≡ t → eqb 10 b ≡ false
+    go true q = alphanumeric-not-lf b q
+    go false q = narrow-not-lf b (rw q at e)
+
+says : (b : ℕ) → Says (letter b) (small b) (digit b) (among narrowSigns b) (among signs b) (eqb 10 b) (classOf b)
+unfolding classOf byTests legal narrow alphanumeric
+says b =
+    tests-say (letter b) (small b) (digit b) (among narrowSigns b) (among signs b) (eqb 10 b)
+    (record { other = letter-not-digit b; one = small-letter b; sign = narrow-sign b; lf = byte-not-lf b })
 
 pub class-legal : (b : ℕ) → atLeast 1 b ≡ legal b
 unfolding legal alphanumeric
@@ -62,15 +115,22 @@ pub class-plain : (b : ℕ) → atLeast 2 b ≡ plain b
 unfolding legal alphanumeric
 class-plain b = says b .plain
 
-pub class-alphanumeric : (b : ℕ) → atLeast 3 b ≡ alphanumeric b
+pub class-narrow : (b : ℕ) → atLeast 3 b ≡ narrow b
+unfolding narrow alphanumeric
+class-narrow b = says b .narrow
+
+pub class-alphanumeric : (b : ℕ) → atLeast 4 b ≡ alphanumeric b
 unfolding alphanumeric
 class-alphanumeric b = says b .alphanumeric
 
-pub class-letter : (b : ℕ) → atLeast 4 b ≡ letter b
+pub class-letter : (b : ℕ) → atLeast 5 b ≡ letter b
 class-letter b = says b .letter
 
-pub class-digit : (b : ℕ) → eqb (classOf b) 3 ≡ digit b
+pub class-digit : (b : ℕ) → eqb (classOf b) 4 ≡ digit b
 class-digit b = says b .digit
+
+pub class-small : (b : ℕ) → eqb (classOf b) 5 ≡ small b
+class-small b = says b .small
 
 -- two tests that agree at every byte pass at the same lists
 pub all-agree : (f g : ℕ → Bool) → ((b : ℕ) → f b ≡ g b) → (l : List ℕ) → all f l ≡ all g l

@@ -29,6 +29,10 @@ between low high b = leb low b && leb b high
 unfoldable pub letter : ℕ → Bool
 letter b = between 65 90 b || between 97 122 b
 
+-- the small ones of them, which a BIC has not under the network profile (document 02, Five)
+unfoldable pub small : ℕ → Bool
+small b = between 97 122 b
+
 -- ASCII digits, 0 to 9
 unfoldable pub digit : ℕ → Bool
 digit b = between 48 57 b
@@ -44,3 +48,11 @@ signs = bytes " \r\n/-?:().,'+{}%&*;<=>@[]_$!\"#|"
 -- legal bytes, 93 in all
 unfoldable pub legal : ℕ → Bool
 legal b = alphanumeric b || among signs b
+
+-- the network profile's bytes that are neither letters nor digits: space and `/-?:().,'+` (document 02, Five)
+unfoldable pub narrowSigns : List ℕ
+narrowSigns = bytes " /-?:().,'+"
+
+-- the network profile's bytes, 73 in all (document 02, Five)
+unfoldable pub narrow : ℕ → Bool
+narrow b = alphanumeric b || among narrowSigns b

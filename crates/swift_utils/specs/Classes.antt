@@ -4,18 +4,21 @@ use mathlib.Core.Bool.{Bool, true, false, not, _&&_}
 use mathlib.Core.List.{List, [], _∷_}
 use lib.Dec.{leb, eqb}
 use lib.ListN.{getD}
-use Rattle.swift_utils.specs.Bytes.{letter, digit, legal}
+use Rattle.swift_utils.specs.Bytes.{letter, small, digit, legal, narrow}
 
 -- a legal byte that is no LF: what a line can hold
 abbrev pub plain : ℕ → Bool
 plain b = legal b && not (eqb 10 b)
 
--- 4 a letter, 3 a digit, 2 any other legal byte but LF, 1 LF, 0 an illegal one
+-- 6 a capital, 5 a small letter, 4 a digit, 3 any other byte of the network profile, 2 any other legal byte but LF, 1 LF, 0 an illegal one
 unfoldable pub classOf : ℕ → ℕ
 classOf b =
     elim (letter b) [
-      | true ↦ 4
-      | false ↦ elim (digit b) [ true ↦ 3 | false ↦ elim (legal b) [ true ↦ elim (eqb 10 b) [ true ↦ 1 | false ↦ 2 ] | false ↦ 0 ] ]
+      | true ↦ elim (small b) [ true ↦ 5 | false ↦ 6 ]
+      | false ↦ elim (digit b) [
+        | true ↦ 4
+        | false ↦ elim (legal b) [ true ↦ elim (narrow b) [ true ↦ 3 | false ↦ elim (eqb 10 b) [ true ↦ 1 | false ↦ 2 ] ] | false ↦ 0 ]
+      ]
     ]
 
 -- a byte of a class or of a higher one

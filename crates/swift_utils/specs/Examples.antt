@@ -3,7 +3,7 @@ use Prim.Native.Nat.{ℕ, zero, suc, _+_}
 use mathlib.Core.Path.{_≡_, refl}
 use mathlib.Core.Bool.{Bool, true, false}
 use Rattle.errors.specs.Refusals.{accepted, refused}
-use Rattle.swift_utils.specs.Bytes.{bytes, letter, digit, alphanumeric, signs, legal}
+use Rattle.swift_utils.specs.Bytes.{bytes, letter, digit, alphanumeric, signs, legal, narrowSigns, narrow}
 use Rattle.swift_utils.specs.Checks.{bicLength, parseBic}
 
 -- at how many of the numbers below n a test passes
@@ -15,6 +15,11 @@ count f (suc n) = elim (f n) [ true ↦ 1 | false ↦ 0 ] + count f n
 pub legal-93 : count legal 256 ≡ 93
 unfolding letter digit alphanumeric signs legal
 legal-93 = refl
+
+-- 73 bytes are in the network profile's set (document 02, Five)
+pub narrow-73 : count narrow 256 ≡ 73
+unfolding letter digit alphanumeric narrowSigns narrow
+narrow-73 = refl
 
 -- BICs on body line 1
 pub record Bics : Type 0 where

@@ -7,7 +7,13 @@ ghost use Rattle.swift_utils.specs.Bytes.{legal, digit, alphanumeric, al
 ghost use Rattle.swift_utils.specs.Checks.{parseSwiftChars, parseLength, parseAccount, bicLength, parseBic};
 ghost use Rattle.swift_utils.specs.Classes.{classOf, classTable, entryAtLeast};
 
-// The class of each byte: 0 illegal, 1 LF, 2 legal and neither LF, a digit nor a letter, 3 a digit, 4 a letter.
+// The class of the network profile's signs, which digits and letters are above, and that of small letters.
+pub const NARROW: u8 = 3;
+
+pub const SMALL: u8 = 5;
+
+// The class of each byte: 0 illegal, 1 LF, 2 any other legal one outside the network profile, 3 space and the profile's signs, 4 a digit, 5 a
+// small letter, 6 a capital.
 const CLASS: [u8; 256] = [
     0, // 0
     0, // 1
@@ -41,97 +47,97 @@ const CLASS: [u8; 256] = [
     0, // 29
     0, // 30
     0, // 31
-    2, // 32 space
+    3, // 32 space
     2, // 33 !
     2, // 34 "
     2, // 35 #
     2, // 36 $
     2, // 37 %
     2, // 38 &
-    2, // 39 '
-    2, // 40 (
-    2, // 41 )
+    3, // 39 '
+    3, // 40 (
+    3, // 41 )
     2, // 42 *
-    2, // 43 +
-    2, // 44 ,
-    2, // 45 -
-    2, // 46 .
-    2, // 47 /
-    3, // 48 0
-    3, // 49 1
-    3, // 50 2
-    3, // 51 3
-    3, // 52 4
-    3, // 53 5
-    3, // 54 6
-    3, // 55 7
-    3, // 56 8
-    3, // 57 9
-    2, // 58 :
+    3, // 43 +
+    3, // 44 ,
+    3, // 45 -
+    3, // 46 .
+    3, // 47 /
+    4, // 48 0
+    4, // 49 1
+    4, // 50 2
+    4, // 51 3
+    4, // 52 4
+    4, // 53 5
+    4, // 54 6
+    4, // 55 7
+    4, // 56 8
+    4, // 57 9
+    3, // 58 :
     2, // 59 ;
     2, // 60 <
     2, // 61 =
     2, // 62 >
-    2, // 63 ?
+    3, // 63 ?
     2, // 64 @
-    4, // 65 A
-    4, // 66 B
-    4, // 67 C
-    4, // 68 D
-    4, // 69 E
-    4, // 70 F
-    4, // 71 G
-    4, // 72 H
-    4, // 73 I
-    4, // 74 J
-    4, // 75 K
-    4, // 76 L
-    4, // 77 M
-    4, // 78 N
-    4, // 79 O
-    4, // 80 P
-    4, // 81 Q
-    4, // 82 R
-    4, // 83 S
-    4, // 84 T
-    4, // 85 U
-    4, // 86 V
-    4, // 87 W
-    4, // 88 X
-    4, // 89 Y
-    4, // 90 Z
+    6, // 65 A
+    6, // 66 B
+    6, // 67 C
+    6, // 68 D
+    6, // 69 E
+    6, // 70 F
+    6, // 71 G
+    6, // 72 H
+    6, // 73 I
+    6, // 74 J
+    6, // 75 K
+    6, // 76 L
+    6, // 77 M
+    6, // 78 N
+    6, // 79 O
+    6, // 80 P
+    6, // 81 Q
+    6, // 82 R
+    6, // 83 S
+    6, // 84 T
+    6, // 85 U
+    6, // 86 V
+    6, // 87 W
+    6, // 88 X
+    6, // 89 Y
+    6, // 90 Z
     2, // 91 [
     0, // 92 \
     2, // 93 ]
     0, // 94 ^
     2, // 95 _
     0, // 96 `
-    4, // 97 a
-    4, // 98 b
-    4, // 99 c
-    4, // 100 d
-    4, // 101 e
-    4, // 102 f
-    4, // 103 g
-    4, // 104 h
-    4, // 105 i
-    4, // 106 j
-    4, // 107 k
-    4, // 108 l
-    4, // 109 m
-    4, // 110 n
-    4, // 111 o
-    4, // 112 p
-    4, // 113 q
-    4, // 114 r
-    4, // 115 s
-    4, // 116 t
-    4, // 117 u
-    4, // 118 v
-    4, // 119 w
-    4, // 120 x
-    4, // 121 y
-    4, // 122 z
+    5, // 97 a
+    5, // 98 b
+    5, // 99 c
+    5, // 100 d
+    5, // 101 e
+    5, // 102 f
+    5, // 103 g
+    5, // 104 h
+    5, // 105 i
+    5, // 106 j
+    5, // 107 k
+    5, // 108 l
+    5, // 109 m
+    5, // 110 n
+    5, // 111 o
+    5, // 112 p
+    5, // 113 q
+    5, // 114 r
+    5, // 115 s
+    5, // 116 t
+    5, // 117 u
+    5, // 118 v
+    5, // 119 w
+    5, // 120 x
+    5, // 121 y
+    5, // 122 z
     2, // 123 {
     2, // 124 |
     2, // 125 }
@@ -294,7 +300,7 @@ pub fn is_legal(b: u8) -> bool
 pub fn is_digit(b: u8) -> bool
     ensures { λ r. ⌜ r ≡ digit b ⌝ }
 {
-    class(b) == 3
+    class(b) == 4
 }
 
 // Whether the entry of every byte in a table of classes is at least k.
@@ -317,7 +323,7 @@ pub fn all_alphanumeric(s: &[u8]) -> bool
     ensures { λ r. ⌜ r ≡ all alphanumeric (now (s .entry)) ⌝ }
 {
     let classes = class_table();
-    all_at_least(s, &classes, 3)
+    all_at_least(s, &classes, 4)
 }
 
 // Legal bytes throughout, or 3 at the line that is handed in.
@@ -378,11 +384,11 @@ pub fn parse_bic(input: &[u8], line: usize) -> Outcome
     }
     let classes = class_table();
     let bank_and_country = &input[..6];
-    if !all_at_least(bank_and_country, &classes, 4) {
+    if !all_at_least(bank_and_country, &classes, 5) {
         return Outcome::Refused(ParseError::BicByte(line));
     }
     let location_and_branch = &input[6..];
-    if all_at_least(location_and_branch, &classes, 3) {
+    if all_at_least(location_and_branch, &classes, 4) {
         Outcome::Accepted
     } else {
         Outcome::Refused(ParseError::BicByte(line))

@@ -44,7 +44,7 @@ pub record Accepted (o : PartyOption) (body : List ℕ) : Type 0 where
   pub good : GoodIn o (readLines (limitsOf o .layout) body) (foundBy (limitsOf o .layout) o body)
   pub says : said (read o body .party) ≡ saying o (foundBy (limitsOf o .layout) o body)
 
-giving-reply : (r : Reply) (p : Party) → giving r p .reply ≡ r
+pub giving-reply : (r : Reply) (p : Party) → giving r p .reply ≡ r
 giving-reply accepted p = refl
 giving-reply (refused k n) p = refl
 
@@ -206,11 +206,11 @@ module _ (count : ℕ) (u v : Used) (us : List Used) (h : Facts (saidWith Field5
       gap-refused (withoutCr line) (lines rest) (slash-kept (u .bytes)) (cr-all ascii line (p .0 .bytes)) (ap (λ (x : List (List ℕ)). byLines Field59F x .reply) (sym (lines-at line (10 ∷ rest) (ls .0))) ∙ e)
 
 -- a BIC has a byte, and so has a 50L
-bic-least : (n : ℕ) (x : List ℕ) → parseBic n x ≡ accepted → 8 ≤ length x
+pub bic-least : (n : ℕ) (x : List ℕ) → parseBic n x ≡ accepted → 8 ≤ length x
 unfolding parseBic
 bic-least n x e = bicLength-least (length x) (must-held (bicLength (length x)) 9 n (then-first _ _ e))
 
-text-least : (o : PartyOption) (x : List ℕ) → accountReply o x ≡ accepted → limitsOf o .shortest ≤ length x
+pub text-least : (o : PartyOption) (x : List ℕ) → accountReply o x ≡ accepted → limitsOf o .shortest ≤ length x
 unfolding parseAccount
 text-least o x e =
     leb-true _ _ (both-left (leb (limitsOf o .shortest) (length x)) (leb (length x) (limitsOf o .longest)) (must-held (between (limitsOf o .shortest) (limitsOf o .longest) (length x)) 2 1 (then-first _ _ e)))

@@ -2,6 +2,7 @@
 use mathlib.Core.Path.{_≡_, refl, _∙_, ap}
 use mathlib.Core.Bool.{Bool, true, _&&_, false≢true}
 use mathlib.Core.List.{List, [], _∷_, _++_, map}
+use mathlib.Core.Logic.{_⊎_, inl, inr, ⊎-elim}
 use Prim.Native.Nat.{ℕ, zero, suc, _+_, _≤_}
 use native.Mathlib.Omega.{arith}
 use lib.Dec.{leb, eqb}
@@ -151,10 +152,31 @@ again-one Unnumbered longest k l h p = p
 again-one Numbered longest k l h p = record { number = rw (digit-of k h); long = p .long; chars = p .chars }
 again-one InTurn longest k l h p = p
 
-again-length : (f : Numbering) (k : ℕ) (l : List ℕ) → isNumber f k l ≡ true → length (numberOf f k ++ kept f l) ≡ length l
-again-length Unnumbered k l e = refl
-again-length Numbered k l e = let h = numbered-room l e in omega (arith, length-drop 2 l)
-again-length InTurn k l e = refl
+-- a line written of one that was read: the same, or numbered as it is, with the same text
+abbrev pub Rewritten : List ℕ → List ℕ → Type 0
+Rewritten w l = (w ≡ l) ⊎ ((isNumbered w ≡ true) × (isNumbered l ≡ true) × (drop 2 w ≡ drop 2 l))
+
+again-written : (f : Numbering) (k : ℕ) (l : List ℕ) → k ≤ 9 → isNumber f k l ≡ true → Rewritten (numberOf f k ++ kept f l) l
+unfolding isNumbered
+again-written Unnumbered k l h e = inl refl
+again-written Numbered k l h e = inr (rw (digit-of k h), e, refl)
+again-written InTurn k l h e = inl refl
+
+-- lines written of the first ones of a body, each of the line in its place
+abbrev pub AllRewritten : List (List ℕ) → List (List ℕ) → Type 0
+AllRewritten [] ls = Unit {0}
+AllRewritten (w ∷ ws) [] = ⊥
+AllRewritten (w ∷ ws) (l ∷ ls) = Rewritten w l × AllRewritten ws ls
+
+rewritten-length : (w l : List ℕ) → Rewritten w l → length w ≡ length l
+rewritten-length w l =
+    ⊎-elim (ap length) (λ h. omega (arith, numbered-room w (h .0), numbered-room l (h .1), length-drop 2 w, length-drop 2 l, ap length (h .2)))
+
+-- they weigh no more
+pub rewritten-weight : (ws ls : List (List ℕ)) → AllRewritten ws ls → weight ws ≤ weight ls
+rewritten-weight [] ls h = omega arith
+rewritten-weight (w ∷ ws) [] h = absurd h
+rewritten-weight (w ∷ ws) (l ∷ ls) h = omega (arith, rewritten-length w l (h .0), rewritten-weight ws ls (h .1))
 
 -- the lines that are written of what is kept of lines
 abbrev pub again : Numbering → ℕ → List (List ℕ) → List (List ℕ)
@@ -166,10 +188,10 @@ module _ (f : Numbering) (longest : ℕ) where
   again-pass k [] h p = tt
   again-pass k (l ∷ ls) h p = (again-one f longest k l (omega arith) (p .0), again-pass (suc k) ls (omega arith) (p .1))
 
-  pub again-weight : (k : ℕ) (ls : List (List ℕ)) → AllPass f longest k ls → weight (again f k ls) ≡ weight ls
+  pub again-lines : (k : ℕ) (ls : List (List ℕ)) → k + length ls ≤ 10 → AllPass f longest k ls → AllRewritten (again f k ls) ls
   unfolding nameLines
-  again-weight k [] p = refl
-  again-weight k (l ∷ ls) p = let h = again-weight (suc k) ls (p .1) in omega (arith, h, again-length f k l (p .0 .number))
+  again-lines k [] h p = tt
+  again-lines k (l ∷ ls) h p = (again-written f k l (omega arith) (p .0 .number), again-lines (suc k) ls (omega arith) (p .1))
 
 -- what is kept of lines fits a text, and is a line
 kept-most : (f : Numbering) (l : List ℕ) → length (kept f l) ≤ length (drop (skipOf f) l) + 2

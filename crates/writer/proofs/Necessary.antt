@@ -1,8 +1,9 @@
--- A record that an accepted body gives passes the test for 22, and its lines weigh no more than the body's. Assumes nothing.
+-- A record that an accepted body gives passes the test for 22, and its lines are written of the body's. Assumes nothing.
 use mathlib.Core.Path.{_≡_, refl, sym, _∙_, ap, subst}
 use mathlib.Core.Bool.{Bool, true, false, not, _&&_, and-false, true≢false}
 use mathlib.Core.List.{List, [], _∷_, _++_, map}
-use Prim.Native.Nat.{ℕ, zero, suc, _≤_}
+use mathlib.Core.Logic.{inl}
+use Prim.Native.Nat.{ℕ, zero, suc, _+_, _≤_, _<_}
 use native.Mathlib.Omega.{arith}
 use lib.Dec.{eqb}
 use lib.ListN.{length, take, drop, length-map, length-drop}
@@ -31,7 +32,7 @@ use Rattle.reader.proofs.Bodies.{head-there, head-none}
 use Rattle.reader.proofs.Readings.{rest-bic, rest-names}
 use Rattle.writer.specs.Writing.{slashOf, nameLines}
 use Rattle.writer.specs.Given.{passes, every, isLine, textReply, isAccount, isPresence, isBic, areNames, isTaken}
-use Rattle.writer.proofs.NamePasses.{passing, NamesPass, names-held, names-pass, written-length, again, again-pass, again-weight, kept-short, kept-lines}
+use Rattle.writer.proofs.NamePasses.{passing, NamesPass, names-held, names-pass, written-length, again, again-pass, AllRewritten, rewritten-weight, again-lines, kept-short, kept-lines}
 use Rattle.writer.proofs.Relined.{All, weight, lines-are}
 use Rattle.writer.proofs.Sayings.{usedOf, Short, Fitting, saying, line-is, lines-is}
 use Rattle.writer.proofs.HeadPasses.{slashBy, extra-most, text-length, There, None, first-there, first-none}
@@ -86,12 +87,16 @@ module _ (o : PartyOption) (l : List ℕ) (ls : List (List ℕ)) (e : byLines o 
       let t = first-none (limitsOf o .first) o l p in
       record { none = t; found = head-none o l ls (sym (t .head)) counted refl refl refl }
 
--- ---- what is found is good: it fits a record, that passes the test, and its lines weigh no more than the body's
+-- ---- what is found is good: it fits a record, that passes the test, and its lines, of which there are some, are written of the body's
 pub record Good (f : Found) (s : Said) (ls : List (List ℕ)) : Type 0 where
   pub reply : f .reply ≡ accepted
   pub fits : Fitting f
   pub facts : Facts s
-  pub light : weight (bare s) ≤ weight ls
+  pub some : 0 < length (bare s)
+  pub lines : AllRewritten (bare s) ls
+
+pub light : {f : Found} {s : Said} {ls : List (List ℕ)} → Good f s ls → weight (bare s) ≤ weight ls
+light {s = s} {ls = ls} g = rewritten-weight (bare s) ls (g .lines)
 
 -- the parts
 slash-line : (o : PartyOption) (x l : List ℕ) → l ≡ slashBy (limitsOf o .first) ++ x → Line l → Line x
@@ -163,8 +168,12 @@ abbrev withSome : PartyOption → Bool → List Used → List (List ℕ) → Sai
 withSome o present us ns = record { option = o; present = present; count = length ns; account = us; bic = []; names = map usedOf ns }
 
 module _ (o : PartyOption) where
-  slash-length : (x l : List ℕ) → slashOf o ≡ slashBy (limitsOf o .first) → l ≡ slashBy (limitsOf o .first) ++ x → length (slashOf o ++ x) ≡ length l
-  slash-length x l s e = ap length (ap (λ (w : List ℕ). w ++ x) s ∙ sym e)
+  slash-is : (x l : List ℕ) → slashOf o ≡ slashBy (limitsOf o .first) → l ≡ slashBy (limitsOf o .first) ++ x → slashOf o ++ x ≡ l
+  slash-is x l s e = ap (λ (w : List ℕ). w ++ x) s ∙ sym e
+
+  -- names are few enough to be numbered by one digit
+  few : (ls : List (List ℕ)) → NamesPass o ls → 1 + length ls ≤ 10
+  few ls p = omega (arith, p .most, small o .names)
 
   bic-heading : (z : limitsOf o .names ≡ 0) → isPresence o true ≡ true → slashOf o ≡ slashBy (limitsOf o .first) → (l : List ℕ) (ls : List (List ℕ)) (d : Heading o l ls)
       → All Line (l ∷ ls) → byLines o (l ∷ ls) .reply ≡ accepted → (b : List ℕ) (rest : List (List ℕ)) → ls ≡ b ∷ rest
@@ -185,7 +194,8 @@ module _ (o : PartyOption) where
           names = no-names o z;
           free = refl;
         };
-        light = omega (arith, slash-length x l s (d .there .is), ap weight q);
+        some = omega arith;
+        lines = (inl (slash-is x l s (d .there .is)), subst (AllRewritten (b ∷ [])) (sym q) (inl refl, tt));
       }
 
   bic-headless : (z : limitsOf o .names ≡ 0) → isPresence o false ≡ true → (l : List ℕ) (ls : List (List ℕ)) → All Line (l ∷ ls) → Headless o l ls → byLines o (l ∷ ls) .reply ≡ accepted
@@ -197,7 +207,8 @@ module _ (o : PartyOption) where
         reply = a;
         fits = record { account = omega arith; bic = omega (arith, bic-most 1 l a); names = tt; few = omega arith };
         facts = record { presence = i; account = account-none o; bic = bic-there 1 l (h .0) a; names = no-names o z; free = t };
-        light = omega arith;
+        some = omega arith;
+        lines = (inl refl, tt);
       }
 
   names-heading : (z : limitsOf o .names ≡ 0 → ⊥) → isPresence o true ≡ true → slashOf o ≡ slashBy (limitsOf o .first) → (l : List ℕ) (ls : List (List ℕ)) (d : Heading o l ls)
@@ -218,7 +229,8 @@ module _ (o : PartyOption) where
           names = names-there o ls (h .1) p;
           free = refl;
         };
-        light = omega (arith, slash-length x l s (d .there .is), again-weight (limitsOf o .numbering) (limitsOf o .name) 1 ls (p .each));
+        some = omega arith;
+        lines = (inl (slash-is x l s (d .there .is)), again-lines (limitsOf o .numbering) (limitsOf o .name) 1 ls (few ls p) (p .each));
       }
 
   names-headless : (z : limitsOf o .names ≡ 0 → ⊥) → isPresence o false ≡ true → (us : List Used) → every (isAccount o false) us ≡ true → (l : List ℕ) (ls : List (List ℕ))
@@ -233,7 +245,8 @@ module _ (o : PartyOption) where
         reply = names-pass o 1 (l ∷ ls) p;
         fits = record { account = omega arith; bic = omega arith; names = names-fit o (l ∷ ls) h p; few = names-few o (l ∷ ls) h p };
         facts = record { presence = i; account = a; bic = refl; names = names-there o (l ∷ ls) h p; free = t p };
-        light = omega (arith, again-weight (limitsOf o .numbering) (limitsOf o .name) 1 (l ∷ ls) (p .each));
+        some = omega (arith, written-length (limitsOf o .numbering) 1 (map usedOf (map (kept (limitsOf o .numbering)) (l ∷ ls))));
+        lines = again-lines (limitsOf o .numbering) (limitsOf o .name) 1 (l ∷ ls) (few (l ∷ ls) p) (p .each);
       }
 
 -- ---- by the option
@@ -355,7 +368,8 @@ bic-only-good body e =
       reply = e;
       fits = record { account = omega arith; bic = omega (arith, bic-most 1 body e); names = tt; few = omega arith };
       facts = record { presence = refl; account = refl; bic = bic-there 1 body (letters-free 1 body e) e; names = no-names Field50C refl; free = refl };
-      light = omega arith;
+      some = omega arith;
+      lines = (inl refl, tt);
     }
 
 text-only-good : (body : List ℕ) → textOnly Field50L body .reply ≡ accepted → GoodIn Field50L (body ∷ []) (textOnly Field50L body)
@@ -367,7 +381,8 @@ text-only-good body e =
       reply = e;
       fits = record { account = text-short Field50L body a; bic = omega arith; names = tt; few = omega arith };
       facts = record { presence = refl; account = account-there Field50L body line a; bic = refl; names = no-names Field50L refl; free = refl };
-      light = omega arith;
+      some = omega arith;
+      lines = (inl refl, tt);
     }
 
 -- ---- any body

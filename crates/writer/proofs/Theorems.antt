@@ -22,7 +22,7 @@ use Rattle.writer.proofs.Bare.{bare}
 use Rattle.writer.proofs.Pairs.{pair}
 use Rattle.writer.proofs.Sizes.{field-most, field-less}
 use Rattle.writer.proofs.Sufficient.{parts, given-facts, same-found, sufficient}
-use Rattle.writer.proofs.Necessary.{readLines}
+use Rattle.writer.proofs.Necessary.{light, readLines}
 use Rattle.writer.proofs.Back.{accepted-is, not-identified, back-fits, back-found, back-no}
 
 pub necessary : (p : Party) → Given p → isGiven (said p) ≡ true
@@ -61,7 +61,7 @@ module _ (p : Party) (g : Given p) where
       let a = accepted-is o (writtenBody (parts p)) (q .0) in
       let same : saying o (foundBy (limitsOf o .layout) o (writtenBody (parts p))) ≡ parts p = sym (a .says) ∙ q .1 ∙ said-with p in
       back-no _ _ _ _ o (p .present) h e'
-      (record { reply = a .good .reply; heavy = subst (λ (s : Said). weight (bare s) ≤ weight (readLines (limitsOf o .layout) (writtenBody (parts p)))) same (a .good .light) })
+      (record { reply = a .good .reply; heavy = subst (λ (s : Said). weight (bare s) ≤ weight (readLines (limitsOf o .layout) (writtenBody (parts p)))) same (light (a .good)) })
 
   -- a record that a reader can give is read back from its written body if and only if its last written line is not empty, no earlier one
   -- ends in CR, and it is not 59F with an identifier

@@ -1,31 +1,39 @@
 -- What a call answers, by the test that it ends at. Assumes nothing.
-use Prim.Native.Nat.{ℕ, _≤_}
+use Prim.Native.Nat.{ℕ, suc, _+_, _≤_}
 use mathlib.Core.Path.{_≡_, refl, sym, ap, _∙_, subst}
-use mathlib.Core.Bool.{Bool, true, false}
+use mathlib.Core.Bool.{Bool, true, false, _||_}
 use mathlib.Core.List.{List, [], _∷_}
 use native.Mathlib.Omega.{arith}
 use lib.Dec.{leb}
 use lib.ListN.{length}
+use borrow.Author.Tests.{leb-true}
 use Rattle.errors.specs.declared.Outcome.{Outcome}
 use Rattle.errors.specs.Refusals.{Reply, accepted, refused, must, _then_, told}
-use Rattle.errors.proofs.Replies.{must-held, then-first}
+use Rattle.errors.proofs.Replies.{refused≢accepted, must-held, then-first}
+use Rattle.party.specs.declared.PartyOption.{PartyOption}
 use Rattle.party.specs.declared.Party.{Party}
 use Rattle.party.specs.Party.{said}
 use Rattle.reader.specs.declared.Answer.{Answer}
-use Rattle.reader.specs.Reading.{toldAnswer}
+use Rattle.swift_utils.specs.Bytes.{all}
+use Rattle.field_utils.specs.Lines.{lines}
+use Rattle.reader.specs.Reading.{Reading, toldAnswer}
+use Rattle.reader.specs.Options.{ascii, bodyMost, bodyReply, read}
+use Rattle.reader.proofs.LineCounts.{lines-most}
 use Rattle.choices.specs.declared.Choice.{Choice}
-use Rattle.choices.specs.Choices.{parse, parseWithVariant}
-use Rattle.choices.proofs.Every.{every-parse, every-variant}
+use Rattle.choices.specs.Choices.{triedText, refusing, parse, optionsOf, parseWithVariant}
+use Rattle.choices.proofs.Every.{each, parse-by, variant-by, every-parse, every-variant}
+use Rattle.profile.specs.Profile.{holdsBic, isInside, linesReply, profileReply, profiled, readProfiled, parseProfiled, parseWithVariantProfiled}
 use Rattle.writer.specs.declared.Measured.{Measured as MeasuredAs}
 use Rattle.writer.specs.Writing.{fieldMost, writtenField, fits}
 use Rattle.writer.specs.Given.{isGiven}
 use Rattle.writer.specs.Placing.{Placing, measuring, placing, measure, place, toldMeasured, toldPlacing}
+use Rattle.writer.proofs.Back.{accepted-is}
 use Rattle.writer.proofs.Theorems.{given-exact, written-most}
 use Rattle.page_writer.specs.Beside.{Beside}
 use Rattle.flat.specs.Flat.{recordSize, unflatten}
 use Rattle.yewdome.specs.Interface.{Called, codeOf, lentReply, recordReply, asked, askedBeside, storing, given, measuredCode, codeOr, partyMeasure, placedCall, partyPlace}
 use Rattle.yewdome.specs.Code.{Named, Measurable}
-use Rattle.yewdome.proofs.LineBounds.{must-line, must-then, read-line}
+use Rattle.yewdome.proofs.LineBounds.{must-line, must-then, giving-line, read-line}
 
 -- ---- the tests of a lent record
 pub empty-lent : (bytes : List ℕ) → length bytes ≡ 0 → codeOf (refused 42 0) ≡ codeOf (recordReply bytes)
@@ -62,6 +70,49 @@ parse-line = every-parse (λ r. Named (r .reply)) read-line (λ k h. (h, omega a
 
 pub variant-line : (choice : Choice) (body : List ℕ) (letter : ℕ) → Named (parseWithVariant choice body letter .reply)
 variant-line = every-variant (λ r. Named (r .reply)) read-line (λ k h. (h, omega arith))
+
+-- under the profile the line named is one of the body's: what was accepted has at most 2,048 bytes
+abbrev Fits : List ℕ → Reading → Type 0
+Fits body r = r .reply ≡ accepted → bodyReply body ≡ accepted
+
+read-fits : (body : List ℕ) (o : PartyOption) → Fits body (read o body)
+read-fits body o e = accepted-is o body e .fits
+
+refused-fits : (body : List ℕ) (k : ℕ) → 1 ≤ k → Fits body (refusing k 0)
+refused-fits body k h e = absurd (refused≢accepted e)
+
+parse-fits : (choice : Choice) (body : List ℕ) → Fits body (parse choice body)
+parse-fits choice body = parse-by (Fits body) (refused-fits body) choice body (λ b. each (λ o. Fits body (read o (triedText choice body))) (λ o e. b) (optionsOf choice))
+
+variant-fits : (choice : Choice) (body : List ℕ) (letter : ℕ) → Fits body (parseWithVariant choice body letter)
+variant-fits choice body letter = variant-by (Fits body) (refused-fits body) choice body letter (each (λ o. Fits body (read o body)) (read-fits body) (optionsOf choice)) (parse-fits choice body)
+
+lines-line : (p : Party) (n : ℕ) (after : Bool) (ls : List (List ℕ)) → n + length ls ≤ suc bodyMost → Named (linesReply p n after ls)
+unfolding linesReply
+lines-line p n after [] h = tt
+lines-line p n after (l ∷ ls) h =
+    must-then (isInside n after (holdsBic p l) l) 32 n (linesReply p (suc n) (after || holdsBic p l) ls) (omega arith) (omega arith)
+    (lines-line p (suc n) (after || holdsBic p l) ls (omega arith))
+
+profiled-line : (r : Reading) (body : List ℕ) → Named (r .reply) → Fits body r → Named (profiled r body .reply)
+unfolding profiled profileReply
+profiled-line r body h f = giving-line (r .reply then profileReply (r .party) body) (r .party) (go (r .reply) h f)
+  where
+    go : (t : Reply) → Named t → (t ≡ accepted → bodyReply body ≡ accepted) → Named (t then profileReply (r .party) body)
+    go accepted k b =
+        let most = leb-true (length body) bodyMost (must-held (leb (length body) bodyMost) 12 0 (then-first _ (must (all ascii body) 13 0) (b refl))) in
+        lines-line (r .party) 1 false (lines body) (omega (arith, lines-most body))
+    go (refused k n) h b = h
+
+module _ (body : List ℕ) where
+  pub profile-read-line : (o : PartyOption) → Named (readProfiled o body .reply)
+  profile-read-line o = profiled-line (read o body) body (read-line o body) (read-fits body o)
+
+  pub profile-parse-line : (choice : Choice) → Named (parseProfiled choice body .reply)
+  profile-parse-line choice = profiled-line (parse choice body) body (parse-line choice body) (parse-fits choice body)
+
+  pub profile-variant-line : (choice : Choice) (letter : ℕ) → Named (parseWithVariantProfiled choice body letter .reply)
+  profile-variant-line choice letter = profiled-line (parseWithVariant choice body letter) body (variant-line choice body letter) (variant-fits choice body letter)
 
 -- ---- measuring and placing
 -- a refusal names no line, and a field has at most 188 bytes

@@ -8,3 +8,7 @@ pub mod Steps
 pub mod Walks
 pub mod WholePages
 pub mod Demand3
+pub mod ProfileLines
+pub mod ProfileBic
+pub mod Profile
+pub mod ProfileCalls

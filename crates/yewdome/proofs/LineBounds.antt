@@ -158,7 +158,7 @@ module _ (o : PartyOption) where
   found-line ByLines body i = body-line (lines body) (omega (arith, lines-most body))
 
 -- ---- readings
-giving-line : (r : Reply) (p : Party) → Named r → Named (giving r p .reply)
+pub giving-line : (r : Reply) (p : Party) → Named r → Named (giving r p .reply)
 giving-line accepted p h = h
 giving-line (refused k n) p h = h
 

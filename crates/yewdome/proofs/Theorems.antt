@@ -157,27 +157,36 @@ lent-size len known e = leb-true recordSize len (must-held (leb recordSize len) 
 pub stored-loads : (p : Party) (bytes : List ℕ) → Loads p → recordSize ≤ length bytes → unflatten (stored p bytes) ≡ p
 stored-loads p bytes l h = ap unflatten (stored-whole p bytes h) ∙ l (drop recordSize bytes)
 
-loads : (known : Bool) (r : Reading) (bytes : List ℕ) → Named (r .reply) → Loads (r .party) → given known r bytes .code ≡ 0 → unflatten (given known r bytes .bytes) ≡ r .party
-loads known r bytes n l e =
-    let t = lentReply (length bytes) known in
-    let c = storing (r .reply) (r .party) bytes in
-    let a : t ≡ accepted = asked-passed t c bytes (lent-named (length bytes) known) (omega (arith, e)) in
-    let gave : given known r bytes ≡ c = rw a in
-    let b : r .reply ≡ accepted = no-refusal (r .reply) n (omega (arith, e, ap (λ (x : Called). x .code) gave)) in
-    let is : c .bytes ≡ stored (r .party) bytes = rw b in
-    ap (λ (x : Called). unflatten (x .bytes)) gave ∙ (ap unflatten is ∙ stored-loads (r .party) bytes l (lent-size (length bytes) known a))
+module _ (known : Bool) (r : Reading) (bytes : List ℕ) (n : Named (r .reply)) (e : given known r bytes .code ≡ 0) where
+  abbrev c : Called
+  c = storing (r .reply) (r .party) bytes
+
+  a : lentReply (length bytes) known ≡ accepted
+  a = asked-passed (lentReply (length bytes) known) c bytes (lent-named (length bytes) known) (omega (arith, e))
+
+  gave : given known r bytes ≡ c
+  gave = rw a
+
+  -- the reading accepts, and the bytes load as its record
+  pub accepts : r .reply ≡ accepted
+  accepts = no-refusal (r .reply) n (omega (arith, e, ap (λ (x : Called). x .code) gave))
+
+  pub loads : Loads (r .party) → unflatten (given known r bytes .bytes) ≡ r .party
+  loads l =
+      let is : c .bytes ≡ stored (r .party) bytes = rw accepts in
+      ap (λ (x : Called). unflatten (x .bytes)) gave ∙ (ap unflatten is ∙ stored-loads (r .party) bytes l (lent-size (length bytes) known a))
 
 -- where a call's number is 0, the bytes load as the record that was read
 pub party-read-loads : (option : ℕ) (body bytes : List ℕ) → partyRead option body bytes .code ≡ 0 → unflatten (partyRead option body bytes .bytes) ≡ read (optionAt option) body .party
-party-read-loads option body bytes = loads (leb option 10) (read (optionAt option) body) bytes (read-line (optionAt option) body) (read-loads (optionAt option) body)
+party-read-loads option body bytes e = loads (leb option 10) (read (optionAt option) body) bytes (read-line (optionAt option) body) e (read-loads (optionAt option) body)
 
 pub party-parse-loads : (choice : ℕ) (body bytes : List ℕ) → partyParse choice body bytes .code ≡ 0 → unflatten (partyParse choice body bytes .bytes) ≡ parse (choiceAt choice) body .party
-party-parse-loads choice body bytes = loads (leb choice 6) (parse (choiceAt choice) body) bytes (parse-line (choiceAt choice) body) (parse-loads (choiceAt choice) body)
+party-parse-loads choice body bytes e = loads (leb choice 6) (parse (choiceAt choice) body) bytes (parse-line (choiceAt choice) body) e (parse-loads (choiceAt choice) body)
 
 pub party-variant-loads : (choice : ℕ) (body : List ℕ) (letter : ℕ) (bytes : List ℕ) → partyParseWithVariant choice body letter bytes .code ≡ 0
     → unflatten (partyParseWithVariant choice body letter bytes .bytes) ≡ parseWithVariant (choiceAt choice) body letter .party
-party-variant-loads choice body letter bytes =
-    loads (leb choice 6) (parseWithVariant (choiceAt choice) body letter) bytes (variant-line (choiceAt choice) body letter) (variant-loads (choiceAt choice) body letter)
+party-variant-loads choice body letter bytes e =
+    loads (leb choice 6) (parseWithVariant (choiceAt choice) body letter) bytes (variant-line (choiceAt choice) body letter) e (variant-loads (choiceAt choice) body letter)
 
 -- ---- what a page's read leaves
 abbrev OutcomeLoads : ReadOutcome → Type 0

@@ -13,6 +13,7 @@ use Rattle.reader.specs.Options.{read}
 use Rattle.choices.specs.declared.Choice.{Choice}
 use Rattle.choices.specs.declared.Choice.the-variants.{Field50InstructingParty, Field50OrderingCustomerFGH, Field50OrderingCustomerAFK, Field50OrderingCustomerNCF, Field50Creditor, Field59, Field59Debtor}
 use Rattle.choices.specs.Choices.{parse, parseWithVariant}
+use Rattle.profile.specs.Profile.{readProfiled, parseProfiled, parseWithVariantProfiled}
 use Rattle.writer.specs.Writing.{put}
 use Rattle.writer.specs.Placing.{Measured, lengthIs, refusedWith, Placing, measure, place}
 use Rattle.page_reader.specs.Pages.{ReadOutcome, aRecord, theEnd, aRefusal, PageRead, bodiless, outcomeOf, readAt, bodyPlace}
@@ -85,6 +86,18 @@ partyParse choice body bytes = given (leb choice 6) (parse (choiceAt choice) bod
 -- `yewdome_party_parse_with_variant`
 abbrev pub partyParseWithVariant : ℕ → List ℕ → ℕ → List ℕ → Called
 partyParseWithVariant choice body letter bytes = given (leb choice 6) (parseWithVariant (choiceAt choice) body letter) bytes
+
+-- `yewdome_profile_read` (document 02, Five)
+abbrev pub profileRead : ℕ → List ℕ → List ℕ → Called
+profileRead option body bytes = given (leb option 10) (readProfiled (optionAt option) body) bytes
+
+-- `yewdome_profile_parse` (document 02, Five)
+abbrev pub profileParse : ℕ → List ℕ → List ℕ → Called
+profileParse choice body bytes = given (leb choice 6) (parseProfiled (choiceAt choice) body) bytes
+
+-- `yewdome_profile_parse_with_variant` (document 02, Five)
+abbrev pub profileParseWithVariant : ℕ → List ℕ → ℕ → List ℕ → Called
+profileParseWithVariant choice body letter bytes = given (leb choice 6) (parseWithVariantProfiled (choiceAt choice) body letter) bytes
 
 -- ---- writing
 -- measuring and placing answer the length of the field, or the refusal

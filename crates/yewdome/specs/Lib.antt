@@ -1,4 +1,5 @@
 pub mod Filing
 pub mod Interface
 pub mod Demand3
+pub mod Profile
 pub mod Code

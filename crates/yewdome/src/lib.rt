@@ -35,7 +35,7 @@ ghost use Rattle.page_reader.specs.Reads.{readHere};
 ghost use Rattle.page_writer.specs.Beside.{noIndex, anIndex};
 ghost use Rattle.page_writer.specs.Adding.{toldFiled};
 ghost use Rattle.yewdome.specs.Filing.{openPage};
-ghost use Rattle.yewdome.specs.Interface.{codeOf, lentReply, recordReply, given, partyRead, choiceAt, partyParse, partyParseWithVariant, measuredCode, partyMeasure, partyPlace, pageRead, pageLookUp, pageBody, filedCode, pageAdd, pageAddIndex, pageClose, pageAnswers, pageFile};
+ghost use Rattle.yewdome.specs.Interface.{codeOf, lentReply, recordReply, given, partyRead, choiceAt, partyParse, partyParseWithVariant, profileRead, profileParse, profileParseWithVariant, measuredCode, partyMeasure, partyPlace, pageRead, pageLookUp, pageBody, filedCode, pageAdd, pageAddIndex, pageClose, pageAnswers, pageFile};
 ghost use Rattle.yewdome.specs.Code.{Named, Measurable, Within, stepBy, toldStep, Walks};
 
 // The interface's own numbers, × 65,536: 41 no such option or choice, 42 a lent record of under 237 bytes, 43 too few numbers lent for
@@ -149,6 +149,43 @@ pub extern "C" fn yewdome_party_parse_with_variant(
     give(
         choice <= 6,
         parse_with_variant(choice_at(choice), body, letter),
+        record,
+    )
+}
+
+// Reads a body by the option at a place under the network profile, and stores the record.
+#[no_mangle]
+pub extern "C" fn yewdome_profile_read(option: u8, body: &[u8], record: &mut [u8]) -> u32
+    ensures { λ r. ⌜ (record { code = r; bytes = now («record» .exit) }) ≡ profileRead option (now (body .entry)) (now («record» .entry)) ⌝ }
+{
+    give(
+        option <= 10,
+        profile::read(option_at(option as usize), body),
+        record,
+    )
+}
+
+// The same by the choice at a place, which detects the option.
+#[no_mangle]
+pub extern "C" fn yewdome_profile_parse(choice: u8, body: &[u8], record: &mut [u8]) -> u32
+    ensures { λ r. ⌜ (record { code = r; bytes = now («record» .exit) }) ≡ profileParse choice (now (body .entry)) (now («record» .entry)) ⌝ }
+{
+    give(choice <= 6, profile::parse(choice_at(choice), body), record)
+}
+
+// The same by a letter, 0 for none.
+#[no_mangle]
+pub extern "C" fn yewdome_profile_parse_with_variant(
+    choice: u8,
+    body: &[u8],
+    letter: u8,
+    record: &mut [u8],
+) -> u32
+    ensures { λ r. ⌜ (record { code = r; bytes = now («record» .exit) }) ≡ profileParseWithVariant choice (now (body .entry)) letter (now («record» .entry)) ⌝ }
+{
+    give(
+        choice <= 6,
+        profile::parse_with_variant(choice_at(choice), body, letter),
         record,
     )
 }

@@ -40,10 +40,13 @@ fn refused(answer: u32) -> u8 {
 
 /// The readers, each by the place of its option or choice.
 type Reader = fn(u8, &mut [u8]) -> u32;
-const READERS: [(Reader, u8); 3] = [
+const READERS: [(Reader, u8); 6] = [
     (|option, record| party_read(option, BODY, record), OPTION_50K),
     (|choice, record| party_parse(choice, BODY, record), AFK),
     (|choice, record| party_parse_with_variant(choice, BODY, b'K', record), AFK),
+    (|option, record| profile_read(option, BODY, record), OPTION_50K),
+    (|choice, record| profile_parse(choice, BODY, record), AFK),
+    (|choice, record| profile_parse_with_variant(choice, BODY, b'K', record), AFK),
 ];
 
 #[test]
@@ -172,6 +175,41 @@ fn a_place_that_has_none_is_41() {
             assert_eq!(refused_always(&record, 1), 41, "41 comes before 21");
         }
     }
+}
+
+/// What the readers under the profile give of a body.
+fn profiled(body: &[u8], record: &mut [u8]) -> [u32; 3] {
+    [
+        profile_read(OPTION_50K, body, record),
+        profile_parse(AFK, body, record),
+        profile_parse_with_variant(AFK, body, b'K', record),
+    ]
+}
+
+#[test]
+fn a_body_outside_the_profile_changes_no_byte() {
+    let cases: [(&[u8], u32); 2] = [(b"A&B\nC", 1), (b"/12\nA\n:B&", 3)];
+    for (body, line) in cases {
+        let mut out = [STALE; LENGTH + 1];
+        assert_eq!(profiled(body, &mut out), [32 << 16 | line; 3]);
+        assert_eq!(out, [STALE; LENGTH + 1]);
+    }
+}
+
+/// 42, 41 and 14 come before 32, and so does what is refused of the body.
+#[test]
+fn outside_the_profile_comes_last() {
+    let body = b"A&B";
+    assert_eq!(profiled(body, &mut [STALE; LENGTH - 1]).map(refused), [42; 3]);
+    let mut out = [STALE; LENGTH];
+    assert_eq!(refused(profile_read(OPTIONS, body, &mut out)), 41);
+    assert_eq!(refused(profile_parse(CHOICES, body, &mut out)), 41);
+    assert_eq!(refused(profile_parse_with_variant(CHOICES, body, b'k', &mut out)), 41);
+    assert_eq!(refused(profile_parse_with_variant(AFK, body, b'k', &mut out)), 14);
+    assert_eq!(profiled(&[b'&'; LONGEST_BODY + 1], &mut out).map(refused), [12; 3]);
+    assert_eq!(profiled(b"A&B\x80", &mut out).map(refused), [13; 3]);
+    assert_eq!(profiled(b"A&B\nC~", &mut out), [3 << 16 | 2, 11 << 16, 3 << 16 | 2]);
+    assert_eq!(out, [STALE; LENGTH]);
 }
 
 #[test]

@@ -11,7 +11,7 @@ use Rattle.swift_utils.proofs.all_alphanumeric.Tie as tie
 returns : tie.Need-returns
 returns c =
     let t = c .before .before in
-    c .all-at-least .ensures ∙ by-entries 3 alphanumeric class-alphanumeric (t .class-table .result) (now (t .before .before .args .s)) (t .class-table .ensures)
+    c .all-at-least .ensures ∙ by-entries 4 alphanumeric class-alphanumeric (t .class-table .result) (now (t .before .before .args .s)) (t .class-table .ensures)
 
 pub all-alphanumeric-spec : {M : Type 1} → statement M
 all-alphanumeric-spec = tie.close (tie.spec (λ c κs. search needs) (λ c κs. search needs) returns)

@@ -1,12 +1,12 @@
 -- `swift_utils::class_table` meets its contract: the table lists `classOf` at each of its 256 entries, which antt computes. Assumes nothing.
 use mathlib.Core.Path.{refl}
-use Rattle.swift_utils.specs.Bytes.{letter, digit, alphanumeric, signs, legal}
+use Rattle.swift_utils.specs.Bytes.{letter, small, digit, alphanumeric, signs, legal, narrowSigns, narrow}
 use Rattle.swift_utils.specs.Classes.{classOf, classTable}
 use Rattle.swift_utils.proofs.class_table.Statement.{statement}
 use Rattle.swift_utils.proofs.class_table.Tie as tie
 
 returns : tie.Need-returns
-unfolding letter digit alphanumeric signs legal classOf classTable
+unfolding letter small digit alphanumeric signs legal narrowSigns narrow classOf classTable
 returns c = refl
 
 pub class-table-spec : {M : Type 1} → statement M

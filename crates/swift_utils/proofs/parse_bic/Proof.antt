@@ -44,7 +44,7 @@ module _ (c : tie.After-all-at-least) where
 
   bank : {t : Bool} → c .all-at-least .result ≡ t → all letter (take 6 (input tested)) ≡ t
   bank e =
-      sym (by-entries 4 letter class-letter (classes .class-table .result) (take 6 (input tested)) (classes .class-table .ensures))
+      sym (by-entries 5 letter class-letter (classes .class-table .result) (take 6 (input tested)) (classes .class-table .ensures))
       ∙ sym (c .all-at-least .ensures)
       ∙ e
 
@@ -57,8 +57,8 @@ module _ (c : tie.After-all-at-least2) where
   rest e =
       sym
       (bic-rest (line (tested six)) (input (tested six)) (right (tested six)) (bank six (not-false _ (c .before .before .before .if2 .left)))
-      (sym (by-entries 3 alphanumeric class-alphanumeric (classes six .class-table .result) (drop 6 (input (tested six))) (classes six .class-table .ensures))
-      ∙ ap (all (entryAtLeast (classes six .class-table .result) 3)) (sym (part-end (input (tested six)) 6))
+      (sym (by-entries 4 alphanumeric class-alphanumeric (classes six .class-table .result) (drop 6 (input (tested six))) (classes six .class-table .ensures))
+      ∙ ap (all (entryAtLeast (classes six .class-table .result) 4)) (sym (part-end (input (tested six)) 6))
       ∙ sym (c .all-at-least2 .ensures)
       ∙ e))
 

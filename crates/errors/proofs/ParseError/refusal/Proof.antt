@@ -74,10 +74,15 @@ returns-22 c = c .at22 .ensures ∙ sym (ap refusalOf (c .before .enum-told15 .g
 returns-23 : tie.Need-returns-23
 returns-23 c = c .at23 .ensures ∙ sym (ap refusalOf (c .before .enum-told16 .given .1))
 
+returns-24 : tie.Need-returns-24
+returns-24 c = c .at24 .ensures ∙ sym (ap refusalOf (c .before .before .self8 .given .1))
+
 pub refusal-spec : {M : Type 1} → statement M
 refusal-spec =
     tie.close
     (tie.spec
+    (λ c. search needs)
+    (λ c κs. search needs)
     (λ c. search needs)
     (λ c κs. search needs)
     (λ c. search needs)
@@ -146,4 +151,5 @@ refusal-spec =
     returns-20
     returns-21
     returns-22
-    returns-23)
+    returns-23
+    returns-24)

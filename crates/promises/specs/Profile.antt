@@ -1,0 +1,178 @@
+-- The network profile by computation (document 02, Five): each rule at the first line where it can be broken and at a later one, and wrong
+-- programs that the definitions rule out.
+use mathlib.Core.Path.{_≡_, refl}
+use mathlib.Core.Bool.{true}
+use mathlib.Core.List.{List, [], _∷_}
+use Prim.Native.Nat.{ℕ, _+_, _*_}
+use lib.ListN.{getD, replicate}
+use Rattle.errors.specs.Refusals.{accepted, refused}
+use Rattle.party.specs.declared.PartyOption.the-variants.{Field50NoOption, Field50A, Field50F, Field50K, Field50C, Field50G, Field59A}
+use Rattle.party.specs.Limits.{placeOf, optionAt}
+use Rattle.party.specs.Text.{padded, textOf, fourTexts}
+use Rattle.swift_utils.specs.Bytes.{bytes, letter, small, digit, alphanumeric, signs, legal, narrowSigns, narrow}
+use Rattle.swift_utils.specs.Checks.{parseSwiftChars, parseAccount, bicLength, parseBic}
+use Rattle.field_utils.specs.Lines.{upto, onto, starts, lines}
+use Rattle.field_utils.specs.Trim.{white, trimmedStart, keep, trimmedEnd, trimmed}
+use Rattle.field_utils.specs.Identifier.{isNumbered, secondSlash, identifierReply, parsePartyIdentifier}
+use Rattle.field_utils.specs.Names.{parseLine, parseLines, parseNameAndAddress}
+use Rattle.reader.specs.Reading.{partyOf}
+use Rattle.reader.specs.Options.{accountHead, shortAccountHead, afterHead, read}
+use Rattle.choices.specs.declared.Choice.the-variants.{Field50InstructingParty, Field50OrderingCustomerAFK, Field50Creditor}
+use Rattle.choices.specs.Detection.{anyNumbered, firstLine, lastLine, bicLike, testLine}
+use Rattle.choices.specs.Choices.{firstThat, parse, pickOf, parseWithVariant}
+use Rattle.profile.specs.Profile.{isSame, holdsBic, isInside, linesReply, profileReply, profiled, readProfiled, parseProfiled, parseWithVariantProfiled}
+use Rattle.flat.specs.Flat.{flatTexts, flatten, stored}
+use Rattle.yewdome.specs.Interface.{profileRead, profileParse, profileParseWithVariant}
+use Rattle.promises.specs.Starred.{gives}
+use Rattle.promises.specs.RuledOut.{As}
+
+-- each rule, where it is broken at its first line and at a later one
+pub record ProfileRules : Type 0 where
+  -- only letters, digits, space and `/-?:().,'+`; all of these pass
+  pub set-first : readProfiled Field50K (bytes "A&B") .reply ≡ refused 32 1
+  pub set-later : readProfiled Field50K (bytes "A\nB\nC&") .reply ≡ refused 32 3
+  pub set-all : readProfiled Field50K (bytes "Az09 /-?:().,'+") .reply ≡ accepted
+  -- a CR that stays in a line is outside, one just before an LF is not
+  pub cr-first : readProfiled Field50K (bytes "A\rB") .reply ≡ refused 32 1
+  pub cr-later : readProfiled Field50K (bytes "A\nB\r") .reply ≡ refused 32 2
+  pub cr-lf : readProfiled Field50K (bytes "A\r\nB") .reply ≡ accepted
+  -- BIC letters are capitals
+  pub capitals-first : readProfiled Field50C (bytes "DEUTDEFf") .reply ≡ refused 32 1
+  pub capitals-later : readProfiled Field50G (bytes "/1\ndEUTDEFF") .reply ≡ refused 32 2
+  -- no line after the BIC: it can be broken from line 2 on
+  pub after-first : readProfiled Field50A (bytes "DEUTDEFF\nA") .reply ≡ refused 32 2
+  pub after-later : readProfiled Field59A (bytes "/1\nDEUTDEFF\nA") .reply ≡ refused 32 3
+  -- no empty line
+  pub empty-first : readProfiled Field50K (bytes "\nA") .reply ≡ refused 32 1
+  pub empty-later : readProfiled Field50K (bytes "A\n\nB") .reply ≡ refused 32 2
+  pub empty-last : readProfiled Field50K (bytes "A\nB\n\n") .reply ≡ refused 32 3
+  -- no line after the first starts with `:` or `-`: it can be broken from line 2 on
+  pub colon-first : readProfiled Field50K (bytes "A\n:B") .reply ≡ refused 32 2
+  pub colon-later : readProfiled Field50K (bytes "A\nB\n:") .reply ≡ refused 32 3
+  pub hyphen-first : readProfiled Field50K (bytes "A\n-B") .reply ≡ refused 32 2
+  pub hyphen-later : readProfiled Field50K (bytes "A\nB\n-") .reply ≡ refused 32 3
+  -- two rules broken at once, in both orders: the first line wins
+  pub two-rules : readProfiled Field50K (bytes "A\n\nB&") .reply ≡ refused 32 2
+  pub two-lines : readProfiled Field50K (bytes "A&\n:B") .reply ≡ refused 32 1
+  -- a body that the ordinary reading refuses: that refusal stands
+  pub stands-3 : readProfiled Field50K (bytes "A&\nB~") .reply ≡ refused 3 2
+  pub stands-11 : parseProfiled Field50Creditor [] .reply ≡ refused 11 0
+  pub stands-12 : parseProfiled Field50Creditor (replicate 2049 10) .reply ≡ refused 12 0
+  pub stands-13 : readProfiled Field50K (200 ∷ []) .reply ≡ refused 13 0
+  pub stands-14 : parseWithVariantProfiled Field50OrderingCustomerAFK (bytes "A&") 107 .reply ≡ refused 14 0
+  -- what passes is the record that the ordinary reading gives
+  pub passes : readProfiled Field50A (bytes "/1\nDEUTDEFF") ≡ gives Field50A true (bytes "1") (bytes "DEUTDEFF") []
+
+pub profile-rules : ProfileRules
+unfolding padded textOf letter small digit alphanumeric signs legal narrowSigns narrow parseSwiftChars parseAccount bicLength parseBic upto onto starts lines white trimmedStart keep trimmedEnd trimmed isNumbered secondSlash identifierReply parsePartyIdentifier parseLine parseLines parseNameAndAddress fourTexts partyOf accountHead shortAccountHead afterHead read anyNumbered firstLine lastLine bicLike firstThat pickOf testLine parse parseWithVariant isSame holdsBic isInside linesReply profileReply profiled
+profile-rules = record {
+  set-first = refl;
+  set-later = refl;
+  set-all = refl;
+  cr-first = refl;
+  cr-later = refl;
+  cr-lf = refl;
+  capitals-first = refl;
+  capitals-later = refl;
+  after-first = refl;
+  after-later = refl;
+  empty-first = refl;
+  empty-later = refl;
+  empty-last = refl;
+  colon-first = refl;
+  colon-later = refl;
+  hyphen-first = refl;
+  hyphen-later = refl;
+  two-rules = refl;
+  two-lines = refl;
+  stands-3 = refl;
+  stands-11 = refl;
+  stands-12 = refl;
+  stands-13 = refl;
+  stands-14 = refl;
+  passes = refl;
+}
+
+-- a body that `Field50InstructingParty` trims, and where its BIC stands as it came
+pub record ProfileTrimmed : Type 0 where
+  -- a blank line of spaces before the BIC's line passes, one after it is a line after the BIC
+  pub before : As (parseProfiled Field50InstructingParty (bytes " \n  \n DEUTDEFF")) Field50C
+  pub after : parseProfiled Field50InstructingParty (bytes " \nDEUTDEFF \n ") .reply ≡ refused 32 3
+  -- what else is trimmed is outside the set, or an empty line
+  pub tab : parseProfiled Field50InstructingParty (bytes "\tDEUTDEFF") .reply ≡ refused 32 1
+  pub cr : parseProfiled Field50InstructingParty (bytes " \nDEUTDEFF\r") .reply ≡ refused 32 2
+  pub empty : parseProfiled Field50InstructingParty (bytes "\nDEUTDEFF") .reply ≡ refused 32 1
+  pub last : As (parseProfiled Field50InstructingParty (bytes "DEUTDEFF\n")) Field50C
+  pub capitals : parseProfiled Field50InstructingParty (bytes " \n DEUTDEFf") .reply ≡ refused 32 2
+
+-- wrong programs
+pub record ProfileRuledOut : Type 0 where
+  -- tests the trimmed body: there no line follows the BIC
+  pub trimmed-body : parseProfiled Field50InstructingParty (bytes "DEUTDEFF\n ") .reply ≡ refused 32 2
+  pub trimmed-passes : profiled (parse Field50InstructingParty (bytes "DEUTDEFF\n ")) (trimmed (bytes "DEUTDEFF\n ")) .reply ≡ accepted
+  -- tests before the reading: then 32, line 1, would come before 3, line 2
+  pub before-reading : readProfiled Field50NoOption (bytes "A&\nB~") .reply ≡ refused 3 2
+  -- names the last line at fault
+  pub last-line : readProfiled Field50NoOption (bytes "A&\nB&") .reply ≡ refused 32 1
+  -- refuses `-` or `:` at the first line's start
+  pub first-hyphen : readProfiled Field50K (bytes "-A\nB") .reply ≡ accepted
+  pub first-colon : readProfiled Field50K (bytes ":A\nB") .reply ≡ accepted
+  -- refuses small letters outside the BIC
+  pub small-name : readProfiled Field50F (bytes "a\n1/b") .reply ≡ accepted
+  pub small-account : readProfiled Field50A (bytes "/a\nDEUTDEFF") .reply ≡ accepted
+  -- filters the options that are tried, and so reads the body as another: K would pass, but A is what is detected
+  pub tries-on : parseProfiled Field50OrderingCustomerAFK (bytes "JOHNDOES\nSTREETAB") .reply ≡ refused 32 2
+  -- detects though a letter picks
+  pub detects : As (parseWithVariantProfiled Field50OrderingCustomerAFK (bytes "JOHNDOES\nSTREETAB") 75) Field50K
+  -- takes a text for a BIC by its form: JOHNDOES is a name here, and a line may follow it
+  pub by-form : As (readProfiled Field50K (bytes "johndoes\nSTREETAB")) Field50K
+
+pub profile-trimmed : ProfileTrimmed
+unfolding padded textOf letter small digit alphanumeric signs legal narrowSigns narrow parseSwiftChars parseAccount bicLength parseBic upto onto starts lines white trimmedStart keep trimmedEnd trimmed isNumbered parseLine parseLines parseNameAndAddress fourTexts partyOf read anyNumbered firstLine lastLine bicLike firstThat pickOf testLine parse parseWithVariant isSame holdsBic isInside linesReply profileReply profiled
+profile-trimmed = record { before = (refl, refl); after = refl; tab = refl; cr = refl; empty = refl; last = (refl, refl); capitals = refl }
+
+pub profile-ruled-out : ProfileRuledOut
+unfolding padded textOf letter small digit alphanumeric signs legal narrowSigns narrow parseSwiftChars parseAccount bicLength parseBic upto onto starts lines white trimmedStart keep trimmedEnd trimmed isNumbered secondSlash identifierReply parsePartyIdentifier parseLine parseLines parseNameAndAddress fourTexts partyOf accountHead shortAccountHead afterHead read anyNumbered firstLine lastLine bicLike firstThat pickOf testLine parse parseWithVariant isSame holdsBic isInside linesReply profileReply profiled
+profile-ruled-out = record {
+  trimmed-body = refl;
+  trimmed-passes = refl;
+  before-reading = refl;
+  last-line = refl;
+  first-hyphen = refl;
+  first-colon = refl;
+  small-name = refl;
+  small-account = refl;
+  tries-on = refl;
+  detects = (refl, refl);
+  by-form = (refl, refl);
+}
+
+-- ---- for C
+-- a lent record
+abbrev lent : List ℕ
+lent = replicate 237 7
+
+pub record ProfileCalls : Type 0 where
+  -- gives 32 without its line
+  pub read-drops-the-line : profileRead (placeOf Field50K) (bytes "A\nB&") lent .code ≡ 32 * 65536 + 2
+  -- stores the record that it refuses with 32
+  pub read-stores : profileRead (placeOf Field50K) (bytes "A\nB&") lent .bytes ≡ lent
+  -- leaves the profile out
+  pub parse-leaves-it-out : profileParse 2 (bytes "JOHNDOES\nSTREETAB") lent .code ≡ 32 * 65536 + 2
+  -- tests 32 before 41 and 42
+  pub parse-tests-it-first : profileParse 7 (bytes "&") [] .code ≡ 42 * 65536
+  -- tests 32 before 14
+  pub variant-tests-it-first : profileParseWithVariant 2 (bytes "&") 107 lent .code ≡ 14 * 65536
+  -- detects though a letter picks, and so refuses
+  pub variant-detects : getD (profileParseWithVariant 2 (bytes "JOHNDOES\nSTREETAB") 75 lent .bytes) 0 0 ≡ placeOf Field50K
+
+pub profile-calls : ProfileCalls
+unfolding padded textOf letter small digit alphanumeric signs legal narrowSigns narrow parseSwiftChars parseAccount bicLength parseBic upto onto starts lines white trimmedStart keep trimmedEnd trimmed isNumbered secondSlash identifierReply parsePartyIdentifier parseLine parseLines parseNameAndAddress fourTexts partyOf accountHead shortAccountHead afterHead read anyNumbered firstLine lastLine bicLike firstThat pickOf testLine parse parseWithVariant isSame holdsBic isInside linesReply profileReply profiled optionAt flatTexts flatten stored
+profile-calls = record {
+  read-drops-the-line = refl;
+  read-stores = refl;
+  parse-leaves-it-out = refl;
+  parse-tests-it-first = refl;
+  variant-tests-it-first = refl;
+  variant-detects = refl;
+}
