@@ -87,9 +87,6 @@ pub bytes-inside : (holds : Bool) (l : List ℕ) → all (byteInside holds) l �
 bytes-inside holds l = all-both narrow (λ (b : ℕ). not holds || not (small b)) l ∙ ap (λ (t : Bool). isNarrow l && t) (capital-all holds l)
 
 -- ---- how a line starts
-pub opening-first : (l : List ℕ) → isOpening 1 l ≡ true
-opening-first l = refl
-
 module _ (n : ℕ) where
   pub opening-none : (l : List ℕ) → length l ≡ 0 → isOpening n l ≡ true
   unfolding starts

@@ -5,22 +5,29 @@ use mathlib.Core.Bool.{true}
 use mathlib.Core.List.{List, [], _∷_}
 use Prim.Native.Nat.{ℕ, _+_, _*_}
 use lib.ListN.{getD, replicate}
-use Rattle.errors.specs.Refusals.{accepted, refused}
-use Rattle.party.specs.declared.PartyOption.the-variants.{Field50NoOption, Field50A, Field50F, Field50K, Field50C, Field50G, Field59A}
+use Rattle.errors.specs.Refusals.{Reply, accepted, refused}
+use Rattle.party.specs.declared.PartyOption.the-variants.{Field50NoOption, Field50A, Field50F, Field50K, Field50C, Field50G, Field59A, Field59F}
 use Rattle.party.specs.Limits.{placeOf, optionAt}
 use Rattle.party.specs.Text.{padded, textOf, fourTexts}
+use Rattle.party.specs.Party.{said}
 use Rattle.swift_utils.specs.Bytes.{bytes, letter, small, digit, alphanumeric, signs, legal, narrowSigns, narrow}
 use Rattle.swift_utils.specs.Checks.{parseSwiftChars, parseAccount, bicLength, parseBic}
-use Rattle.field_utils.specs.Lines.{upto, onto, starts, lines}
+use Rattle.field_utils.specs.Lines.{upto, onto, starts, lines, withoutCr}
 use Rattle.field_utils.specs.Trim.{white, trimmedStart, keep, trimmedEnd, trimmed}
 use Rattle.field_utils.specs.Identifier.{isNumbered, secondSlash, identifierReply, parsePartyIdentifier}
 use Rattle.field_utils.specs.Names.{parseLine, parseLines, parseNameAndAddress}
-use Rattle.reader.specs.Reading.{partyOf}
+use Rattle.field_utils.specs.Tags.{tagOf}
+use Rattle.reader.specs.Reading.{Reading, partyOf}
 use Rattle.reader.specs.Options.{accountHead, shortAccountHead, afterHead, read}
 use Rattle.choices.specs.declared.Choice.the-variants.{Field50InstructingParty, Field50OrderingCustomerAFK, Field50Creditor}
 use Rattle.choices.specs.Detection.{anyNumbered, firstLine, lastLine, bicLike, testLine}
 use Rattle.choices.specs.Choices.{firstThat, parse, pickOf, parseWithVariant}
 use Rattle.profile.specs.Profile.{isSame, holdsBic, isInside, linesReply, profileReply, profiled, readProfiled, parseProfiled, parseWithVariantProfiled}
+use Rattle.writer.specs.Writing.{nameLines, writtenLines, joined, writtenBody, writtenField, pieces}
+use Rattle.writer.specs.Given.{isLine, areNames, isGiven}
+use Rattle.writer.specs.ReadBack.{endsCr, lastEmpty, identified59F}
+use Rattle.page_reader.specs.Pages.{isEnd, endsPage}
+use Rattle.page_writer.specs.Adding.{anyCr, anyBoundary, laterBoundary, isCarried, asked, recordReply}
 use Rattle.flat.specs.Flat.{flatTexts, flatten, stored}
 use Rattle.yewdome.specs.Interface.{profileRead, profileParse, profileParseWithVariant}
 use Rattle.promises.specs.Starred.{gives}
@@ -146,6 +153,26 @@ profile-ruled-out = record {
   detects = (refl, refl);
   by-form = (refl, refl);
 }
+
+-- ---- what the promise of pages needs
+-- what a page of 40 bytes says of a reading's record
+abbrev filed : Reading → Reply
+filed r = recordReply 40 0 true (said (r .party))
+
+pub record ProfileNeeded : Type 0 where
+  -- the exception: 59F with an identifier is taken under the profile, and no page carries it; without one it does
+  pub taken-59F : As (readProfiled Field59F (bytes "/1\n1/A")) Field59F
+  pub refused-59F : filed (readProfiled Field59F (bytes "/1\n1/A")) ≡ refused 23 0
+  pub bare-59F : filed (readProfiled Field59F (bytes "1/A")) ≡ accepted
+  -- what the ordinary reading accepts and no page carries: each breaks one rule of the profile
+  pub cr : filed (read Field50K (bytes "A\r")) ≡ refused 23 0
+  pub empty : filed (read Field50K (bytes "A\n\n")) ≡ refused 23 0
+  pub colon : filed (read Field50K (bytes "A\n:B")) ≡ refused 23 0
+  pub hyphen : filed (read Field50K (bytes "A\n-")) ≡ refused 23 0
+
+pub profile-needed : ProfileNeeded
+unfolding padded textOf said letter small digit alphanumeric signs legal narrowSigns narrow parseSwiftChars parseAccount upto onto starts lines withoutCr isNumbered secondSlash identifierReply parsePartyIdentifier parseLine parseLines parseNameAndAddress fourTexts partyOf accountHead afterHead read holdsBic isInside linesReply profileReply profiled nameLines writtenLines joined writtenBody writtenField pieces isLine areNames isGiven endsCr lastEmpty identified59F isEnd endsPage anyCr anyBoundary laterBoundary isCarried asked recordReply tagOf
+profile-needed = record { taken-59F = (refl, refl); refused-59F = refl; bare-59F = refl; cr = refl; empty = refl; colon = refl; hyphen = refl }
 
 -- ---- for C
 -- a lent record

@@ -8,7 +8,7 @@ use Rattle.profile.proofs.is_opening.Statement.{statement}
 use Rattle.profile.proofs.is_opening.Tie as tie
 
 returns : tie.Need-returns
-returns c = let a = c .before .args in rw (c .if1 .taken)
+returns c = rw (c .if1 .taken)
 
 returns-2 : tie.Need-returns-2
 returns-2 c = let a = c .before .before .args in sym (opening-none (a .n) (now (a .line)) (c .if2 .taken))
