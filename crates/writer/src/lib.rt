@@ -369,13 +369,9 @@ fn is_account_text(option: PartyOption, text: &[u8]) -> bool
     let limits = limits_of(option);
     let first = limits.first;
     match first {
-        First::NoAccount => is_plain_account(option, text),
         First::Identified => is_identifier(option, text),
-        First::Account => is_plain_account(option, text),
-        First::ShortAccount => is_plain_account(option, text),
-        First::SlashAccount => is_plain_account(option, text),
         First::AnyAccount => is_any_account(option, text),
-        First::WholeLine => is_plain_account(option, text),
+        _ => is_plain_account(option, text),
     }
 }
 
