@@ -29,12 +29,12 @@ ghost use Rattle.errors.specs.declared.Outcome.the-variants.{Accepted, Refused}
 ghost use Rattle.errors.specs.Refusals.{told};
 ghost use Rattle.party.specs.Limits.{limitsOf};
 ghost use Rattle.party.specs.Party.{blank as blankParty};
-ghost use Rattle.party.specs.declared.First.the-variants.{Identified, Account, ShortAccount};
+ghost use Rattle.party.specs.declared.First.the-variants.{Identified};
 ghost use Rattle.swift_utils.specs.Bytes.{all};
 ghost use Rattle.field_utils.specs.Lines.{lines};
 ghost use Rattle.reader.specs.Reading.{toldAnswer, partyOf};
 ghost use Rattle.reader.specs.Options.{isCounted, lengthReply, accountReply, slashHead, headBy, withNames, withBic, afterHead, byLines, bicOnly, textOnly, ascii, bodyReply, read as readOf};
-ghost use Rattle.reader.specs.Code.{toldHead, passedHead, nameless, readingOf};
+ghost use Rattle.reader.specs.Code.{toldHead, passedHead, hasAccount, accountBy, nameless, readingOf};
 
 // What a reader gives: accepted with the record, or refused with the blank record.
 pub struct Answer {
@@ -126,26 +126,28 @@ pub fn account_length(text: &[u8], option: PartyOption) -> Outcome
     parse_length(text, limits.shortest, limits.longest, 1)
 }
 
-// 50K: a first line with a slash is an account.
-fn account_head(line: &[u8], option: PartyOption) -> HeadAt
-    ensures { λ r. ⌜ toldHead (now (line .entry)) r ≡ headBy Account option (now (line .entry)) ⌝ }
+// Whether a first line has an account: it starts with a slash; in 59 and 59A it is not too long besides.
+fn has_account(line: &[u8], option: PartyOption, first: First) -> bool
+    ensures { λ r. ⌜ r ≡ hasAccount first option (now (line .entry)) ⌝ }
 {
     if !starts_with_slash(line) {
+        return false;
+    }
+    if let First::ShortAccount = first {
+        let limits = limits_of(option);
+        return behind(line, 1).len() <= limits.longest;
+    }
+    true
+}
+
+// 50K, 59, 59A: an account or none.
+fn account_head(line: &[u8], option: PartyOption, first: First) -> HeadAt
+    ensures { λ r. ⌜ toldHead (now (line .entry)) r ≡ accountBy first option (now (line .entry)) ⌝ }
+{
+    if !has_account(line, option, first) {
         return no_head();
     }
     head(account(behind(line, 1), option), 1)
-}
-
-// 59, 59A: the same, but one that is too long is none.
-fn short_account_head(line: &[u8], option: PartyOption) -> HeadAt
-    ensures { λ r. ⌜ toldHead (now (line .entry)) r ≡ headBy ShortAccount option (now (line .entry)) ⌝ }
-{
-    let limits = limits_of(option);
-    let text = behind(line, 1);
-    if limits.longest < text.len() {
-        return no_head();
-    }
-    account_head(line, option)
 }
 
 // A first line that must start with a slash, with what is said of the text after it.
@@ -168,11 +170,10 @@ fn parse_head(line: &[u8], option: PartyOption) -> HeadAt
     match first {
         First::NoAccount => no_head(),
         First::Identified => identifier_head(line, option),
-        First::Account => account_head(line, option),
-        First::ShortAccount => short_account_head(line, option),
         First::SlashAccount => slash_head(line, account(behind(line, 1), option)),
         First::AnyAccount => slash_head(line, account_length(behind(line, 1), option)),
         First::WholeLine => head(account(line, option), 0),
+        _ => account_head(line, option, first),
     }
 }
 

@@ -1,11 +1,12 @@
 -- `reader::parse_head` meets its contract, by what the first line is to the option. Assumes nothing.
-use mathlib.Core.Path.{_≡_, sym, _∙_, ap}
+use mathlib.Core.Path.{_≡_, refl, sym, _∙_, ap}
 use denote.Ref.{now}
 use Rattle.party.specs.declared.First.{First}
 use Rattle.party.specs.declared.Limits.{Limits}
 use Rattle.party.specs.Limits.{limitsOf}
 use Rattle.reader.specs.Code.{toldHead}
 use Rattle.reader.specs.Options.{lengthReply, accountReply, slashHead, head, headBy}
+use Rattle.reader.proofs.Heads.{by-first}
 use borrow.Author.Needs.{needs}
 use Rattle.reader.proofs.parse_head.Statement.{statement}
 use Rattle.reader.proofs.parse_head.Tie as tie
@@ -32,38 +33,30 @@ returns-2 c =
 
 returns-3 : tie.Need-returns-3
 returns-3 c =
-    let g = c .before .before .before in
-    let a = g .before .before .args in
-    c .account-head .ensures
-    ∙ by g (c .before .enum-told3 .given .1)
-
-returns-4 : tie.Need-returns-4
-returns-4 c =
-    let g = c .before .before .before in
-    let a = g .before .before .args in
-    c .short-account-head .ensures
-    ∙ by g (c .before .enum-told4 .given .1)
-
-returns-5 : tie.Need-returns-5
-returns-5 c =
     let g = c .before .before .before .before .before in
     let a = g .before .before .args in
     c .slash-head .ensures ∙ ap (slashHead (now (a .line))) (c .before .account .ensures ∙ ap (accountReply (a .option)) (c .before .before .behind .ensures))
-    ∙ by g (c .before .before .before .enum-told5 .given .1)
+    ∙ by g (c .before .before .before .enum-told3 .given .1)
 
-returns-6 : tie.Need-returns-6
-returns-6 c =
+returns-4 : tie.Need-returns-4
+returns-4 c =
     let g = c .before .before .before .before .before in
     let a = g .before .before .args in
     c .slash-head2 .ensures ∙ ap (slashHead (now (a .line))) (c .before .account-length .ensures ∙ ap (lengthReply (a .option)) (c .before .before .behind2 .ensures))
-    ∙ by g (c .before .before .before .enum-told6 .given .1)
+    ∙ by g (c .before .before .before .enum-told4 .given .1)
 
-returns-7 : tie.Need-returns-7
-returns-7 c =
+returns-5 : tie.Need-returns-5
+returns-5 c =
     let g = c .before .before .before .before in
     let a = g .before .before .args in
     ap (toldHead (now (a .line))) (c .head .ensures) ∙ ap (head (now (a .line))) (c .before .account2 .ensures)
-    ∙ by g (c .before .before .enum-told7 .given .1)
+    ∙ by g (c .before .before .enum-told5 .given .1)
+
+returns-6 : tie.Need-returns-6
+returns-6 c =
+    let g = c .before .before in
+    let a = g .before .before .args in
+    c .account-head .ensures ∙ by-first (g .limits-of .result .first) (a .option) (now (a .line)) (c .before .match .keys6) ∙ by g refl
 
 pub parse-head-spec : {M : Type 1} → statement M
 parse-head-spec =
@@ -76,10 +69,6 @@ parse-head-spec =
     (λ c κs. search needs)
     (λ c. search needs)
     (λ c κs. search needs)
-    (λ c. search needs)
-    (λ c κs. search needs)
-    (λ c. search needs)
-    (λ c κs. search needs)
     (λ c κs. search needs)
     (λ c κs. search needs)
     (λ c. search needs)
@@ -87,6 +76,7 @@ parse-head-spec =
     (λ c κs. search needs)
     (λ c κs. search needs)
     (λ c. search needs)
+    (λ c κs. search needs)
     (λ c κs. search needs)
     (λ c κs. search needs)
     returns
@@ -94,5 +84,4 @@ parse-head-spec =
     returns-3
     returns-4
     returns-5
-    returns-6
-    returns-7)
+    returns-6)
