@@ -36,7 +36,7 @@ extern "C" {
 
 /* The longest body that is read, the longest field that is written, and the longest page. */
 #define YEWDOME_LONGEST_BODY 2048
-#define YEWDOME_LONGEST_FIELD 188
+#define YEWDOME_LONGEST_FIELD 187
 #define YEWDOME_LONGEST_PAGE 32768
 
 /* The most entries of an index. */
@@ -150,7 +150,7 @@ uint32_t yewdome_party_parse_with_variant(uint8_t choice, const uint8_t *body, s
  * CR is a byte outside the set. What follows the last LF is a line where it is not empty.
  *
  * The record stored is the one that the function above stores. `yewdome_page_add` accepts it, space
- * allowing, but for 59F with an identifier, which is 23.
+ * allowing.
  */
 uint32_t yewdome_profile_read(uint8_t option, const uint8_t *body, size_t body_length,
                               uint8_t *record, size_t record_length);

@@ -22,7 +22,7 @@ use std::ops::Range;
 /// The most bytes that a page has.
 pub const LONGEST_PAGE: usize = 32_768;
 /// The most bytes that a written field has, with its tag.
-pub const LONGEST_FIELD: usize = 188;
+pub const LONGEST_FIELD: usize = 187;
 /// The most bytes of a body that is read.
 pub const LONGEST_BODY: usize = 2_048;
 /// The most entries of an index.

@@ -15,7 +15,7 @@
 //! the set.
 //!
 //! The value is the one that is read without the profile. [`pages::add`](crate::pages::add) accepts
-//! it, space allowing, but for 59F with an identifier, which is refused with 23.
+//! it, space allowing.
 //!
 //! [`Field50InstructingParty`]: crate::fields::Field50InstructingParty
 

@@ -2,7 +2,7 @@
 
 mod parties;
 
-use parties::{one_of_each, parsed, refused};
+use parties::{one_of_each, refused};
 use yewdome::fields::*;
 use yewdome::pages::*;
 use yewdome::Result;
@@ -35,7 +35,7 @@ fn of_50k(name: &str) -> Field50K {
 
 /// A value that no reader gives, 22, and one that a page cannot carry, 23.
 fn bad() -> [Party; 2] {
-    [of_50k("~").into(), parsed::<Field59F>("/1\n1/A").into()]
+    [of_50k("~").into(), of_50k("A\r").into()]
 }
 
 /// The entry of the field that a read at a position meets, read or refused.

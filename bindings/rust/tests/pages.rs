@@ -247,7 +247,7 @@ fn refusals_of_an_add() {
     let unlike: Field50K = parsed("-}\n-}A");
     assert_eq!(add(&unlike, &mut buffer.clone(), 0), Ok(b":50K:-}\n-}A\n".len()));
     let with_identifier: Field59F = parsed("/1\n1/A");
-    assert_eq!(refused_add(&with_identifier, &mut buffer, 0), 23);
+    assert_eq!(add(&with_identifier, &mut buffer.clone(), 0), Ok(b":59F:/1\n1/A\n".len()));
     assert_eq!(refused_add(&good, &mut buffer[..field.len() + 1], 0), 24);
     assert_eq!(refused_add(&good, &mut [], 0), 24);
     assert_eq!(add(&good, &mut buffer[..field.len() + 2], 0), Ok(field.len()));
@@ -385,7 +385,7 @@ fn a_page_is_filed_as_by_hand() {
 
 #[test]
 fn what_filing_refuses() {
-    let page = b"junk\n:59F:/1\n1/A\n:50C:BNPAFRPP\n-\n";
+    let page = b"junk\n:50K:A\n\n\n:50C:BNPAFRPP\n-\n";
     let mut buffer = [STALE; 64];
     let filing = file(page, &mut buffer);
     assert_eq!(numbers(&filing.answers), [16, 23, 0, 255]);

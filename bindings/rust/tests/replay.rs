@@ -145,6 +145,7 @@ fn expected(case: &Case) -> (&'static str, Answer) {
         return ("13", Err((13, 0)));
     }
     let rust = case.rust.clone().expect("the Rust panics at bytes above 127 alone");
+    let rust = rust.map(|(party, written)| (party.clone(), without_empty_line(&party, written)));
     match (illegal_account(&case.body), way_to_50h(case)) {
         (Some(account), Way::Asked) => {
             assert_eq!(rust, Err((3, 1)), "{}", case.row);
@@ -158,6 +159,19 @@ fn expected(case: &Case) -> (&'static str, Answer) {
             }
         }
         _ => ("Rust", rust),
+    }
+}
+
+/// The Rust's text as ours is: in 59F with an identifier it has an empty line after that, and that
+/// one LF is removed.
+fn without_empty_line(party: &Party, written: String) -> String {
+    match party {
+        Party::Field59F(Field59F { party_identifier: Some(identifier), .. }) => {
+            let line = format!(":59F:/{identifier}\n");
+            let rest = written.strip_prefix(&line).and_then(|rest| rest.strip_prefix('\n'));
+            line + rest.expect("the Rust writes an empty line")
+        }
+        _ => written,
     }
 }
 
@@ -229,20 +243,24 @@ fn every_case_is_read_as_expected() {
 
 #[test]
 fn every_record_is_written_as_expected() {
-    let (mut as_the_rust, mut refused) = (0, 0);
+    let (mut as_the_rust, mut less, mut refused) = (0, 0, 0);
     for case in cases() {
         let Some(Ok((party, written))) = case.rust else {
             continue;
         };
         let ours = party.to_swift_string().map_err(told);
         assert_eq!(measure(&party).map_err(told), ours.as_ref().map(String::len).map_err(|it| *it));
-        if written.is_ascii() {
-            assert_eq!(ours, Ok(written), "{}", case.row);
-            as_the_rust += 1;
-        } else {
+        if !written.is_ascii() {
             assert_eq!(ours, Err((22, 0)), "{}", case.row);
             refused += 1;
+            continue;
         }
+        let due = without_empty_line(&party, written.clone());
+        match written.len() - due.len() {
+            0 => as_the_rust += 1,
+            _ => less += 1,
+        }
+        assert_eq!(ours, Ok(due), "{}", case.row);
     }
-    assert_eq!((as_the_rust, refused), (2690, 40));
+    assert_eq!((as_the_rust, less, refused), (2622, 68, 40));
 }

@@ -37,11 +37,12 @@ fn values_at_the_limits_are_written() {
 fn the_longest_field_is_written() {
     let identifier = format!("AB/{}", "1".repeat(34));
     let names: Vec<String> = (1..=4).map(|n| format!("{n}/{}", "A".repeat(33))).collect();
-    let due = format!(":59F:/{identifier}\n\n{}", names.join("\n"));
+    let due = format!(":59F:/{identifier}\n{}", names.join("\n"));
     assert_eq!(due.len(), LONGEST_FIELD);
     let field = Field59F { party_identifier: Some(identifier), name_and_address: names };
     assert_eq!(measure(&field), Ok(LONGEST_FIELD));
-    assert_eq!(field.to_swift_string(), Ok(due));
+    assert_eq!(field.to_swift_string().as_deref(), Ok(&*due));
+    assert_eq!(Field59F::parse(&due[":59F:".len()..]), Ok(field));
 }
 
 #[test]

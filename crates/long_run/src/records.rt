@@ -42,6 +42,16 @@ fn text(k: usize, turn: usize) -> Text {
     }
 }
 
+// The first name, which ends in CR where the record is to be refused with 23.
+fn first_name(k: usize) -> Text {
+    let mut t = text(k, 1);
+    if answer_to(k) == 23 {
+        t.bytes[4] = b'\r';
+        t.len = 5;
+    }
+    t
+}
+
 fn bic(k: usize) -> Text {
     let mut t = text_of(b"DEUTDE00XXX");
     t.bytes[6] = digit(k / 10);
@@ -75,17 +85,17 @@ pub(crate) fn record(k: usize) -> Party {
         account: if present { text(k, 0) } else { text_of(b"") },
         bic: bic(k),
         count: count(k),
-        name_and_address: [text(k, 1), text(k, 2), text(k, 3), text(k, 4)],
+        name_and_address: [first_name(k), text(k, 2), text(k, 3), text(k, 4)],
     }
 }
 
-// What adding the record answers where there is space: 22 for every thirteenth, which has five names, 23 for a 59F with an identifier, else
-// 0, accepted.
+// What adding the record answers where there is space: 22 for every thirteenth, which has five names, 23 for a 59 with an account, whose
+// first name ends in CR, else 0, accepted.
 pub(crate) fn answer_to(k: usize) -> u8 {
     if k % 13 == 5 {
         return 22;
     }
-    if k % 11 == 10 && is_present(k) { 23 } else { 0 }
+    if k % 11 == 8 && is_present(k) { 23 } else { 0 }
 }
 
 // The same at a position of a page of 32,768 bytes: 24 where the field, its LF and the end do not fit, by what measuring says. A record that

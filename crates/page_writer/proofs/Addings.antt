@@ -1,16 +1,14 @@
 -- Adding and closing by their cases, and the field of a record written out. Assumes nothing.
 use mathlib.Core.Path.{_≡_, refl, sym, _∙_, ap}
-use mathlib.Core.Bool.{Bool, true, false, not, _&&_, and-false, and-true}
+use mathlib.Core.Bool.{Bool, true, false}
 use mathlib.Core.List.{List, [], _∷_, _++_}
 use Prim.Native.Nat.{ℕ, _+_, _-_, _≤_, _<_, min}
 use native.Mathlib.Omega.{arith}
-use lib.Dec.{eqb}
 use lib.ListN.{length, take, drop, set, length-append, length-drop}
 use lib.Seq.{take-at, drop-append-seam}
 use borrow.Author.Tests.{leb-true}
 use Rattle.errors.specs.Refusals.{Reply, accepted, refused, must, _then_}
 use Rattle.errors.proofs.Replies.{must-held, then-first, then-second}
-use Rattle.party.specs.declared.PartyOption.the-variants.{Field59F}
 use Rattle.party.specs.declared.Party.{Party}
 use Rattle.party.specs.Limits.{placeOf}
 use Rattle.party.specs.Party.{Said, said}
@@ -19,7 +17,6 @@ use Rattle.writer.specs.Writing.{writtenBody, writtenField, pieces, placed, fie
 use Rattle.writer.specs.Given.{isGiven}
 use Rattle.writer.specs.Placing.{Measured, lengthIs, refusedWith, Placing, measure, place}
 use Rattle.writer.specs.Code.{Puts}
-use Rattle.writer.specs.ReadBack.{identified59F}
 use Rattle.writer.proofs.Theorems.{given-exact, written-most, measure-and-place}
 use Rattle.writer.proofs.Pairs.{measure-22, measured, unmeasured}
 use Rattle.writer.proofs.Puts.{puts-byte, space, both, placed-here}
@@ -133,15 +130,6 @@ pub asked-by : (s : Said) {t : Bool} → isGiven s ≡ true → isCarried s ≡ 
 unfolding asked
 asked-by s g c = rw (g, c)
 
--- ---- 59F with an identifier
-pub not-identified : (p : Party) → p .present ≡ false → identified59F (said p) ≡ false
-unfolding identified59F said
-not-identified p e = rw e (and-false (eqb (placeOf (p .option)) (placeOf Field59F)))
-
-pub identified-is : (p : Party) → p .present ≡ true → identified59F (said p) ≡ eqb (placeOf (p .option)) (placeOf Field59F)
-unfolding identified59F said
-identified-is p e = rw e (and-true (eqb (placeOf (p .option)) (placeOf Field59F)))
-
 -- ---- the parts of a field that is written out
 pub tag-within : (p : Party) → length (tagOf (p .option)) ≤ length (writtenField (said p))
 unfolding writtenField said
@@ -152,19 +140,17 @@ unfolding writtenField said
 field-body p e = ap (drop (length (tagOf (p .option)))) e ∙ drop-append-seam (tagOf (p .option)) (writtenBody (said p))
 
 -- a field that is filed, by whether it is carried
-pub field-by : (buffer : List ℕ) (at : ℕ) (field : List ℕ) (start : ℕ) (identified free : Bool) {t : Bool} → (linesCarried (pieces (drop start field)) && not identified) ≡ t
-    → fieldCall buffer at field start identified free ≡ putting (must t 23 0 then lineReply (length buffer) at field 2 free) buffer at (withLf field)
-field-by buffer at field start identified free e = ap (λ (t : Bool). putting (must t 23 0 then lineReply (length buffer) at field 2 free) buffer at (withLf field)) e
+pub field-by : (buffer : List ℕ) (at : ℕ) (field : List ℕ) (start : ℕ) (free : Bool) {t : Bool} → linesCarried (pieces (drop start field)) ≡ t
+    → fieldCall buffer at field start free ≡ putting (must t 23 0 then lineReply (length buffer) at field 2 free) buffer at (withLf field)
+field-by buffer at field start free e = ap (λ (t : Bool). putting (must t 23 0 then lineReply (length buffer) at field 2 free) buffer at (withLf field)) e
 
 -- a record's, as it is added
-pub field-is : (p : Party) (buffer : List ℕ) (at : ℕ) (b : Beside) {field : List ℕ} {start : ℕ} {identified : Bool} → isGiven (said p) ≡ true → writable buffer at ≡ true
-    → field ≡ writtenField (said p) → start ≡ length (tagOf (p .option)) → identified ≡ identified59F (said p)
-    → fieldCall buffer at field start identified (freeBeside b) ≡ add buffer at b (said p)
+pub field-is : (p : Party) (buffer : List ℕ) (at : ℕ) (b : Beside) {field : List ℕ} {start : ℕ} → isGiven (said p) ≡ true → writable buffer at ≡ true
+    → field ≡ writtenField (said p) → start ≡ length (tagOf (p .option)) → fieldCall buffer at field start (freeBeside b) ≡ add buffer at b (said p)
 unfolding isCarried
-field-is p buffer at b g w f s i =
-    (λ j. fieldCall buffer at (f j) (s j) (i j) (freeBeside b))
-    ∙ field-by buffer at (writtenField (said p)) (length (tagOf (p .option))) (identified59F (said p)) (freeBeside b)
-    (ap (λ (l : List ℕ). linesCarried (pieces l) && not (identified59F (said p))) (field-body p refl))
+field-is p buffer at b g w f s =
+    (λ j. fieldCall buffer at (f j) (s j) (freeBeside b))
+    ∙ field-by buffer at (writtenField (said p)) (length (tagOf (p .option))) (freeBeside b) (ap (λ (l : List ℕ). linesCarried (pieces l)) (field-body p refl))
     ∙ sym (add-asked buffer at b (said p) w (asked-by (said p) g refl))
 
 -- ---- a record placed in a room for it

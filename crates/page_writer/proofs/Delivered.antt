@@ -23,7 +23,7 @@ use Rattle.field_utils.proofs.Tests.{first-not, rest-not, both, both-left, both
 use Rattle.reader.specs.Reading.{Reading, Found, giving, partyOf}
 use Rattle.reader.specs.Options.{accountReply, ascii, byLines, foundBy, read, bodyMost}
 use Rattle.reader.proofs.Bodies.{body-passed}
-use Rattle.writer.specs.Writing.{joined, writtenBody, writtenField, pieces}
+use Rattle.writer.specs.Writing.{joined, writtenBody, writtenField, fieldMost, pieces}
 use Rattle.writer.specs.ReadBack.{endsCr, earlierCr}
 use Rattle.writer.proofs.Relined.{All, lines-at, cr-kept, cr-front, cr-added, cr-line}
 use Rattle.writer.proofs.Sufficient.{body-fits}
@@ -181,7 +181,7 @@ module _ (p : Party) where
     unfolding writtenField said
     sent-read =
         let g = given-exact p .yes (h .given) in
-        let n : length body ≤ 188 = omega (arith, written-most p g, length-append (tagOf o) body) in
+        let n : length body ≤ fieldMost = omega (arith, written-most p g, length-append (tagOf o) body) in
         read-crlf o body (reading-back p g .yes (carried-back (said p) (h .carried)) .accepts) (carried-earlier (said p) (h .carried)) (omega (arith, crlf-length body, n))
 
     sent-gives : (r : PageRead) → Gives r (sent p) → Gives r (kept p)

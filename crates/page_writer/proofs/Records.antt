@@ -17,13 +17,13 @@ use Rattle.field_utils.specs.Tags.{tagOf}
 use Rattle.field_utils.proofs.Tests.{both-left, both-right, either-left, either-right, Line}
 use Rattle.writer.specs.Writing.{joined, writtenBody, writtenField, pieces}
 use Rattle.writer.specs.Given.{Given}
-use Rattle.writer.specs.ReadBack.{endsCr, lastEmpty, earlierCr, identified59F, isReadBack}
+use Rattle.writer.specs.ReadBack.{endsCr, lastEmpty, earlierCr, isReadBack}
 use Rattle.writer.proofs.Relined.{cr-kept, cr-front, ends-after}
 use Rattle.writer.proofs.Theorems.{reading-back}
 use Rattle.page_reader.specs.Pages.{opens, begins, Tagged, tagged, tagIn, ReadOutcome, aRecord, aRefusal, PageRead, outcomeOf, readTagged, readField}
 use Rattle.page_reader.proofs.Cases.{field-next}
 use Rattle.page_reader.specs.Index.{aField, taggedAs}
-use Rattle.page_writer.specs.Adding.{anyCr, anyBoundary, laterBoundary, linesCarried, isCarried, entryFor}
+use Rattle.page_writer.specs.Adding.{anyCr, anyBoundary, laterBoundary, isCarried, entryFor}
 use Rattle.page_writer.specs.WholePage.{kept, new, readNew, Gives}
 use Rattle.page_writer.proofs.Pieces.{pieces-of}
 use Rattle.page_writer.proofs.Structure.{Lined, Sound}
@@ -112,15 +112,13 @@ module _ (s : Said) where
   abbrev ls : List (List ℕ)
   ls = pieces body
 
-  carried-lines : isCarried s ≡ true → linesCarried ls ≡ true
-  unfolding isCarried
-  carried-lines e = both-left (linesCarried ls) (not (identified59F s)) e
-
   pub carried-bounded : isCarried s ≡ true → laterBoundary ls ≡ false
-  carried-bounded e = not-true _ (both-right (not (anyCr ls) && not (lastEmpty ls)) (not (laterBoundary ls)) (carried-lines e))
+  unfolding isCarried
+  carried-bounded e = not-true _ (both-right (not (anyCr ls) && not (lastEmpty ls)) (not (laterBoundary ls)) e)
 
   pub carried-any : isCarried s ≡ true → anyCr ls ≡ false
-  carried-any e = not-true _ (both-left (not (anyCr ls)) (not (lastEmpty ls)) (both-left (not (anyCr ls) && not (lastEmpty ls)) (not (laterBoundary ls)) (carried-lines e)))
+  unfolding isCarried
+  carried-any e = not-true _ (both-left (not (anyCr ls)) (not (lastEmpty ls)) (both-left (not (anyCr ls) && not (lastEmpty ls)) (not (laterBoundary ls)) e))
 
   pub carried-earlier : isCarried s ≡ true → earlierCr ls ≡ false
   carried-earlier e = either-left (earlierCr ls) (endsCr body) (sym (any-body body) ∙ carried-any e)
@@ -133,7 +131,7 @@ module _ (s : Said) where
   unfolding isCarried isReadBack
   carried-is m c = rw (any-body body, m, c) (go (earlierCr ls) (lastEmpty ls))
     where
-      go : (a b : Bool) → (not (a || false) && not b && true && not (identified59F s)) ≡ (not b && not a && not (identified59F s))
+      go : (a b : Bool) → (not (a || false) && not b && true) ≡ (not b && not a)
       go true true = refl
       go true false = refl
       go false true = refl

@@ -12,11 +12,10 @@ use borrow.Author.Tests.{le-leb, leb-true, leb-false}
 use Rattle.errors.specs.Refusals.{accepted, must, _then_}
 use Rattle.party.specs.declared.Party.{Party}
 use Rattle.party.specs.Party.{said}
-use Rattle.writer.specs.Writing.{writtenField, put}
+use Rattle.writer.specs.Writing.{writtenField, put, identified59F}
 use Rattle.writer.specs.Given.{Given}
 use Rattle.writer.proofs.Relined.{All}
-use Rattle.writer.proofs.Back.{not-identified}
-use Rattle.writer.proofs.Theorems.{given-exact, necessary, written-less}
+use Rattle.writer.proofs.Theorems.{given-exact, necessary, written-most, written-less}
 use Rattle.writer.proofs.Puts.{put-length, put-take, put-drop}
 use Rattle.page_reader.specs.Pages.{pageMost, theEnd, aRefusal}
 use Rattle.page_writer.specs.Beside.{Beside, noIndex, anIndex, isIndexed}
@@ -24,10 +23,10 @@ use Rattle.page_writer.specs.Adding.{isCarried, hasSpace, withLf, endLin
 use Rattle.page_writer.specs.Fold.{Run, run, acceptedOf}
 use Rattle.page_writer.specs.WholePage.{OpenPage, addStep, isAccepted, Model, Field, kept, new, pageOf, ReadsAs, Alone, Overwrites}
 use Rattle.page_writer.specs.Indexed.{IsEmpty, IndexedBeside}
-use Rattle.page_writer.specs.Demand3.{adds, model, acceptedAdds, closing, page, OpenReads, ClosedPage, WholePage}
+use Rattle.page_writer.specs.Demand3.{adds, model, acceptedAdds, closing, page, identifiedIn, OpenReads, ClosedPage, WholePage}
 use Rattle.page_writer.specs.Delivered.{DeliveredPage}
 use Rattle.page_writer.proofs.Structure.{Sound, page-tail, nothing, ending, reads}
-use Rattle.page_writer.proofs.Records.{carried-back, new-sound}
+use Rattle.page_writer.proofs.Records.{new-sound}
 use Rattle.page_writer.proofs.Alone.{alone-exact}
 use Rattle.page_writer.proofs.Addings.{position≢refusal, close-by}
 use Rattle.page_writer.proofs.Fold.{run-append}
@@ -46,13 +45,28 @@ overwritten-sound (p ∷ ps) h [] o = absurd o
 overwritten-sound (p ∷ ps) h (kept q ∷ fs) o = (subst (λ (x : Party). Sound (kept x)) (sym (o .0)) (fit-sound p (h .0)), overwritten-sound ps (h .1) fs (o .1))
 overwritten-sound (p ∷ ps) h (new bytes ∷ fs) o = (new-sound bytes (o .0), overwritten-sound ps (h .1) fs (o .1))
 
-fields-most : (ps : List Party) → All Fit ps → length (fieldsOf ps) ≤ 185 * length ps
-unfolding pageOf
+-- a field and its LF have 185 bytes, and three more in 59F with an identifier
+fields-most : (ps : List Party) → All Fit ps → length (fieldsOf ps) ≤ 185 * length ps + 3 * identifiedIn ps
+unfolding pageOf identifiedIn
 fields-most [] h = omega arith
-fields-most (p ∷ ps) h =
-    let g = given-exact p .yes (h .0 .given) in
-    let n = written-less p g (not-identified (said p) (carried-back (said p) (h .0 .carried))) in
-    omega (arith, n, fields-most ps (h .1), length-append (withLf (writtenField (said p))) (fieldsOf ps), length-append (writtenField (said p)) (10 ∷ []))
+fields-most (p ∷ ps) h = go (identified59F (said p)) refl (given-exact p .yes (h .0 .given)) (fields-most ps (h .1))
+  where
+    n : length (fieldsOf (p ∷ ps)) ≡ length (writtenField (said p)) + 1 + length (fieldsOf ps)
+    n = omega (arith, length-append (withLf (writtenField (said p))) (fieldsOf ps), length-append (writtenField (said p)) (10 ∷ []))
+
+    go : (t : Bool) → identified59F (said p) ≡ t → Given p → length (fieldsOf ps) ≤ 185 * length ps + 3 * identifiedIn ps
+        → length (fieldsOf (p ∷ ps)) ≤ 185 * length (p ∷ ps) + 3 * identifiedIn (p ∷ ps)
+    go true e g m = rw (e, identifiedIn) (omega (arith, n, m, written-most p g))
+    go false e g m = rw (e, identifiedIn) (omega (arith, n, m, written-less p g e))
+
+identified-few : (ps : List Party) → identifiedIn ps ≤ length ps
+unfolding identifiedIn
+identified-few [] = omega arith
+identified-few (p ∷ ps) = go (identified59F (said p)) refl (identified-few ps)
+  where
+    go : (t : Bool) → identified59F (said p) ≡ t → identifiedIn ps ≤ length ps → identifiedIn (p ∷ ps) ≤ length (p ∷ ps)
+    go true e m = rw (e, identifiedIn) (omega arith)
+    go false e m = rw (e, identifiedIn) (omega arith)
 
 -- ---- after the adds from an empty page
 start-noted : (b : Beside) → IsEmpty b → Noted b []
@@ -171,7 +185,8 @@ module _ (b : Beside) (empty : IsEmpty b) (ps : List Party) (buffer : List ℕ) 
             ∙ ap (λ (x : ℕ). drop x buffer) (sym (d .position));
         indexed = subst (λ (x : List ℕ). IndexedBeside (s .index) x list) (sym q) (indexed-beside (ending []) list all-fit within (s .index) beside);
         most = omega (arith, w, d .space);
-        bound = omega (arith, w, d .position, ends-at, fields-most list all-fit);
+        bound-all = omega (arith, w, d .position, ends-at, fields-most list all-fit, identified-few list);
+        bound = λ z. omega (arith, w, d .position, ends-at, fields-most list all-fit, z);
       }
 
   -- a refused one changes nothing

@@ -10,7 +10,7 @@ use Rattle.party.specs.Limits.{placeOf}
 use Rattle.swift_utils.specs.Bytes.{bytes}
 use Rattle.writer.specs.Writing.{writtenBody, writtenField, pieces, put}
 use Rattle.writer.specs.Given.{isGiven}
-use Rattle.writer.specs.ReadBack.{endsCr, lastEmpty, identified59F}
+use Rattle.writer.specs.ReadBack.{endsCr, lastEmpty}
 use Rattle.page_reader.specs.Pages.{pageMost, opens, endsPage, startsLine}
 use Rattle.page_reader.specs.Index.{Entry}
 use Rattle.page_writer.specs.Beside.{Beside, isIndexed, entriesBeside, isFree, noting}
@@ -36,9 +36,9 @@ laterBoundary (l ∷ ls) = anyBoundary ls
 abbrev pub linesCarried : List (List ℕ) → Bool
 linesCarried ls = not (anyCr ls) && not (lastEmpty ls) && not (laterBoundary ls)
 
--- a record that a page can carry, else 23 (document 02, One): its written lines are such, and it is no 59F with identifier
+-- a record that a page can carry, else 23 (document 02, One and Six): its written lines are such
 unfoldable pub isCarried : Said → Bool
-isCarried s = linesCarried (pieces (writtenBody s)) && not (identified59F s)
+isCarried s = linesCarried (pieces (writtenBody s))
 
 -- a position to write at, else 21: within the buffer, and 0 or after an LF
 unfoldable pub writable : List ℕ → ℕ → Bool

@@ -1,7 +1,7 @@
 -- The working forms of the private functions of page_writer.
 use Prim.Native.Nat.{ℕ, _+_, _≤_, _<_}
 use mathlib.Core.Path.{_≡_}
-use mathlib.Core.Bool.{Bool, not, _&&_}
+use mathlib.Core.Bool.{Bool}
 use mathlib.Core.List.{List}
 use lib.ListN.{length, take, drop}
 use Rattle.errors.specs.Refusals.{Reply, must, _then_, refusalOf}
@@ -22,19 +22,19 @@ lineReply len at text spare free = must (hasSpace len (at + length (withLf text)
 abbrev pub lineCall : List ℕ → ℕ → List ℕ → ℕ → Bool → Call
 lineCall buffer at text spare free = putting (lineReply (length buffer) at text spare free) buffer at (withLf text)
 
--- a field put at a position, by where its body starts and whether it is a 59F with an identifier: 23, 24, 31
-abbrev pub fieldCall : List ℕ → ℕ → List ℕ → ℕ → Bool → Bool → Call
-fieldCall buffer at field start identified free =
-    putting (must (linesCarried (pieces (drop start field)) && not identified) 23 0 then lineReply (length buffer) at field 2 free) buffer at (withLf field)
+-- a field put at a position, by where its body starts: 23, 24, 31
+abbrev pub fieldCall : List ℕ → ℕ → List ℕ → ℕ → Bool → Call
+fieldCall buffer at field start free =
+    putting (must (linesCarried (pieces (drop start field))) 23 0 then lineReply (length buffer) at field 2 free) buffer at (withLf field)
 
 -- what is held of a record, put at a position, or its refusal
 abbrev pub heldCall : List ℕ → ℕ → Held → List ℕ → Bool → Call
-heldCall buffer at (Field n start identified) room free = fieldCall buffer at (take n room) start identified free
+heldCall buffer at (Field n start) room free = fieldCall buffer at (take n room) start free
 heldCall buffer at (Refused e) room free = record { answer = refusal (refusalOf e .number) (refusalOf e .line); buffer = buffer }
 
 -- a field that is held is a part of the room, and its body a part of it
 abbrev pub Fits : Held → List ℕ → Type 0
-Fits (Field n start identified) room = (start ≤ n) × (n ≤ length room) × (n ≤ fieldMost)
+Fits (Field n start) room = (start ≤ n) × (n ≤ length room) × (n ≤ fieldMost)
 Fits (Refused e) room = Unit {0}
 
 -- filing what is held gives what adding the record gives

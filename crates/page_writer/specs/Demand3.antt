@@ -3,15 +3,15 @@
 -- `page_reader::read_at` and `page_reader::index::look_up` are equations with `add`, `addIndex`, `close`, `readAt` and `lookUp`, so that it
 -- speaks of what runs. The theorems are in proofs/Theorems.antt, of a `b : Beside` that is empty (`IsEmpty b`), `ps : List Party` and
 -- `buffer : List ℕ`: `whole-page` is `WholePage b ps buffer`, and `open-page` is `OpenReads (adds b ps buffer .state) (acceptedAdds b ps buffer)`.
-use Prim.Native.Nat.{ℕ, _+_, _*_, _≤_, _<_}
+use Prim.Native.Nat.{ℕ, suc, _+_, _*_, _≤_, _<_}
 use mathlib.Core.Path.{_≡_}
-use mathlib.Core.Bool.{true}
+use mathlib.Core.Bool.{true, false}
 use mathlib.Core.List.{List, [], _∷_, _++_, map}
 use mathlib.Core.Logic.{_⊎_}
 use lib.ListN.{length, take, drop}
 use Rattle.party.specs.declared.Party.{Party}
 use Rattle.party.specs.Party.{said}
-use Rattle.writer.specs.Writing.{writtenField}
+use Rattle.writer.specs.Writing.{writtenField, fieldMost, identified59F}
 use Rattle.writer.specs.Given.{Given}
 use Rattle.page_reader.specs.Pages.{pageMost, theEnd, aRefusal}
 use Rattle.page_writer.specs.Beside.{Beside, isIndexed}
@@ -40,6 +40,11 @@ closing b ps buffer = close (adds b ps buffer .state .buffer) (adds b ps buffer 
 abbrev pub page : Beside → List Party → List ℕ → ℕ → List ℕ
 page b ps buffer to = take to (closing b ps buffer .buffer)
 
+-- how many of these are 59F with an identifier (document 02, Six, 'this form')
+unfoldable pub identifiedIn : List Party → ℕ
+identifiedIn [] = 0
+identifiedIn (p ∷ ps) = elim (identified59F (said p)) [ true ↦ suc (identifiedIn ps) | false ↦ identifiedIn ps ]
+
 -- an open page, the bytes before its position, is the fields of a list; reading it gives the list's records and then 17, at its length; and
 -- its index, if one is kept, is that of these fields
 pub record OpenReads (s : OpenPage) (list : List Party) : Type 0 where
@@ -56,9 +61,10 @@ pub record ClosedPage (b : Beside) (ps : List Party) (buffer : List ℕ) (to : �
   pub after : drop to (closing b ps buffer .buffer) ≡ drop to buffer
   -- the index, if one is kept, is that of its fields
   pub indexed : IndexedBeside (adds b ps buffer .state .index) (page b ps buffer to) (acceptedAdds b ps buffer)
-  -- it has at most 32,768 bytes, and at most 185 a field and 2
+  -- it has at most 32,768 bytes, and at most 188 a field and 2, the longest field and its LF; without a 59F that has an identifier, 185
   pub most : length (page b ps buffer to) ≤ pageMost
-  pub bound : length (page b ps buffer to) ≤ 185 * length (acceptedAdds b ps buffer) + 2
+  pub bound-all : length (page b ps buffer to) ≤ (fieldMost + 1) * length (acceptedAdds b ps buffer) + 2
+  pub bound : identifiedIn (acceptedAdds b ps buffer) ≡ 0 → length (page b ps buffer to) ≤ 185 * length (acceptedAdds b ps buffer) + 2
 
 pub record WholePage (b : Beside) (ps : List Party) (buffer : List ℕ) : Type 0 where
   -- what holds of the open page, and of the closed one

@@ -23,7 +23,7 @@ ghost use Rattle.party.specs.Party.{said};
 ghost use Rattle.party.specs.Limits.{placeOf};
 ghost use Rattle.writer.specs.Writing.{pieces, fieldMost};
 ghost use Rattle.writer.specs.Code.{Puts};
-ghost use Rattle.writer.specs.ReadBack.{endsCr, identified59F};
+ghost use Rattle.writer.specs.ReadBack.{endsCr};
 ghost use Rattle.page_reader.specs.Pages.{pageMost};
 ghost use Rattle.page_writer.specs.Beside.{noIndex, anIndex, noted};
 ghost use Rattle.page_writer.specs.Adding.{linesCarried, writable, hasSpace, withLf, add as addTo, addIndex, close as closeAt, toldCall};
@@ -103,17 +103,6 @@ fn are_carried(field: &[u8], start: usize) -> bool
     }
 }
 
-// Whether a record is a 59F with an identifier.
-fn is_identified_59f(p: Party) -> bool
-    ensures { λ r. ⌜ r ≡ identified59F (said p) ⌝ }
-{
-    if !p.present {
-        return false;
-    }
-    let option = p.option;
-    index_of(option) == index_of(PartyOption::Field59F)
-}
-
 // Puts a text and an LF into the buffer at a position, and gives the position after them.
 fn put_line(buf: &mut [u8], at: usize, text: &[u8]) -> usize
     requires { ⌜ at + length (now text) < length (now buf) ⌝ }
@@ -140,54 +129,34 @@ fn file_line(buf: &mut [u8], at: usize, text: &[u8], spare: usize, free: bool) -
     Filed::Position(end)
 }
 
-// What an add holds of a record: its field in a room, by its length, where its body starts and whether it is a 59F with an identifier; or
-// the refusal: 21, 22.
+// What an add holds of a record: its field in a room, by its length and where its body starts; or the refusal: 21, 22.
 enum Held {
-    Field {
-        len: usize,
-        start: usize,
-        identified: bool,
-    },
+    Field { len: usize, start: usize },
     Refused(ParseError),
 }
 
-// Places in a room the field of a record that is to be added at a position, to see the lines as they would stand. What else is asked of
-// the record is taken first, since placing takes it by value.
+// Places in a room the field of a record that is to be added at a position, to see the lines as they would stand. The tag's length is
+// taken first, since placing takes the record by value.
 fn hold(p: Party, buf: &[u8], at: usize, room: &mut [u8]) -> Held
     requires { ⌜ length (now room) ≡ fieldMost ⌝ }
     ensures { λ r. ⌜ Holds (now (buf .entry)) at (said p) r (now (room .exit)) ⌝ }
 {
     let option = p.option;
     let start = tag_length(option);
-    let identified = is_identified_59f(p);
     if !is_writable(buf, at) {
         return Held::Refused(ParseError::Position);
     }
     match place(p, room) {
-        Measured::Length(len) => Held::Field {
-            len,
-            start,
-            identified,
-        },
+        Measured::Length(len) => Held::Field { len, start },
         Measured::Refused(e) => Held::Refused(e),
     }
 }
 
-// Files a field at a position, by where its body starts and whether it is a 59F with an identifier: 23, 24, 31.
-fn file_field(
-    buf: &mut [u8],
-    at: usize,
-    field: &[u8],
-    start: usize,
-    identified: bool,
-    free: bool,
-) -> Filed
+// Files a field at a position, by where its body starts: 23, 24, 31.
+fn file_field(buf: &mut [u8], at: usize, field: &[u8], start: usize, free: bool) -> Filed
     requires { ⌜ (start ≤ length (now field)) × (length (now field) ≤ fieldMost) ⌝ }
-    ensures { λ r. ⌜ toldCall r (now (buf .exit)) ≡ fieldCall (now (buf .entry)) at (now (field .entry)) start identified free ⌝ }
+    ensures { λ r. ⌜ toldCall r (now (buf .exit)) ≡ fieldCall (now (buf .entry)) at (now (field .entry)) start free ⌝ }
 {
-    if identified {
-        return Filed::Refused(ParseError::NotCarried);
-    }
     if !are_carried(field, start) {
         return Filed::Refused(ParseError::NotCarried);
     }
@@ -200,11 +169,7 @@ fn file_held(buf: &mut [u8], at: usize, held: Held, room: &[u8], free: bool) -> 
     ensures { λ r. ⌜ toldCall r (now (buf .exit)) ≡ heldCall (now (buf .entry)) at held (now (room .entry)) free ⌝ }
 {
     match held {
-        Held::Field {
-            len,
-            start,
-            identified,
-        } => file_field(buf, at, &room[..len], start, identified, free),
+        Held::Field { len, start } => file_field(buf, at, &room[..len], start, free),
         Held::Refused(e) => Filed::Refused(e),
     }
 }

@@ -2,27 +2,30 @@
 use mathlib.Core.Path.{_≡_, refl}
 use mathlib.Core.Bool.{true, false}
 use mathlib.Core.List.{List, [], _∷_, _++_}
-use Prim.Native.Nat.{ℕ}
-use lib.ListN.{replicate}
+use Prim.Native.Nat.{ℕ, _+_, _*_}
+use lib.Dec.{ltb}
+use lib.ListN.{length, replicate}
 use Rattle.errors.specs.Refusals.{accepted, refused}
-use Rattle.party.specs.declared.PartyOption.the-variants.{Field50K}
+use Rattle.party.specs.declared.PartyOption.the-variants.{Field50K, Field59F}
 use Rattle.party.specs.declared.Party.{Party}
 use Rattle.party.specs.Text.{padded, textOf, fourTexts}
 use Rattle.party.specs.Party.{said}
 use Rattle.swift_utils.specs.Bytes.{bytes, letter, digit, alphanumeric, signs, legal}
 use Rattle.swift_utils.specs.Checks.{parseSwiftChars, parseAccount}
 use Rattle.field_utils.specs.Lines.{upto, onto, starts, withoutCr}
+use Rattle.field_utils.specs.Identifier.{isNumbered, secondSlash, identifierReply}
 use Rattle.field_utils.specs.Names.{parseLine, parseLines, parseNameAndAddress}
 use Rattle.field_utils.specs.Tags.{tagOf}
 use Rattle.reader.specs.Reading.{partyOf}
-use Rattle.writer.specs.Writing.{nameLines, writtenLines, joined, writtenBody, writtenField, pieces}
+use Rattle.writer.specs.Writing.{nameLines, writtenLines, joined, writtenBody, writtenField, fieldMost, pieces}
 use Rattle.writer.specs.Given.{isLine, areNames, isGiven}
-use Rattle.writer.specs.ReadBack.{endsCr, lastEmpty, identified59F}
+use Rattle.writer.specs.ReadBack.{endsCr, lastEmpty}
+use Rattle.writer.specs.Longest.{longest}
 use Rattle.page_reader.specs.Pages.{isEnd, endsPage}
 use Rattle.page_writer.specs.Beside.{noIndex}
 use Rattle.page_writer.specs.Adding.{anyCr, anyBoundary, laterBoundary, isCarried, writable, positionAfter, refusal, asked, recordReply, addReply, add, addIndex, close}
-use Rattle.page_writer.specs.Fold.{run}
-use Rattle.page_writer.specs.Demand3.{adds}
+use Rattle.page_writer.specs.Fold.{run, acceptedOf}
+use Rattle.page_writer.specs.Demand3.{adds, acceptedAdds, closing, page}
 use Rattle.promises.specs.Starred.{gives}
 
 -- a 50K of these names
@@ -35,12 +38,14 @@ pub record FilingRuledOut : Type 0 where
   -- 24 with bytes free: 9 bytes take a field of 6, its LF and the end; 8 do not
   pub enough : recordReply 9 0 true (said (of (bytes "A" ∷ []))) ≡ accepted
   pub short : recordReply 8 0 true (said (of (bytes "A" ∷ []))) ≡ refused 24 0
-  -- 23 too wide by one case: a first line like an end line or an opening, a later one that only begins like an end line, a CR within
+  -- 23 too wide by one case: a first line like an end line or an opening, a later one that only begins like an end line, 59F with an
+  -- identifier, a CR within
   pub hyphen-first : recordReply 40 0 true (said (of (bytes "-" ∷ []))) ≡ accepted
   pub colon-first : recordReply 40 0 true (said (of (bytes ":A" ∷ []))) ≡ accepted
   pub hyphen-more : recordReply 40 0 true (said (of (bytes "A" ∷ bytes "-B" ∷ []))) ≡ accepted
   pub brace-first : recordReply 40 0 true (said (of (bytes "-}" ∷ []))) ≡ accepted
   pub brace-more : recordReply 40 0 true (said (of (bytes "A" ∷ bytes "-}B" ∷ []))) ≡ accepted
+  pub identified-59F : recordReply 40 0 true (said (gives Field59F true (bytes "1") [] (bytes "1/A" ∷ []) .party)) ≡ accepted
   pub cr-within : recordReply 40 0 true (said (of (bytes "A" ∷ bytes "\rB" ∷ []))) ≡ accepted
   -- or too narrow by one
   pub hyphen-later : recordReply 40 0 true (said (of (bytes "A" ∷ bytes "-" ∷ []))) ≡ refused 23 0
@@ -56,7 +61,7 @@ pub record FilingRuledOut : Type 0 where
   pub position : add (bytes "abcdefghijkl") 1 noIndex (said (of [])) .answer ≡ refusal 21 0
 
 pub filing-ruled-out : FilingRuledOut
-unfolding padded textOf said letter digit alphanumeric signs legal parseSwiftChars parseAccount upto onto starts parseLine parseLines parseNameAndAddress fourTexts partyOf nameLines writtenLines joined writtenBody writtenField pieces isLine areNames isGiven endsCr lastEmpty identified59F withoutCr isEnd endsPage anyCr anyBoundary laterBoundary isCarried writable asked recordReply addReply add addIndex close run tagOf
+unfolding padded textOf said letter digit alphanumeric signs legal parseSwiftChars parseAccount upto onto starts isNumbered identifierReply parseLine parseLines parseNameAndAddress fourTexts partyOf nameLines writtenLines joined writtenBody writtenField pieces isLine areNames isGiven endsCr lastEmpty withoutCr isEnd endsPage anyCr anyBoundary laterBoundary isCarried writable asked recordReply addReply add addIndex close run tagOf
 filing-ruled-out = record {
   both-filed = refl;
   enough = refl;
@@ -66,6 +71,7 @@ filing-ruled-out = record {
   hyphen-more = refl;
   brace-first = refl;
   brace-more = refl;
+  identified-59F = refl;
   cr-within = refl;
   hyphen-later = refl;
   colon-later = refl;
@@ -77,3 +83,16 @@ filing-ruled-out = record {
   closed = refl;
   position = refl;
 }
+
+-- the bounds of a page (document 02, Six): one field of 59F with an identifier can pass 185 and 2, and that of 188 and 2 is met
+abbrev room : List ℕ
+room = replicate 190 0
+
+pub record PageBounds : Type 0 where
+  pub closes : closing noIndex (longest ∷ []) room .answer ≡ positionAfter 190
+  pub met : length (page noIndex (longest ∷ []) room 190) ≡ (fieldMost + 1) * length (acceptedAdds noIndex (longest ∷ []) room) + 2
+  pub passed : ltb (185 * length (acceptedAdds noIndex (longest ∷ []) room) + 2) (length (page noIndex (longest ∷ []) room 190)) ≡ true
+
+pub page-bounds : PageBounds
+unfolding padded textOf said letter digit alphanumeric signs legal parseSwiftChars parseAccount upto onto starts isNumbered secondSlash identifierReply parseLine parseLines parseNameAndAddress fourTexts partyOf nameLines writtenLines joined writtenBody writtenField pieces isLine areNames isGiven endsCr lastEmpty withoutCr isEnd endsPage anyCr anyBoundary laterBoundary isCarried writable asked recordReply addReply add addIndex close run acceptedOf tagOf
+page-bounds = record { closes = refl; met = refl; passed = refl }

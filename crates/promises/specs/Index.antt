@@ -14,7 +14,7 @@ use Rattle.reader.specs.Reading.{partyOf}
 use Rattle.reader.specs.Options.{accountHead, afterHead, read}
 use Rattle.writer.specs.Writing.{nameLines, writtenLines, joined, writtenBody, writtenField, pieces}
 use Rattle.writer.specs.Given.{isLine, areNames, isGiven}
-use Rattle.writer.specs.ReadBack.{endsCr, lastEmpty, identified59F}
+use Rattle.writer.specs.ReadBack.{endsCr, lastEmpty}
 use Rattle.page_reader.specs.Pages.{lineAt, isEnd, endsPage, runs, begins, tagIn, aRefusal, readField, readCase, readAt}
 use Rattle.page_reader.specs.Reads.{readsFrom}
 use Rattle.page_reader.specs.Index.{entriesIn, entriesOf, fieldAt, fieldsIn, fieldsMet, found, notFound, lookUp, bodyOf}
@@ -86,7 +86,7 @@ pub record IndexRuledOut : Type 0 where
   pub body-refused : lookUp (bytes ":50K:~\n-\n") (index 1 (3 ∷ 0 ∷ 6 ∷ [])) 1 ≡ found (record { at = 0; gave = record { outcome = aRefusal 3 1; body = bytes "~"; next = 7 } })
 
 pub index-ruled-out : IndexRuledOut
-unfolding padded textOf said letter digit alphanumeric signs legal parseSwiftChars parseAccount upto onto starts lines parseLine parseLines parseNameAndAddress fourTexts partyOf accountHead afterHead read nameLines writtenLines joined writtenBody writtenField pieces isLine areNames isGiven endsCr lastEmpty identified59F withoutCr lineAt isEnd endsPage runs begins tagIn readField readCase readAt readsFrom entriesIn entriesOf fieldAt fieldsIn lookUp noted anyCr anyBoundary laterBoundary isCarried writable asked recordReply addReply add addIndex run tagOf
+unfolding padded textOf said letter digit alphanumeric signs legal parseSwiftChars parseAccount upto onto starts lines parseLine parseLines parseNameAndAddress fourTexts partyOf accountHead afterHead read nameLines writtenLines joined writtenBody writtenField pieces isLine areNames isGiven endsCr lastEmpty withoutCr lineAt isEnd endsPage runs begins tagIn readField readCase readAt readsFrom entriesIn entriesOf fieldAt fieldsIn lookUp noted anyCr anyBoundary laterBoundary isCarried writable asked recordReply addReply add addIndex run tagOf
 index-ruled-out = record {
   positions = refl;
   fields = refl;

@@ -2,11 +2,10 @@
 -- each by computation. A field is named after its operation and the mistake, and its comment says what the wrong program does.
 use mathlib.Core.Path.{_≡_, refl}
 use mathlib.Core.Bool.{true, false}
-use mathlib.Core.List.{List, [], _∷_, _++_, map}
+use mathlib.Core.List.{List, [], _∷_, _++_}
 use Prim.Native.Nat.{ℕ, _+_, _*_}
 use lib.ListN.{length, getD, drop, replicate}
 use Rattle.party.specs.declared.PartyOption.the-variants.{Field50NoOption, Field50A, Field50F, Field50C, Field59NoOption, Field59A, Field59F}
-use Rattle.party.specs.declared.Party.{Party}
 use Rattle.party.specs.Limits.{placeOf, optionAt}
 use Rattle.party.specs.Text.{padded, textOf, fourTexts}
 use Rattle.party.specs.Party.{blank, said}
@@ -24,7 +23,8 @@ use Rattle.choices.specs.Choices.{firstThat, parse, pickOf, parseWithVariant}
 use Rattle.writer.specs.Writing.{nameLines, writtenLines, joined, writtenBody, writtenField, fieldMost, fits, placed, pieces}
 use Rattle.writer.specs.Given.{isLine, areNames, isGiven}
 use Rattle.writer.specs.Placing.{lengthIs, refusedWith, measure, place}
-use Rattle.writer.specs.ReadBack.{endsCr, lastEmpty, identified59F}
+use Rattle.writer.specs.ReadBack.{endsCr, lastEmpty}
+use Rattle.writer.specs.Longest.{longest}
 use Rattle.page_reader.specs.Pages.{lineAt, opens, isEnd, endsPage, endsAt, runs, begins, tagIn, readField, readCase, readAt, bodyPlace}
 use Rattle.page_reader.specs.Reads.{readsFrom}
 use Rattle.page_reader.specs.Index.{entriesIn, entriesOf, fieldAt, lookUp}
@@ -36,10 +36,6 @@ use Rattle.yewdome.specs.Interface.{partyRead, partyParse, partyParseWithVarian
 use Rattle.promises.specs.Starred.{gives}
 use Rattle.promises.specs.Filing.{of}
 
--- a 59F with an identifier, each text as long as it may be: its field has 188 bytes
-abbrev longest : Party
-longest = gives Field59F true (bytes "AA/" ++ replicate 34 65) [] (map (λ (k : ℕ). (48 + k) ∷ 47 ∷ replicate 33 65) (1 ∷ 2 ∷ 3 ∷ 4 ∷ [])) .party
-
 pub record WriterOperations : Type 0 where
   -- counts a letter in every tag
   pub tag-length-counts-a-letter : length (tagOf Field50NoOption) ≡ 4
@@ -47,8 +43,8 @@ pub record WriterOperations : Type 0 where
   pub tag-length-leaves-the-colon : length (tagOf Field59A) ≡ 5
   -- is one byte short, or one long
   pub measure-is-one-off : measure (said (of (bytes "A" ∷ []))) ≡ lengthIs 6
-  -- leaves out the empty line after 59F's identifier
-  pub measure-leaves-the-gap : measure (said (gives Field59F true (bytes "1") [] (bytes "1/A" ∷ []) .party)) ≡ lengthIs (length (bytes ":59F:/1\n\n1/A"))
+  -- counts an empty line after 59F's identifier
+  pub measure-counts-an-empty-line : measure (said (gives Field59F true (bytes "1") [] (bytes "1/A" ∷ []) .party)) ≡ lengthIs (length (bytes ":59F:/1\n1/A"))
   -- leaves out the numbers of 50F
   pub measure-leaves-numbers : measure (said (gives Field50F true (bytes "X") [] (bytes "A" ∷ []) .party)) ≡ lengthIs (length (bytes ":50F:X\n1/A"))
   -- refuses with 24 the longest field that there is
@@ -72,7 +68,7 @@ writer-operations = record {
   tag-length-counts-a-letter = refl;
   tag-length-leaves-the-colon = refl;
   measure-is-one-off = refl;
-  measure-leaves-the-gap = refl;
+  measure-counts-an-empty-line = refl;
   measure-leaves-numbers = refl;
   measure-refuses-with-24 = refl;
   measure-takes-all = refl;
@@ -218,7 +214,7 @@ pub record YewdomeOperations : Type 0 where
   pub page-file-tests-late : pageFile (bytes "-\n") (bytes "ab") [] ≡ record { code = 43 * 65536; bytes = bytes "ab"; answers = [] }
 
 pub yewdome-operations : YewdomeOperations
-unfolding padded textOf said letter digit alphanumeric signs legal parseSwiftChars parseAccount bicLength parseBic upto onto starts lines white trimmedStart keep trimmedEnd trimmed isNumbered secondSlash identifierReply parsePartyIdentifier parseLine parseLines parseNameAndAddress fourTexts partyOf accountHead shortAccountHead afterHead read anyNumbered firstLine lastLine bicLike firstThat pickOf testLine nameLines writtenLines joined writtenBody writtenField pieces isLine areNames isGiven measure place endsCr lastEmpty identified59F withoutCr lineAt isEnd endsPage runs begins tagIn readField readAt isCarried writable asked recordReply addReply add noted addIndex close flatTexts flatten stored optionAt textAt isFlat partyFrom unflatten entriesIn entriesOf fieldAt lookUp parse parseWithVariant readCase anyCr anyBoundary laterBoundary bodyPlace tagOf run readsFrom
+unfolding padded textOf said letter digit alphanumeric signs legal parseSwiftChars parseAccount bicLength parseBic upto onto starts lines white trimmedStart keep trimmedEnd trimmed isNumbered secondSlash identifierReply parsePartyIdentifier parseLine parseLines parseNameAndAddress fourTexts partyOf accountHead shortAccountHead afterHead read anyNumbered firstLine lastLine bicLike firstThat pickOf testLine nameLines writtenLines joined writtenBody writtenField pieces isLine areNames isGiven measure place endsCr lastEmpty withoutCr lineAt isEnd endsPage runs begins tagIn readField readAt isCarried writable asked recordReply addReply add noted addIndex close flatTexts flatten stored optionAt textAt isFlat partyFrom unflatten entriesIn entriesOf fieldAt lookUp parse parseWithVariant readCase anyCr anyBoundary laterBoundary bodyPlace tagOf run readsFrom
 yewdome-operations = record {
   party-read-drops-the-line = refl;
   party-read-takes-11 = refl;

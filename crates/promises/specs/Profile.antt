@@ -25,7 +25,7 @@ use Rattle.choices.specs.Choices.{firstThat, parse, pickOf, parseWithVariant}
 use Rattle.profile.specs.Profile.{isSame, holdsBic, isInside, linesReply, profileReply, profiled, readProfiled, parseProfiled, parseWithVariantProfiled}
 use Rattle.writer.specs.Writing.{nameLines, writtenLines, joined, writtenBody, writtenField, pieces}
 use Rattle.writer.specs.Given.{isLine, areNames, isGiven}
-use Rattle.writer.specs.ReadBack.{endsCr, lastEmpty, identified59F}
+use Rattle.writer.specs.ReadBack.{endsCr, lastEmpty}
 use Rattle.page_reader.specs.Pages.{isEnd, endsPage}
 use Rattle.page_writer.specs.Adding.{anyCr, anyBoundary, laterBoundary, isCarried, asked, recordReply}
 use Rattle.flat.specs.Flat.{flatTexts, flatten, stored}
@@ -160,9 +160,9 @@ abbrev filed : Reading → Reply
 filed r = recordReply 40 0 true (said (r .party))
 
 pub record ProfileNeeded : Type 0 where
-  -- the exception: 59F with an identifier is taken under the profile, and no page carries it; without one it does
+  -- no exception: 59F with an identifier is taken under the profile, and a page carries it as it does one without
   pub taken-59F : As (readProfiled Field59F (bytes "/1\n1/A")) Field59F
-  pub refused-59F : filed (readProfiled Field59F (bytes "/1\n1/A")) ≡ refused 23 0
+  pub filed-59F : filed (readProfiled Field59F (bytes "/1\n1/A")) ≡ accepted
   pub bare-59F : filed (readProfiled Field59F (bytes "1/A")) ≡ accepted
   -- what the ordinary reading accepts and no page carries: each breaks one rule of the profile
   pub cr : filed (read Field50K (bytes "A\r")) ≡ refused 23 0
@@ -171,8 +171,8 @@ pub record ProfileNeeded : Type 0 where
   pub hyphen : filed (read Field50K (bytes "A\n-")) ≡ refused 23 0
 
 pub profile-needed : ProfileNeeded
-unfolding padded textOf said letter small digit alphanumeric signs legal narrowSigns narrow parseSwiftChars parseAccount upto onto starts lines withoutCr isNumbered secondSlash identifierReply parsePartyIdentifier parseLine parseLines parseNameAndAddress fourTexts partyOf accountHead afterHead read holdsBic isInside linesReply profileReply profiled nameLines writtenLines joined writtenBody writtenField pieces isLine areNames isGiven endsCr lastEmpty identified59F isEnd endsPage anyCr anyBoundary laterBoundary isCarried asked recordReply tagOf
-profile-needed = record { taken-59F = (refl, refl); refused-59F = refl; bare-59F = refl; cr = refl; empty = refl; colon = refl; hyphen = refl }
+unfolding padded textOf said letter small digit alphanumeric signs legal narrowSigns narrow parseSwiftChars parseAccount upto onto starts lines withoutCr isNumbered secondSlash identifierReply parsePartyIdentifier parseLine parseLines parseNameAndAddress fourTexts partyOf accountHead afterHead read holdsBic isInside linesReply profileReply profiled nameLines writtenLines joined writtenBody writtenField pieces isLine areNames isGiven endsCr lastEmpty isEnd endsPage anyCr anyBoundary laterBoundary isCarried asked recordReply tagOf
+profile-needed = record { taken-59F = (refl, refl); filed-59F = refl; bare-59F = refl; cr = refl; empty = refl; colon = refl; hyphen = refl }
 
 -- ---- for C
 -- a lent record

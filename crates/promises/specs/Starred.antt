@@ -3,6 +3,7 @@ use mathlib.Core.Path.{_≡_, refl}
 use mathlib.Core.Bool.{Bool, true, false}
 use mathlib.Core.List.{List, [], _∷_}
 use Prim.Native.Nat.{ℕ}
+use lib.ListN.{drop}
 use Rattle.errors.specs.Refusals.{Reply, accepted, refused}
 use Rattle.party.specs.declared.PartyOption.{PartyOption}
 use Rattle.party.specs.declared.PartyOption.the-variants.{Field50NoOption, Field50A, Field50F, Field50K, Field50C, Field50G, Field50H, Field59F}
@@ -22,7 +23,7 @@ use Rattle.choices.specs.Detection.{anyNumbered, firstLine, lastLine, bicLike}
 use Rattle.choices.specs.Choices.{refusing, firstThat, parse}
 use Rattle.writer.specs.Writing.{nameLines, writtenLines, joined, writtenBody, writtenField, pieces}
 use Rattle.writer.specs.Given.{isLine, areNames, isGiven}
-use Rattle.writer.specs.ReadBack.{endsCr, lastEmpty, identified59F}
+use Rattle.writer.specs.ReadBack.{endsCr, lastEmpty}
 use Rattle.page_reader.specs.Pages.{isEnd, endsPage}
 use Rattle.page_writer.specs.Adding.{anyCr, anyBoundary, laterBoundary, isCarried, asked, recordReply}
 
@@ -53,9 +54,11 @@ starred =
     reads (read Field50K (bytes "a\n\n")) (gives Field50K false [] [] (bytes "a" ∷ [] ∷ []))
     ∷ writes (fieldOf (read Field50K (bytes "a\n\n"))) (bytes ":50K:a\n")
     ∷ files (filingOf (read Field50K (bytes "a\n\n"))) (refused 23 0)
-    -- 59F `/1⏎1/A`: writes `:59F:/1⏎⏎1/A`, whose body is 5, line 2
+    -- 59F `/1⏎1/A`: writes `:59F:/1⏎1/A` and reads back (document 02, Six), and a page takes it; with an empty line it would be 5, line 2
     ∷ reads (read Field59F (bytes "/1\n1/A")) (gives Field59F true (bytes "1") [] (bytes "1/A" ∷ []))
-    ∷ writes (fieldOf (read Field59F (bytes "/1\n1/A"))) (bytes ":59F:/1\n\n1/A")
+    ∷ writes (fieldOf (read Field59F (bytes "/1\n1/A"))) (bytes ":59F:/1\n1/A")
+    ∷ reads (read Field59F (drop 5 (fieldOf (read Field59F (bytes "/1\n1/A"))))) (read Field59F (bytes "/1\n1/A"))
+    ∷ files (filingOf (read Field59F (bytes "/1\n1/A"))) accepted
     ∷ reads (read Field59F (bytes "/1\n\n1/A")) (refusing 5 2)
     -- 50F `X⏎7/A⏎7/B`: its digits are not kept; writes `:50F:X⏎1/A⏎2/B`
     ∷ reads (read Field50F (bytes "X\n7/A\n7/B")) (gives Field50F true (bytes "X") [] (bytes "A" ∷ bytes "B" ∷ []))
@@ -87,5 +90,5 @@ Hold [] = Unit {0}
 Hold (c ∷ cs) = Holds c × Hold cs
 
 pub starred-hold : Hold starred
-unfolding padded textOf letter digit alphanumeric signs legal parseSwiftChars parseAccount bicLength parseBic upto onto starts lines white trimmedStart keep trimmedEnd trimmed isNumbered secondSlash identifierReply parsePartyIdentifier parseLine parseLines parseNameAndAddress fourTexts partyOf accountHead shortAccountHead afterHead read anyNumbered firstLine lastLine bicLike firstThat said nameLines writtenLines joined writtenBody writtenField isLine areNames isGiven pieces endsCr lastEmpty identified59F withoutCr isEnd endsPage isCarried asked recordReply parse anyCr anyBoundary laterBoundary tagOf
-starred-hold = (refl, (refl, (refl, (refl, (refl, (refl, (refl, (refl, (refl, (refl, (refl, (refl, (refl, (refl, (refl, (refl, tt))))))))))))))))
+unfolding padded textOf letter digit alphanumeric signs legal parseSwiftChars parseAccount bicLength parseBic upto onto starts lines white trimmedStart keep trimmedEnd trimmed isNumbered secondSlash identifierReply parsePartyIdentifier parseLine parseLines parseNameAndAddress fourTexts partyOf accountHead shortAccountHead afterHead read anyNumbered firstLine lastLine bicLike firstThat said nameLines writtenLines joined writtenBody writtenField isLine areNames isGiven pieces endsCr lastEmpty withoutCr isEnd endsPage isCarried asked recordReply parse anyCr anyBoundary laterBoundary tagOf
+starred-hold = (refl, (refl, (refl, (refl, (refl, (refl, (refl, (refl, (refl, (refl, (refl, (refl, (refl, (refl, (refl, (refl, (refl, (refl, tt))))))))))))))))))

@@ -24,8 +24,9 @@ pub struct Tally {
     letter: u64,
     account: u64,
     differ: u64,
-    // records written as the Rust, and refused by rule 22
+    // records written as the Rust, so but for 59F's LF, and refused by rule 22
     written: u64,
+    less: u64,
     refused: u64,
 }
 
@@ -50,6 +51,7 @@ impl Tally {
             account: 0,
             differ: 0,
             written: 0,
+            less: 0,
             refused: 0,
         }
     }
@@ -89,6 +91,7 @@ impl Tally {
     fn wrote(mut self, writing: Writing) -> Self {
         match writing {
             Writing::AsRust => self.written = more(self.written),
+            Writing::LessLf => self.less = more(self.less),
             Writing::ByRule => self.refused = more(self.refused),
             _ => {}
         }
@@ -110,9 +113,13 @@ impl Tally {
         print_number(b", 14: ", self.letter);
         print_number(b", 50H: ", self.account);
         print_number(b"), ", self.differ);
-        print_number(b" differ; ", sum(self.written, self.refused));
+        print_number(
+            b" differ; ",
+            sum(sum(self.written, self.less), self.refused),
+        );
         print_number(b" records: ", self.written);
-        print_number(b" written as the Rust, ", self.refused);
+        print_number(b" written as the Rust, ", self.less);
+        print_number(b" so without the LF of 59F's empty line, ", self.refused);
         print(b" by rule (22), 3 buffers each\n");
     }
 }

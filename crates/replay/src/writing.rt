@@ -1,18 +1,23 @@
 // The record of a case, measured and placed by our writer and compared with the text that the Rust writes of it.
 use crate::answer::Reply;
+use crate::list::past_line;
 use crate::rules::is_accepted;
 use crate::rules::is_ascii;
 use party::Party;
+use party::PartyOption;
 use writer::Measured;
 use writer::measure;
 use writer::place;
+use writer::put_text;
 ghost use Prim.Native.Nat.{_≤_};
 ghost use lib.ListN.{length};
 
-// What came of writing: the answer has no record; it is written as the Rust writes it; it is refused by rule; or something differs.
+// What came of writing: the answer has no record; it is written as the Rust writes it; so, but for the LF of 59F's empty line; it is
+// refused by rule; or something differs.
 pub enum Writing {
     NoRecord,
     AsRust,
+    LessLf,
     ByRule,
     Differs,
 }
@@ -30,16 +35,47 @@ pub(crate) fn write(rust: Reply, text: &[u8]) -> Writing {
     if text.len() == 0 || LONGEST < text.len() {
         return Writing::Differs;
     }
-    if is_ascii(text) {
-        if is_written(party, text) {
-            return Writing::AsRust;
-        }
+    if !is_ascii(text) {
+        return settled(is_refused(party, text.len()), Writing::ByRule);
+    }
+    if is_identified_59f(party) {
+        return write_less(party, text);
+    }
+    settled(is_written(party, text), Writing::AsRust)
+}
+
+fn settled(good: bool, writing: Writing) -> Writing {
+    if good { writing } else { Writing::Differs }
+}
+
+// The Rust writes an empty line after the identifier of 59F, and ours does not.
+fn is_identified_59f(party: Party) -> bool {
+    let option = party.option;
+    match option {
+        PartyOption::Field59F => party.present,
+        _ => false,
+    }
+}
+
+// Writes such a record. What is expected is the Rust's text with that one LF removed, which must be there.
+fn write_less(party: Party, text: &[u8]) -> Writing
+    requires { ⌜ (1 ≤ length (now text)) × (length (now text) ≤ 240) ⌝ }
+{
+    let empty = past_line(text, 0);
+    if text.len() <= empty {
         return Writing::Differs;
     }
-    if is_refused(party, text.len()) {
-        return Writing::ByRule;
+    if text[empty] != b'\n' {
+        return Writing::Differs;
     }
-    Writing::Differs
+    let mut room = [0u8; LONGEST];
+    put_text(&text[..empty], &mut room, 0);
+    put_text(&text[empty + 1..], &mut room, empty);
+    let len = text.len() - 1;
+    if len == 0 {
+        return Writing::Differs;
+    }
+    settled(is_written(party, &room[..len]), Writing::LessLf)
 }
 
 // It is measured, and placed in buffers one byte short, exact and one byte over: the first is refused with 24.

@@ -31,7 +31,7 @@ use Rattle.choices.specs.declared.Choice.{Choice}
 use Rattle.choices.specs.declared.Choice.the-variants.{Field50InstructingParty, Field50OrderingCustomerFGH, Field50OrderingCustomerAFK, Field50OrderingCustomerNCF, Field50Creditor, Field59, Field59Debtor}
 use Rattle.choices.specs.Choices.{refusing, parse, optionsOf}
 use Rattle.choices.proofs.Every.{every-parse, every-variant}
-use Rattle.writer.specs.Writing.{numberOf, nameLines, writtenField}
+use Rattle.writer.specs.Writing.{numberOf, nameLines}
 use Rattle.writer.specs.Given.{Given, every, isAccount, isBic, areNames}
 use Rattle.writer.proofs.Relined.{All}
 use Rattle.writer.proofs.Sayings.{bytesOf}
@@ -48,7 +48,7 @@ use Rattle.swift_mt_message.specs.Structs.{Struct, to-swift-string}
 use Rattle.swift_mt_message.specs.Enums.{Enum}
 use Rattle.swift_mt_message.specs.Enums as enums
 use Rattle.swift_mt_message.specs.Equal.{told, asParty, recordOf, recordBy, illegalAccount}
-use Rattle.swift_mt_message.specs.Writing.{optional, structOf, ValueWritten, ReadsAndWrites}
+use Rattle.swift_mt_message.specs.Writing.{optional, structOf, Agrees, ValueWritten, ReadsAndWrites}
 use Rattle.swift_mt_message.proofs.Results.{by-test}
 use Rattle.swift_mt_message.proofs.Choices.{is-H, reading, at-option, either, pick, differing, expected, detected, by-variant, parsed-by}
 use Rattle.swift_mt_message.proofs.Writing.{writes}
@@ -131,20 +131,20 @@ module _ (o : PartyOption) (a : Option Str) (b : Str) (ns : List Str) where
         rw f (names-whole ns (rw f at (names-most (limitsOf o .numbering) (limitsOf o .name) 1 us (small o .name) (p .each))));
   }
 
-  -- so the Rust's text of the value is what ours writes of the record
-  text-by : (v : Struct o) → (Back → structOf o (is-some a) text (used (textOf b) .bytes) texts ≡ v) → Given p → to-swift-string o v ≡ writtenField (said p)
+  -- so the Rust's text of the value is what ours writes of the record, but for an LF
+  text-by : (v : Struct o) → (Back → structOf o (is-some a) text (used (textOf b) .bytes) texts ≡ v) → Given p → Agrees (said p) (to-swift-string o v)
   unfolding partyOf
-  text-by v e g = ap (to-swift-string o) (sym (e (back (given-facts p (necessary p g))))) ∙ writes p g .text
+  text-by v e g = subst (λ (w : Struct o). Agrees (said p) (to-swift-string o w)) (e (back (given-facts p (necessary p g)))) (writes p g .text)
 
 -- where there may be no account
 maybe : (a : Option Str) → (is-some a ≡ true → used (textOf (Option·getD a [])) .bytes ≡ Option·getD a []) → optional (is-some a) (used (textOf (Option·getD a [])) .bytes) ≡ a
 maybe none f = refl
 maybe (some a) f = ap some (f refl)
 
-text-of : (o : PartyOption) (v : Struct o) → Given (recordOf o v) → to-swift-string o v ≡ writtenField (said (recordOf o v))
+text-of : (o : PartyOption) (v : Struct o) → Given (recordOf o v) → Agrees (said (recordOf o v)) (to-swift-string o v)
 unfolding partyOf
 text-of =
-    by-option (λ o. (v : Struct o) → Given (recordOf o v) → to-swift-string o v ≡ writtenField (said (recordOf o v)))
+    by-option (λ o. (v : Struct o) → Given (recordOf o v) → Agrees (said (recordOf o v)) (to-swift-string o v))
     (λ v. text-by Field50NoOption none [] (v .name-and-address) v (λ h i. record { name-and-address = h .names refl i }))
     (λ v. text-by Field50A (v .party-identifier) (v .bic) [] v (λ h i. record { party-identifier = maybe (v .party-identifier) (h .account refl) i; bic = h .bic refl i }))
     (λ v. text-by Field50F (some (v .party-identifier)) [] (v .name-and-address) v (λ h i. record { party-identifier = h .account refl refl i; name-and-address = h .names refl i }))
@@ -158,7 +158,7 @@ text-of =
     (λ v. text-by Field59F (v .party-identifier) [] (v .name-and-address) v (λ h i. record { party-identifier = maybe (v .party-identifier) (h .account refl) i; name-and-address = h .names refl i }))
 
 -- and so is that of an enum's value, by its cases
-text-in : (c : Choice) (v : Enum c) → Given (recordBy c v) → enums.to-swift-string c v ≡ writtenField (said (recordBy c v))
+text-in : (c : Choice) (v : Enum c) → Given (recordBy c v) → Agrees (said (recordBy c v)) (enums.to-swift-string c v)
 unfolding rust50.Field50InstructingParty·to-swift-string rust50.Field50OrderingCustomerFGH·to-swift-string rust50.Field50OrderingCustomerAFK·to-swift-string rust50.Field50OrderingCustomerNCF·to-swift-string rust50.Field50Creditor·to-swift-string rust59.Field59·to-swift-string rust59.Field59Debtor·to-swift-string
 text-in Field50InstructingParty (rust50.InstructingParty·C v) = text-of Field50C v
 text-in Field50InstructingParty (rust50.InstructingParty·L v) = text-of Field50L v
@@ -203,14 +203,14 @@ near-if true k n r a = absurd (refused≢accepted a)
 near-if false k n r a = refl
 
 -- ---- a value, its record and our reading
-value : {A : Type 0} (party : A → Party) (text : A → Str) → ((v : A) → Given (party v) → text v ≡ writtenField (said (party v)))
+value : {A : Type 0} (party : A → Party) (text : A → Str) → ((v : A) → Given (party v) → Agrees (said (party v)) (text v))
     → (x : Result A) {r s : Reading} → told party x ≡ some r → Near r s → Gives s → ValueWritten text x s
 value party text is x {r} {s} e near g v h =
     let f : _≡_ {A = Reading} (record { reply = accepted; party = party v }) r = Option·some-injective _ _ (ap (told party) (sym h) ∙ e) in
     let k = f ∙ near (sym (ap (λ (r : Reading). r .reply) f)) in
     let a = sym (ap (λ (r : Reading). r .reply) k) in
     let p = ap (λ (r : Reading). r .party) k in
-    record { accepts = a; given = g a; same = is v (subst Given (sym p) (g a)) ∙ ap (λ (q : Party). writtenField (said q)) p }
+    record { accepts = a; given = g a; agrees = subst (λ (q : Party). Agrees (said q) (text v)) p (is v (subst Given (sym p) (g a))) }
 
 module _ (body : Str) (q : bodyReply body ≡ accepted) where
   near-option : (o : PartyOption) → Near (reading body o) (read o body)

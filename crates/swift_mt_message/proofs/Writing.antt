@@ -1,16 +1,16 @@
--- The Rust writes of a record that a reader can give what ours writes. Assumes nothing.
-use mathlib.Core.Path.{_≡_, refl, sym, _∙_, ap}
-use mathlib.Core.Bool.{Bool, true, false, _&&_, _||_, false≢true, or-true}
+-- The Rust writes of a record that a reader can give what ours writes, with one LF more in 59F with an identifier. Assumes nothing.
+use mathlib.Core.Path.{_≡_, refl, sym, _∙_, ap, subst}
+use mathlib.Core.Bool.{Bool, true, false, _&&_, _||_, false≢true, true≢false, or-true}
 use mathlib.Core.List.{List, [], _∷_, _++_, map, append-assoc, append-nil}
 use Prim.Native.Nat.{ℕ, zero, suc, _+_, _≤_, _<_}
 use native.Mathlib.Omega.{arith}
 use lib.Dec.{ltb, eqb}
-use lib.ListN.{length}
+use lib.ListN.{length, length-append}
 use borrow.Author.Tests.{lt-ltb}
 use Rattle.party.specs.declared.PartyOption.{PartyOption}
 use Rattle.party.specs.declared.PartyOption.the-variants.{Field50NoOption, Field50A, Field50F, Field50K, Field50C, Field50L, Field50G, Field50H, Field59NoOption, Field59A, Field59F}
 use Rattle.party.specs.declared.Party.{Party}
-use Rattle.party.specs.Limits.{limitsOf}
+use Rattle.party.specs.Limits.{limitsOf, placeOf}
 use Rattle.party.specs.Text.{Used}
 use Rattle.party.specs.Party.{said, Said}
 use Rattle.party.specs.declared.Numbering.{Numbering}
@@ -18,13 +18,14 @@ use Rattle.party.specs.declared.Numbering.the-variants.{Unnumbered, Numbered, I
 use Rattle.party.proofs.Options.{by-option}
 use Rattle.swift_utils.specs.Bytes.{bytes}
 use Rattle.field_utils.specs.Tags.{tagOf}
+use Rattle.field_utils.proofs.Tests.{both-left, first-not, rest-not, Line}
 use Rattle.reader.specs.Reading.{partyOf}
-use Rattle.writer.specs.Writing.{numberOf, nameLines, writtenLines, joined, writtenBody, writtenField}
-use Rattle.writer.specs.Given.{Given, isPresence, areNames}
-use Rattle.writer.proofs.Sayings.{saidWith, said-with, bytesOf, said-party}
+use Rattle.writer.specs.Writing.{numberOf, nameLines, writtenLines, joined, writtenBody, writtenField, identified59F}
+use Rattle.writer.specs.Given.{Given, isAccount, isPresence, areNames}
+use Rattle.writer.proofs.Sayings.{saidWith, said-with, bytesOf, said-party, line-free}
 use Rattle.writer.proofs.NamePasses.{written-length}
-use Rattle.writer.proofs.Facts.{Facts, names-are, small}
-use Rattle.writer.proofs.Bare.{foundOf}
+use Rattle.writer.proofs.Facts.{Facts, names-are, account-line, small}
+use Rattle.writer.proofs.Written.{foundOf}
 use Rattle.writer.proofs.Witness.{saying-back, fitting}
 use Rattle.writer.proofs.Sufficient.{parts, given-facts}
 use Rattle.writer.proofs.Theorems.{necessary}
@@ -33,7 +34,7 @@ use Rattle.swift_mt_message.specs.Field50 as rust50
 use Rattle.swift_mt_message.specs.Field59 as rust59
 use Rattle.swift_mt_message.specs.Structs.{to-swift-string}
 use Rattle.swift_mt_message.specs.Equal.{recordOf}
-use Rattle.swift_mt_message.specs.Writing.{structOf, Writes}
+use Rattle.swift_mt_message.specs.Writing.{structOf, structIn, lessEmpty, Agrees, Writes}
 
 -- ---- lines joined
 join-is : (ls : List Str) → join ls ≡ joined ls
@@ -73,6 +74,13 @@ unfolding rust59.written joined
 then-parted f l [] z h = rw (z, rust59.written) (append-nil l)
 then-parted f l (m ∷ ls) z h = rw (z, rust59.written) (ap (λ (x : Str). l ++ x) (all-parted f (0 + 1) m ls (λ k g. h k (omega arith))))
 
+-- a line, and its empty line removed
+empty-less : (x y : Str) → Line x → lessEmpty (x ++ 10 ∷ 10 ∷ y) ≡ x ++ 10 ∷ y
+unfolding lessEmpty
+empty-less [] y h = refl
+empty-less (b ∷ []) y h = rw (first-not b [] h, lessEmpty) (ap (_∷_ b) (empty-less [] y refl))
+empty-less (b ∷ c ∷ x) y h = rw (first-not b (c ∷ x) h, lessEmpty) (ap (_∷_ b) (empty-less (c ∷ x) y (rest-not b (c ∷ x) h)))
+
 -- ---- how many names there are
 module _ (o : PartyOption) (z : eqb (limitsOf o .names) 0 ≡ false) (count : ℕ) (us : List Used) (h : areNames o count us ≡ true) where
   few : length us ≤ 4
@@ -111,6 +119,10 @@ module _ (count : ℕ) (u v : Used) where
   Text o present =
       (us : List Used) → Facts (S o present us) → to-swift-string o (structOf o present (u .bytes) (v .bytes) (map bytesOf us)) ≡ writtenField (S o present us)
 
+  abbrev Agree : PartyOption → Bool → Type 0
+  Agree o present =
+      (us : List Used) → Facts (S o present us) → Agrees (S o present us) (to-swift-string o (structOf o present (u .bytes) (v .bytes) (map bytesOf us)))
+
   -- names after other lines
   plain : (ls : List Str) (us : List Used) → join (ls ++ map bytesOf us) ≡ joined (ls ++ nameLines Unnumbered 1 us)
   plain ls us = join-is (ls ++ map bytesOf us) ∙ ap (λ (ns : List Str). joined (ls ++ ns)) (names-whole Unnumbered (λ k. refl) 1 us)
@@ -123,32 +135,50 @@ module _ (count : ℕ) (u v : Used) where
   text-59 false (w ∷ us) h =
       ap (_++_ (bytes ":59:")) (then-parted _ (w .bytes) (map bytesOf us) refl (λ k g. parted (eqb k 0 && false) k g) ∙ ap (λ (ls : List Str). joined (w .bytes ∷ ls)) (names-whole Unnumbered (λ k. refl) 2 us))
 
-  text-59F : (present : Bool) → Text Field59F present
+  -- 59F: with an identifier the Rust's text has an empty line after it
+  text-59F : Agree Field59F true
+  unfolding writtenField writtenBody writtenLines nameLines tagOf joined identified59F rust59.Field59F·to-swift-string
+  text-59F [] h = absurd (omega (arith, some-names Field59F refl count [] (h .names)))
+  text-59F (w ∷ us) h =
+      let x = bytes ":59F:/" ++ u .bytes in
+      let y = joined (w .bytes ∷ nameLines InTurn 2 us) in
+      let q : to-swift-string Field59F (structOf Field59F true (u .bytes) (v .bytes) (map bytesOf (w ∷ us))) ≡ x ++ 10 ∷ 10 ∷ y =
+      ap (λ (t : Str). bytes ":59F:/" ++ t) (append-assoc (u .bytes) (10 ∷ []) _)
+      ∙ ap (λ (t : Str). x ++ 10 ∷ t)
+      (all-parted _ 0 (w .bytes) (map bytesOf us) (λ k g. or-true (ltb 0 k)) ∙ ap (λ (ls : List Str). 10 ∷ joined (w .bytes ∷ ls)) (names-whole InTurn (λ k. refl) 2 us)) in
+      let line : Line x = line-free u (account-line Field59F true u (both-left (isAccount Field59F true u) true (h .account))) in
+      record { equal = λ e. absurd (true≢false e); less = λ e. (ap lessEmpty q ∙ empty-less x y line, omega (arith, ap length q, length-append x (10 ∷ 10 ∷ y), length-append x (10 ∷ y))) }
+
+  bare-59F : Text Field59F false
   unfolding writtenField writtenBody writtenLines nameLines tagOf joined rust59.Field59F·to-swift-string
-  text-59F present [] h = absurd (omega (arith, some-names Field59F refl count [] (h .names)))
-  text-59F true (w ∷ us) h =
-      ap (λ (x : Str). bytes ":59F:/" ++ x) (append-assoc (u .bytes) (10 ∷ []) _)
-      ∙ ap (λ (x : Str). bytes ":59F:/" ++ (u .bytes ++ 10 ∷ x))
-      (all-parted _ 0 (w .bytes) (map bytesOf us) (λ k g. or-true (ltb 0 k)) ∙ ap (λ (ls : List Str). 10 ∷ joined (w .bytes ∷ ls)) (names-whole InTurn (λ k. refl) 2 us))
-  text-59F false (w ∷ us) h =
+  bare-59F [] h = absurd (omega (arith, some-names Field59F refl count [] (h .names)))
+  bare-59F (w ∷ us) h =
       ap (_++_ (bytes ":59F:")) (then-parted _ (w .bytes) (map bytesOf us) refl (λ k g. parted false k g) ∙ ap (λ (ls : List Str). joined (w .bytes ∷ ls)) (names-whole InTurn (λ k. refl) 2 us))
 
-  text-is : (o : PartyOption) (present : Bool) → isPresence o present ≡ true → Text o present
+  -- of all other records the texts are equal
+  equals : (o : PartyOption) (present : Bool) → (eqb (placeOf o) (placeOf Field59F) && present) ≡ false → Text o present → Agree o present
+  unfolding identified59F
+  equals o present z t us h = record { equal = λ e. t us h; less = λ e. absurd (false≢true (sym z ∙ e)) }
+
+  other : (o : PartyOption) → eqb (placeOf o) (placeOf Field59F) ≡ false → ((present : Bool) → isPresence o present ≡ true → Text o present) → (present : Bool) → isPresence o present ≡ true → Agree o present
+  other o z t present e = equals o present (rw z) (t present e)
+
+  text-is : (o : PartyOption) (present : Bool) → isPresence o present ≡ true → Agree o present
   unfolding writtenField writtenBody writtenLines nameLines tagOf joined rust50.Field50NoOption·to-swift-string rust50.Field50A·to-swift-string rust50.Field50F·to-swift-string rust50.Field50K·to-swift-string rust50.Field50C·to-swift-string rust50.Field50L·to-swift-string rust50.Field50G·to-swift-string rust50.Field50H·to-swift-string rust59.Field59A·to-swift-string
   text-is =
-      by-option (λ o. (present : Bool) → isPresence o present ≡ true → Text o present)
-      (never Text Field50NoOption refl (λ us h. ap (_++_ (bytes ":50:")) (plain [] us)))
-      (either Text Field50A (λ us h. refl) (λ us h. refl))
-      (always Text Field50F refl (λ us h.
-      ap (_++_ (bytes ":50F:")) (join-is (u .bytes ∷ rust50.Field50F·numbered 0 (map bytesOf us)) ∙ ap (λ (ls : List Str). joined (u .bytes ∷ ls)) (names-numbered 0 us (omega (arith, few Field50F refl count us (h .names)))))))
-      (either Text Field50K (λ us h. ap (_++_ (bytes ":50K:")) (plain ((47 ∷ u .bytes) ∷ []) us)) (λ us h. ap (_++_ (bytes ":50K:")) (plain [] us)))
-      (never Text Field50C refl (λ us h. refl))
-      (always Text Field50L refl (λ us h. refl))
-      (always Text Field50G refl (λ us h. refl))
-      (always Text Field50H refl (λ us h. ap (_++_ (bytes ":50H:")) (plain ((47 ∷ u .bytes) ∷ []) us)))
-      (λ present e. text-59 present)
-      (either Text Field59A (λ us h. ap (λ (x : Str). bytes ":59A:/" ++ x) (append-assoc (u .bytes) (10 ∷ []) (v .bytes))) (λ us h. refl))
-      (λ present e. text-59F present)
+      by-option (λ o. (present : Bool) → isPresence o present ≡ true → Agree o present)
+      (other Field50NoOption refl (never Text Field50NoOption refl (λ us h. ap (_++_ (bytes ":50:")) (plain [] us))))
+      (other Field50A refl (either Text Field50A (λ us h. refl) (λ us h. refl)))
+      (other Field50F refl (always Text Field50F refl (λ us h.
+      ap (_++_ (bytes ":50F:")) (join-is (u .bytes ∷ rust50.Field50F·numbered 0 (map bytesOf us)) ∙ ap (λ (ls : List Str). joined (u .bytes ∷ ls)) (names-numbered 0 us (omega (arith, few Field50F refl count us (h .names))))))))
+      (other Field50K refl (either Text Field50K (λ us h. ap (_++_ (bytes ":50K:")) (plain ((47 ∷ u .bytes) ∷ []) us)) (λ us h. ap (_++_ (bytes ":50K:")) (plain [] us))))
+      (other Field50C refl (never Text Field50C refl (λ us h. refl)))
+      (other Field50L refl (always Text Field50L refl (λ us h. refl)))
+      (other Field50G refl (always Text Field50G refl (λ us h. refl)))
+      (other Field50H refl (always Text Field50H refl (λ us h. ap (_++_ (bytes ":50H:")) (plain ((47 ∷ u .bytes) ∷ []) us))))
+      (other Field59NoOption refl (λ present e. text-59 present))
+      (other Field59A refl (either Text Field59A (λ us h. ap (λ (x : Str). bytes ":59A:/" ++ x) (append-assoc (u .bytes) (10 ∷ []) (v .bytes))) (λ us h. refl)))
+      (either Agree Field59F text-59F (equals Field59F false refl bare-59F))
 
   -- the struct's record is that of what is found in the record's lines
   abbrev Found : PartyOption → Bool → Type 0
@@ -169,5 +199,5 @@ writes p g =
     let o = p .option in
     record {
       same = ap said (found-is (p .count) _ _ o (p .present) (h .presence) _) ∙ said-party o (foundOf (parts p)) (fitting o _ _ _ _ _ h) ∙ saying-back o _ _ _ _ _ h ∙ sym (said-with p);
-      text = text-is _ _ _ o (p .present) (h .presence) _ h ∙ ap writtenField (sym (said-with p));
+      text = subst (λ (s : Said). Agrees s (to-swift-string o (structIn p))) (sym (said-with p)) (text-is _ _ _ o (p .present) (h .presence) _ h);
     }

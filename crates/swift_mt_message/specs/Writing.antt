@@ -1,21 +1,23 @@
 -- What the Rust writes: of every record that a reader can give, and of every value that the Rust's readers give for a body, the text that
--- ours writes. proofs/Writing.antt and proofs/Values.antt have the proofs.
-use Prim.Native.Nat.{ℕ}
+-- ours writes, with one LF more in 59F with an identifier. proofs/Writing.antt and proofs/Values.antt have the proofs.
+use Prim.Native.Nat.{ℕ, suc}
 use mathlib.Core.Path.{_≡_}
-use mathlib.Core.Bool.{Bool, true, false}
-use mathlib.Core.List.{List, map}
+use mathlib.Core.Bool.{Bool, true, false, _&&_}
+use mathlib.Core.List.{List, [], _∷_, map}
 use mathlib.Core.Option.{Option, none, some}
+use lib.Dec.{eqb}
+use lib.ListN.{length}
 use Rattle.errors.specs.Refusals.{accepted}
 use Rattle.party.specs.declared.PartyOption.{PartyOption}
 use Rattle.party.specs.declared.PartyOption.the-variants.{Field50NoOption, Field50A, Field50F, Field50K, Field50C, Field50L, Field50G, Field50H, Field59NoOption, Field59A, Field59F}
 use Rattle.party.specs.declared.Party.{Party}
 use Rattle.party.specs.Text.{Used, used}
-use Rattle.party.specs.Party.{namesOf, said, Same}
+use Rattle.party.specs.Party.{Said, namesOf, said, Same}
 use Rattle.reader.specs.Reading.{Reading}
 use Rattle.reader.specs.Options.{read}
 use Rattle.choices.specs.declared.Choice.{Choice}
 use Rattle.choices.specs.Choices.{parse, letterReply, parseWithVariant}
-use Rattle.writer.specs.Writing.{writtenField}
+use Rattle.writer.specs.Writing.{writtenField, identified59F}
 use Rattle.writer.specs.Given.{Given}
 use Rattle.swift_mt_message.specs.Std.{Str, Result, Ok}
 use Rattle.swift_mt_message.specs.Structs.{Struct, to-swift-string}
@@ -45,19 +47,31 @@ abbrev pub structIn : (p : Party) → Struct (p .option)
 structIn p =
     structOf (p .option) (p .present) (used (p .account) .bytes) (used (p .bic) .bytes) (map (λ (u : Used). u .bytes) (namesOf (p .count) p))
 
--- the Rust's struct has the same record, and the Rust writes of it what ours writes
+-- a text without its first empty line: of the first two LFs on end one is removed
+unfoldable pub lessEmpty : Str → Str
+lessEmpty [] = []
+lessEmpty (b ∷ []) = b ∷ []
+lessEmpty (b ∷ c ∷ text) = elim (eqb b 10 && eqb c 10) [ true ↦ c ∷ text | false ↦ b ∷ lessEmpty (c ∷ text) ]
+
+-- a text of the Rust and ours of a record (document 02, Six): equal; but in 59F with an identifier the Rust's has an empty line after it,
+-- one LF more than ours, and with that LF removed it is what ours is
+pub record Agrees (s : Said) (text : Str) : Type 0 where
+  pub equal : identified59F s ≡ false → text ≡ writtenField s
+  pub less : identified59F s ≡ true → (lessEmpty text ≡ writtenField s) × (length text ≡ suc (length (writtenField s)))
+
+-- the Rust's struct has the same record, and of it the Rust writes what ours writes, but for that LF
 pub record Writes (p : Party) : Type 0 where
   pub same : Same (recordOf (p .option) (structIn p)) p
-  pub text : to-swift-string (p .option) (structIn p) ≡ writtenField (said p)
+  pub text : Agrees (said p) (to-swift-string (p .option) (structIn p))
 
 -- our reading and a text of the Rust: ours accepts, a reader can give its record, so that 22 does not refuse it (`given-exact`), and ours
--- writes that text of it
+-- writes that text of it, but for that LF
 pub record WrittenAs (r : Reading) (text : Str) : Type 0 where
   pub accepts : r .reply ≡ accepted
   pub given : Given (r .party)
-  pub same : text ≡ writtenField (said (r .party))
+  pub agrees : Agrees (said (r .party)) text
 
--- where the Rust gives a value, what it writes of that value is what ours writes of our record
+-- where the Rust gives a value, what it writes of that value is what ours writes of our record, but for that LF
 abbrev pub ValueWritten : {A : Type 0} → (A → Str) → Result A → Reading → Type 0
 ValueWritten {A} text result r = (v : A) → result ≡ Ok v → WrittenAs r (text v)
 

@@ -1,10 +1,10 @@
 -- When a written body is read back as its record. Assumes nothing.
-use mathlib.Core.Path.{_≡_, refl, sym, _∙_, ap, subst}
+use mathlib.Core.Path.{_≡_, refl, sym, _∙_, ap}
 use mathlib.Core.Bool.{Bool, true, false, not, _&&_, false≢true, true≢false}
-use mathlib.Core.List.{List, [], _∷_, _++_, map, append-nil}
+use mathlib.Core.List.{List, [], _∷_}
 use Prim.Native.Nat.{ℕ, _≤_, _<_}
 use native.Mathlib.Omega.{arith}
-use lib.Dec.{leb, eqb}
+use lib.Dec.{leb}
 use lib.ListN.{length}
 use borrow.Author.Tests.{leb-true, not-true}
 use Rattle.errors.specs.Refusals.{Reply, accepted, refused, must, _then_}
@@ -12,7 +12,7 @@ use Rattle.errors.proofs.Replies.{refused≢accepted, must-held, then-first, th
 use Rattle.party.specs.declared.PartyOption.{PartyOption}
 use Rattle.party.specs.declared.PartyOption.the-variants.{Field50NoOption, Field50A, Field50F, Field50K, Field50C, Field50L, Field50G, Field50H, Field59NoOption, Field59A, Field59F}
 use Rattle.party.specs.declared.Party.{Party}
-use Rattle.party.specs.Limits.{limitsOf, placeOf}
+use Rattle.party.specs.Limits.{limitsOf}
 use Rattle.party.specs.Text.{Used}
 use Rattle.party.specs.Party.{Said, said}
 use Rattle.party.specs.declared.Layout.{Layout}
@@ -20,23 +20,21 @@ use Rattle.party.specs.declared.Layout.the-variants.{BicOnly, TextOnly, ByLines
 use Rattle.swift_utils.specs.Bytes.{all, between}
 use Rattle.swift_utils.specs.Checks.{parseAccount, bicLength, parseBic}
 use Rattle.swift_utils.proofs.Checks.{bicLength-least}
-use Rattle.field_utils.specs.Lines.{starts, lines, isEmpty, withoutCr}
-use Rattle.field_utils.specs.Identifier.{isNumbered}
-use Rattle.field_utils.proofs.Tests.{both-left, both-right, not-both, Line}
-use Rattle.reader.specs.Reading.{Found, giving, partyOf}
+use Rattle.field_utils.specs.Lines.{lines, isEmpty}
+use Rattle.field_utils.proofs.Tests.{both-left, both-right, Line}
+use Rattle.reader.specs.Reading.{giving, partyOf}
 use Rattle.reader.specs.Options.{accountReply, ascii, bodyReply, byLines, foundBy, read, bodyMost}
-use Rattle.reader.specs.Code.{passedHead}
-use Rattle.writer.specs.Writing.{nameLines, headLines, writtenLines, joined, writtenBody, pieces}
+use Rattle.writer.specs.Writing.{nameLines, writtenLines, joined, writtenBody, pieces}
 use Rattle.writer.specs.Given.{isAccount, isBic}
-use Rattle.writer.specs.ReadBack.{lastEmpty, earlierCr, identified59F, isReadBack}
-use Rattle.writer.proofs.Relined.{All, weight, relined, lines-at, lines-joined, relined-same, relined-empty, relined-cr, pieces-joined, cr-all}
-use Rattle.writer.proofs.Sayings.{saidWith, bytesOf, said-party, saying, line-free}
-use Rattle.writer.proofs.Facts.{Facts, names-are, account-line, account-passes, bic-passes}
-use Rattle.writer.proofs.Bare.{bareHead, bare, foundOf, Reads, bare-found}
-use Rattle.writer.proofs.Witness.{Plain, bare-plain}
-use Rattle.writer.proofs.Sizes.{gap-none, bare-183, joined-most}
+use Rattle.writer.specs.ReadBack.{lastEmpty, earlierCr, isReadBack}
+use Rattle.writer.proofs.Relined.{All, weight, relined, lines-joined, relined-same, relined-empty, relined-cr, pieces-joined}
+use Rattle.writer.proofs.Sayings.{saidWith, said-party, saying, line-free}
+use Rattle.writer.proofs.Facts.{Facts, account-line, account-passes, bic-passes}
+use Rattle.writer.proofs.Written.{foundOf, Reads, written-found}
+use Rattle.writer.proofs.Witness.{Plain, written-plain}
+use Rattle.writer.proofs.Sizes.{written-183, joined-most}
 use Rattle.writer.proofs.Sufficient.{lines-of, joined-ascii, body-fits}
-use Rattle.writer.proofs.Necessary.{GoodIn, readLines, by-head, names-of, letters-free, found-good}
+use Rattle.writer.proofs.Necessary.{GoodIn, readLines, letters-free, found-good}
 
 -- ---- what an accepted body gives
 pub record Accepted (o : PartyOption) (body : List ℕ) : Type 0 where
@@ -61,35 +59,10 @@ accepted-is o body e =
     let g = found-good o body a (then-second (bodyReply body) _ r) in
     record { fits = b; good = g; says = ap said (giving-party (bodyReply body then f .reply) (partyOf o f) r) ∙ said-party o f (g .fits) }
 
--- ---- written lines, where there is no empty one after an identifier
-module _ (o : PartyOption) (present : Bool) (count : ℕ) (u v : Used) (us : List Used) where
-  abbrev S : Said
-  S = saidWith o present count u v us
-
-  pub written-bare : identified59F S ≡ false → writtenLines S ≡ bare S
-  unfolding writtenLines bare identified59F
-  written-bare e = go present refl
-    where
-      go : (t : Bool) → present ≡ t
-          → headLines o t (S .account) ++ map bytesOf (S .bic) ++ nameLines (limitsOf o .numbering) 1 (S .names) ≡ bareHead o t (S .account) ++ map bytesOf (S .bic) ++ nameLines (limitsOf o .numbering) 1 (S .names)
-      go true p = rw (gap-none o (not-both (eqb (placeOf o) (placeOf Field59F)) present e p), append-nil (bareHead o true (S .account)))
-      go false p = refl
-
-  pub plain : Facts S → All Plain (bare S)
-  plain = bare-plain o present count u v us
-
-  pub body-bare : identified59F S ≡ false → writtenBody S ≡ joined (bare S)
-  unfolding writtenBody
-  body-bare e = ap joined (written-bare e)
-
 -- ---- read back
--- the three tests
+-- the two tests
 abbrev plainly : List ℕ → Bool
 plainly body = not (lastEmpty (pieces body)) && not (earlierCr (pieces body))
-
-pub not-identified : (s : Said) → isReadBack s ≡ true → identified59F s ≡ false
-unfolding isReadBack
-not-identified s e = not-true _ (both-right (plainly (writtenBody s)) (not (identified59F s)) e)
 
 not-last : (body : List ℕ) → plainly body ≡ true → lastEmpty (pieces body) ≡ false
 not-last body e = not-true _ (both-left (not (lastEmpty (pieces body))) (not (earlierCr (pieces body))) e)
@@ -102,7 +75,7 @@ unfolding lastEmpty pieces joined
 some [] e = absurd (true≢false e)
 some (l ∷ ls) e = omega arith
 
-joined-found : (layout : Layout) (o : PartyOption) (s : Said) → Reads layout o s → lines (joined (bare s)) ≡ bare s → foundBy layout o (joined (bare s)) ≡ foundOf s
+joined-found : (layout : Layout) (o : PartyOption) (s : Said) → Reads layout o s → lines (joined (writtenLines s)) ≡ writtenLines s → foundBy layout o (joined (writtenLines s)) ≡ foundOf s
 joined-found BicOnly o s r e = r
 joined-found TextOnly o s r e = r
 joined-found ByLines o s r e = ap (byLines o) e ∙ r
@@ -111,23 +84,24 @@ module _ (o : PartyOption) (present : Bool) (count : ℕ) (u v : Used) (us : Lis
   abbrev T : Said
   T = saidWith o present count u v us
 
-  pub back-fits : identified59F T ≡ false → bodyReply (writtenBody T) ≡ accepted
-  back-fits e =
-      let b = bare-183 o present count u v us h in
-      rw (body-bare o present count u v us e)
-      (body-fits (joined (bare T)) (omega (arith, joined-most (bare T) 183 (omega arith))) (joined-ascii (bare T) (plain o present count u v us h)))
+  abbrev ws : List (List ℕ)
+  ws = writtenLines T
+
+  plain : All Plain ws
+  plain = written-plain o present count u v us h
+
+  pub back-fits : bodyReply (writtenBody T) ≡ accepted
+  unfolding writtenBody
+  back-fits = body-fits (joined ws) (omega (arith, joined-most ws 182 (written-183 o present count u v us h))) (joined-ascii ws plain)
 
   pub back-found : isReadBack T ≡ true → foundBy (limitsOf o .layout) o (writtenBody T) ≡ foundOf T
-  unfolding isReadBack
+  unfolding isReadBack writtenBody
   back-found e =
-      let q = body-bare o present count u v us (not-identified T e) in
-      let two : plainly (joined (bare T)) ≡ true = ap plainly (sym q) ∙ both-left (plainly (writtenBody T)) (not (identified59F T)) e in
-      let ls = lines-of (bare T) (plain o present count u v us h) in
-      let last = not-last (joined (bare T)) two in
-      let p : pieces (joined (bare T)) ≡ bare T = pieces-joined (bare T) (some (bare T) last) ls in
-      let same : lines (joined (bare T)) ≡ bare T =
-      lines-joined (bare T) ls ∙ relined-same (bare T) (ap lastEmpty (sym p) ∙ last) (ap earlierCr (sym p) ∙ not-cr (joined (bare T)) two) in
-      ap (foundBy (limitsOf o .layout) o) q ∙ joined-found (limitsOf o .layout) o T (bare-found count u v us o present h) same
+      let ls = lines-of ws plain in
+      let last = not-last (joined ws) e in
+      let p : pieces (joined ws) ≡ ws = pieces-joined ws (some ws last) ls in
+      let same : lines (joined ws) ≡ ws = lines-joined ws ls ∙ relined-same ws (ap lastEmpty (sym p) ∙ last) (ap earlierCr (sym p) ∙ not-cr (joined ws) e) in
+      joined-found (limitsOf o .layout) o T (written-found count u v us o present h) same
 
 -- ---- not read back
 -- the lines of a body that is not read back weigh less than the record's
@@ -145,15 +119,11 @@ module _ (o : PartyOption) (present : Bool) (count : ℕ) (u v : Used) (us : Lis
   R = saidWith o present count u v us
 
   -- its lines are read, and weigh no less than the record's
-  lines-no : identified59F R ≡ false → isReadBack R ≡ false → byLines o (lines (writtenBody R)) .reply ≡ accepted → weight (bare R) ≤ weight (lines (writtenBody R)) → ⊥
-  unfolding isReadBack joined lines
-  lines-no id e r w =
-      let q = body-bare o present count u v us id in
-      let two : plainly (joined (bare R)) ≡ false = ap plainly (sym q) ∙ not-both (plainly (writtenBody R)) (not (identified59F R)) e (ap not id) in
-      let n : byLines o (lines (joined (bare R))) .reply ≡ accepted = ap (λ (b : List ℕ). byLines o (lines b) .reply) (sym q) ∙ r in
-      let ls = lines-of (bare R) (plain o present count u v us h) in
-      let k : weight (bare R) ≤ weight (lines (joined (bare R))) = subst (λ (b : List ℕ). weight (bare R) ≤ weight (lines b)) q w in
-      omega (arith, k, lighter (bare R) (nonempty (bare R) n) ls two)
+  lines-no : isReadBack R ≡ false → byLines o (lines (writtenBody R)) .reply ≡ accepted → weight (writtenLines R) ≤ weight (lines (writtenBody R)) → ⊥
+  unfolding isReadBack writtenBody joined lines
+  lines-no e r w =
+      let ls = lines-of (writtenLines R) (written-plain o present count u v us h) in
+      omega (arith, w, lighter (writtenLines R) (nonempty (writtenLines R) r) ls e)
     where
       nonempty : (xs : List (List ℕ)) → byLines o (lines (joined xs)) .reply ≡ accepted → 0 < length xs
       nonempty [] a = absurd (refused≢accepted a)
@@ -167,43 +137,6 @@ single x h n = rw (pieces-joined (x ∷ []) (omega arith) (h, tt)) (go x n)
     go : (y : List ℕ) → 0 < length y → (not (isEmpty y) && true) ≡ true
     go [] k = absurd (omega arith)
     go (b ∷ y) k = refl
-
--- 59F with identifier: its second line is empty, so not numbered
-slash-kept : (x : List ℕ) → starts 47 (withoutCr (47 ∷ x)) ≡ true
-unfolding starts withoutCr
-slash-kept [] = refl
-slash-kept (b ∷ x) = refl
-
-gap-refused : (w : List ℕ) (ls : List (List ℕ)) → starts 47 w ≡ true → all ascii w ≡ true → byLines Field59F (w ∷ [] ∷ ls) .reply ≡ accepted → ⊥
-unfolding isNumbered
-gap-refused w ls s a e =
-    by-head Field59F w ([] ∷ ls) a e
-    (λ d. let p = names-of Field59F 2 (passedHead true (d .there .text)) ([] ∷ ls) (λ z. omega arith) (ap (λ (f : Found). f .reply) (sym (d .found)) ∙ e) in
-    false≢true (p .each .0 .number))
-    (λ d. true≢false (sym s ∙ d .none .free))
-
-module _ (count : ℕ) (u v : Used) (us : List Used) (h : Facts (saidWith Field59F true count u v us)) where
-  abbrev line : List ℕ
-  line = 47 ∷ u .bytes
-
-  abbrev names : List (List ℕ)
-  names = nameLines (limitsOf Field59F .numbering) 1 us
-
-  pub identified-body : writtenBody (saidWith Field59F true count u v us) ≡ line ++ 10 ∷ 10 ∷ joined names
-  unfolding writtenBody writtenLines joined
-  identified-body = go names (names-are Field59F count us (h .names) .pass refl .least)
-    where
-      go : (ws : List (List ℕ)) → 0 < length ws → joined (line ∷ [] ∷ ws) ≡ line ++ 10 ∷ 10 ∷ joined ws
-      go [] n = absurd (omega arith)
-      go (w ∷ ws) n = refl
-
-  -- whatever follows the empty line
-  pub identified-no : (rest : List ℕ) → byLines Field59F (lines (line ++ 10 ∷ 10 ∷ rest)) .reply ≡ accepted → ⊥
-  unfolding lines bare
-  identified-no rest e =
-      let p = plain Field59F true count u v us h in
-      let ls : All Line (line ∷ names) = lines-of (bare (saidWith Field59F true count u v us)) p in
-      gap-refused (withoutCr line) (lines rest) (slash-kept (u .bytes)) (cr-all ascii line (p .0 .bytes)) (ap (λ (x : List (List ℕ)). byLines Field59F x .reply) (sym (lines-at line (10 ∷ rest) (ls .0))) ∙ e)
 
 -- a BIC has a byte, and so has a 50L
 pub bic-least : (n : ℕ) (x : List ℕ) → parseBic n x ≡ accepted → 8 ≤ length x
@@ -223,29 +156,27 @@ module _ (count : ℕ) (u v : Used) (us : List Used) where
   -- what reading its body gives weighs no less than the record's lines
   pub record Again (o : PartyOption) (present : Bool) : Type 0 where
     pub reply : foundBy (limitsOf o .layout) o (writtenBody (Q o present)) .reply ≡ accepted
-    pub heavy : weight (bare (Q o present)) ≤ weight (readLines (limitsOf o .layout) (writtenBody (Q o present)))
+    pub heavy : weight (writtenLines (Q o present)) ≤ weight (readLines (limitsOf o .layout) (writtenBody (Q o present)))
 
   pub back-no : (o : PartyOption) (present : Bool) → Facts (Q o present) → isReadBack (Q o present) ≡ false → Again o present → ⊥
-  unfolding identified59F isReadBack writtenBody writtenLines nameLines
-  back-no Field50NoOption present h e a = lines-no Field50NoOption present count u v us h refl e (a .reply) (a .heavy)
-  back-no Field50A present h e a = lines-no Field50A present count u v us h refl e (a .reply) (a .heavy)
-  back-no Field50F present h e a = lines-no Field50F present count u v us h refl e (a .reply) (a .heavy)
-  back-no Field50K present h e a = lines-no Field50K present count u v us h refl e (a .reply) (a .heavy)
+  unfolding isReadBack writtenBody writtenLines nameLines
+  back-no Field50NoOption present h e a = lines-no Field50NoOption present count u v us h e (a .reply) (a .heavy)
+  back-no Field50A present h e a = lines-no Field50A present count u v us h e (a .reply) (a .heavy)
+  back-no Field50F present h e a = lines-no Field50F present count u v us h e (a .reply) (a .heavy)
+  back-no Field50K present h e a = lines-no Field50K present count u v us h e (a .reply) (a .heavy)
   back-no Field50C true h e a = absurd (false≢true (h .presence))
   back-no Field50C false h e a =
       let x = v .bytes in
       let b : parseBic 1 x ≡ accepted = bic-passes v (both-left (isBic v) true (h .bic)) in
-      true≢false (sym (ap (λ (t : Bool). t && true) (single x (letters-free 1 x b) (omega (arith, bic-least 1 x b)))) ∙ e)
+      true≢false (sym (single x (letters-free 1 x b) (omega (arith, bic-least 1 x b))) ∙ e)
   back-no Field50L false h e a = absurd (false≢true (h .presence))
   back-no Field50L true h e a =
       let x = u .bytes in
       let i : isAccount Field50L true u ≡ true = both-left (isAccount Field50L true u) true (h .account) in
       let n = text-least Field50L x (account-passes Field50L u i) in
-      true≢false (sym (ap (λ (t : Bool). t && true) (single x (line-free u (account-line Field50L true u i)) (omega (arith, n)))) ∙ e)
-  back-no Field50G present h e a = lines-no Field50G present count u v us h refl e (a .reply) (a .heavy)
-  back-no Field50H present h e a = lines-no Field50H present count u v us h refl e (a .reply) (a .heavy)
-  back-no Field59NoOption present h e a = lines-no Field59NoOption present count u v us h refl e (a .reply) (a .heavy)
-  back-no Field59A present h e a = lines-no Field59A present count u v us h refl e (a .reply) (a .heavy)
-  back-no Field59F true h e a =
-      identified-no count u v us h _ (ap (λ (b : List ℕ). byLines Field59F (lines b) .reply) (sym (identified-body count u v us h)) ∙ a .reply)
-  back-no Field59F false h e a = lines-no Field59F false count u v us h refl e (a .reply) (a .heavy)
+      true≢false (sym (single x (line-free u (account-line Field50L true u i)) (omega (arith, n))) ∙ e)
+  back-no Field50G present h e a = lines-no Field50G present count u v us h e (a .reply) (a .heavy)
+  back-no Field50H present h e a = lines-no Field50H present count u v us h e (a .reply) (a .heavy)
+  back-no Field59NoOption present h e a = lines-no Field59NoOption present count u v us h e (a .reply) (a .heavy)
+  back-no Field59A present h e a = lines-no Field59A present count u v us h e (a .reply) (a .heavy)
+  back-no Field59F present h e a = lines-no Field59F present count u v us h e (a .reply) (a .heavy)

@@ -4,7 +4,7 @@ use mathlib.Core.Path.{_≡_, refl, _∙_, sym, ap}
 use mathlib.Core.Bool.{Bool, true, false}
 use mathlib.Core.List.{List, [], _∷_, _++_, map, append-assoc, append-nil}
 use native.Mathlib.Omega.{arith}
-use lib.Dec.{eqb}
+use lib.Dec.{ltb, eqb}
 use lib.ListN.{length, take}
 use borrow.Author.Tests.{lt-ltb, eq-eqb, ne-eqb, eqb-true, eqb-false}
 use Rattle.party.specs.declared.PartyOption.{PartyOption}
@@ -53,19 +53,11 @@ record Headed (o : PartyOption) (present : Bool) (u : Used) : Type 0 where
 headed : (o : PartyOption) (present : Bool) (u : Used) → Headed o present u
 unfolding led after
 headed o false u = record { bytes = refl; later = refl }
-headed o true u =
-    by-option (λ (k : PartyOption). Headed k true u)
-    (record { bytes = refl; later = refl })
-    (record { bytes = refl; later = refl })
-    (record { bytes = refl; later = refl })
-    (record { bytes = refl; later = refl })
-    (record { bytes = refl; later = refl })
-    (record { bytes = refl; later = refl })
-    (record { bytes = refl; later = refl })
-    (record { bytes = refl; later = refl })
-    (record { bytes = refl; later = refl })
-    (record { bytes = refl; later = refl })
-    (record { bytes = refl; later = refl }) o
+headed o true u = go (ltb 0 (limitsOf o .longest)) refl
+  where
+    go : (t : Bool) → ltb 0 (limitsOf o .longest) ≡ t → Headed o true u
+    go true e = record { bytes = rw (e, where-limit) (append-nil (slashOf o ++ u .bytes)); later = rw (e, where-limit) }
+    go false e = record { bytes = rw (e, where-limit); later = rw (e, where-limit) }
 
 -- ---- the field
 pub field-parts :

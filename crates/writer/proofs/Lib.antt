@@ -10,10 +10,11 @@ pub mod NamePasses
 pub mod HeadPasses
 pub mod Ascii
 pub mod Facts
-pub mod Bare
+pub mod Written
 pub mod Witness
 pub mod Sizes
 pub mod Sufficient
 pub mod Necessary
 pub mod Back
 pub mod Theorems
+pub mod Longest

@@ -30,14 +30,14 @@ use Rattle.reader.specs.Options.{isCounted, Head, noHead, headBy, accountReply,
 use Rattle.reader.specs.Code.{passedHead}
 use Rattle.reader.proofs.Bodies.{head-there, head-none}
 use Rattle.reader.proofs.Readings.{rest-bic, rest-names}
-use Rattle.writer.specs.Writing.{slashOf, nameLines}
+use Rattle.writer.specs.Writing.{slashOf, nameLines, writtenLines}
 use Rattle.writer.specs.Given.{passes, every, isLine, textReply, isAccount, isPresence, isBic, areNames, isTaken}
 use Rattle.writer.proofs.NamePasses.{passing, NamesPass, names-held, names-pass, written-length, again, again-pass, AllRewritten, rewritten-weight, again-lines, kept-short, kept-lines}
 use Rattle.writer.proofs.Relined.{All, weight, lines-are}
 use Rattle.writer.proofs.Sayings.{usedOf, Short, Fitting, saying, line-is, lines-is}
 use Rattle.writer.proofs.HeadPasses.{slashBy, extra-most, text-length, There, None, first-there, first-none}
 use Rattle.writer.proofs.Facts.{Facts, are-names, small}
-use Rattle.writer.proofs.Bare.{bare, bic-any}
+use Rattle.writer.proofs.Written.{bic-any}
 use Rattle.writer.proofs.Witness.{bic-most}
 
 -- ---- a test that every byte of a body passes is passed by every byte of its lines
@@ -92,11 +92,11 @@ pub record Good (f : Found) (s : Said) (ls : List (List ℕ)) : Type 0 where
   pub reply : f .reply ≡ accepted
   pub fits : Fitting f
   pub facts : Facts s
-  pub some : 0 < length (bare s)
-  pub lines : AllRewritten (bare s) ls
+  pub some : 0 < length (writtenLines s)
+  pub lines : AllRewritten (writtenLines s) ls
 
-pub light : {f : Found} {s : Said} {ls : List (List ℕ)} → Good f s ls → weight (bare s) ≤ weight ls
-light {s = s} {ls = ls} g = rewritten-weight (bare s) ls (g .lines)
+pub light : {f : Found} {s : Said} {ls : List (List ℕ)} → Good f s ls → weight (writtenLines s) ≤ weight ls
+light {s = s} {ls = ls} g = rewritten-weight (writtenLines s) ls (g .lines)
 
 -- the parts
 slash-line : (o : PartyOption) (x l : List ℕ) → l ≡ slashBy (limitsOf o .first) ++ x → Line l → Line x
@@ -157,7 +157,7 @@ module _ (o : PartyOption) (ls : List (List ℕ)) (h : All Line ls) (p : NamesPa
 bic-of : (o : PartyOption) (n : ℕ) (h : Head) (ls : List (List ℕ)) → limitsOf o .names ≡ 0 → afterHead o n h ls .reply ≡ accepted → withBic n h ls .reply ≡ accepted
 bic-of o n h ls z e = ap (λ (f : Found). f .reply) (sym (rest-bic o refl n h ls z)) ∙ e
 
-pub names-of : (o : PartyOption) (n : ℕ) (h : Head) (ls : List (List ℕ)) → (limitsOf o .names ≡ 0 → ⊥) → afterHead o n h ls .reply ≡ accepted → NamesPass o ls
+names-of : (o : PartyOption) (n : ℕ) (h : Head) (ls : List (List ℕ)) → (limitsOf o .names ≡ 0 → ⊥) → afterHead o n h ls .reply ≡ accepted → NamesPass o ls
 names-of o n h ls z e = names-held o n ls (ap (λ (f : Found). f .reply) (sym (rest-names o refl n h ls z)) ∙ e)
 
 -- what is said where there is a BIC, and where there are names
@@ -178,7 +178,7 @@ module _ (o : PartyOption) where
   bic-heading : (z : limitsOf o .names ≡ 0) → isPresence o true ≡ true → slashOf o ≡ slashBy (limitsOf o .first) → (l : List ℕ) (ls : List (List ℕ)) (d : Heading o l ls)
       → All Line (l ∷ ls) → byLines o (l ∷ ls) .reply ≡ accepted → (b : List ℕ) (rest : List (List ℕ)) → ls ≡ b ∷ rest
       → Good (withBic 2 (passedHead true (d .there .text)) (b ∷ rest)) (withOne o true (d .there .text) b) (l ∷ ls)
-  unfolding bare nameLines
+  unfolding writtenLines nameLines
   bic-heading z i s l ls d h e b rest q =
       let x = d .there .text in
       let r : withBic 2 (passedHead true x) ls .reply ≡ accepted = bic-of o 2 (passedHead true x) ls z (ap (λ (f : Found). f .reply) (sym (d .found)) ∙ e) in
@@ -200,7 +200,7 @@ module _ (o : PartyOption) where
 
   bic-headless : (z : limitsOf o .names ≡ 0) → isPresence o false ≡ true → (l : List ℕ) (ls : List (List ℕ)) → All Line (l ∷ ls) → Headless o l ls → byLines o (l ∷ ls) .reply ≡ accepted
       → (isTaken (limitsOf o .first) [] ≡ false) → Good (withBic 1 noHead (l ∷ ls)) (withOne o false [] l) (l ∷ ls)
-  unfolding bare nameLines
+  unfolding writtenLines nameLines
   bic-headless z i l ls h d e t =
       let a : parseBic 1 l ≡ accepted = bic-of o 1 noHead (l ∷ ls) z (ap (λ (f : Found). f .reply) (sym (d .found)) ∙ e) in
       record {
@@ -214,7 +214,7 @@ module _ (o : PartyOption) where
   names-heading : (z : limitsOf o .names ≡ 0 → ⊥) → isPresence o true ≡ true → slashOf o ≡ slashBy (limitsOf o .first) → (l : List ℕ) (ls : List (List ℕ)) (d : Heading o l ls)
       → All Line (l ∷ ls) → byLines o (l ∷ ls) .reply ≡ accepted
       → Good (withNames o 2 (passedHead true (d .there .text)) ls) (withSome o true (usedOf (d .there .text) ∷ []) (map (kept (limitsOf o .numbering)) ls)) (l ∷ ls)
-  unfolding bare
+  unfolding writtenLines
   names-heading z i s l ls d h e =
       let x = d .there .text in
       let r : afterHead o 2 (passedHead true x) ls .reply ≡ accepted = ap (λ (f : Found). f .reply) (sym (d .found)) ∙ e in
@@ -237,7 +237,7 @@ module _ (o : PartyOption) where
       → All Line (l ∷ ls) → Headless o l ls → byLines o (l ∷ ls) .reply ≡ accepted
       → (NamesPass o (l ∷ ls) → isTaken (limitsOf o .first) (map usedOf (map (kept (limitsOf o .numbering)) (l ∷ ls))) ≡ false)
       → Good (withNames o 1 noHead (l ∷ ls)) (withSome o false us (map (kept (limitsOf o .numbering)) (l ∷ ls))) (l ∷ ls)
-  unfolding bare
+  unfolding writtenLines
   names-headless z i us a l ls h d e t =
       let r : afterHead o 1 noHead (l ∷ ls) .reply ≡ accepted = ap (λ (f : Found). f .reply) (sym (d .found)) ∙ e in
       let p = names-of o 1 noHead (l ∷ ls) z r in
@@ -250,7 +250,7 @@ module _ (o : PartyOption) where
       }
 
 -- ---- by the option
-pub by-head : (o : PartyOption) (l : List ℕ) (ls : List (List ℕ)) → all ascii l ≡ true → byLines o (l ∷ ls) .reply ≡ accepted → {C : Type 0}
+by-head : (o : PartyOption) (l : List ℕ) (ls : List (List ℕ)) → all ascii l ≡ true → byLines o (l ∷ ls) .reply ≡ accepted → {C : Type 0}
     → (Heading o l ls → C) → (Headless o l ls → C) → C
 by-head o l ls a e {C} f g = go (headBy (limitsOf o .first) o l .present) refl
   where
@@ -362,7 +362,7 @@ bic-line n x = go (parseBic n x) refl
     go (refused k m) e = and-false (not (among x 10))
 
 bic-only-good : (body : List ℕ) → bicOnly body .reply ≡ accepted → GoodIn Field50C (body ∷ []) (bicOnly body)
-unfolding bare nameLines
+unfolding writtenLines nameLines
 bic-only-good body e =
     record {
       reply = e;
@@ -373,7 +373,7 @@ bic-only-good body e =
     }
 
 text-only-good : (body : List ℕ) → textOnly Field50L body .reply ≡ accepted → GoodIn Field50L (body ∷ []) (textOnly Field50L body)
-unfolding bare nameLines
+unfolding writtenLines nameLines
 text-only-good body e =
     let line : Line body = not-true _ (must-held (not (among body 10)) 1 0 (then-first _ _ e)) in
     let a : accountReply Field50L body ≡ accepted = then-second (must (not (among body 10)) 1 0) _ e in

@@ -73,7 +73,7 @@ module _ (s : Said) where
         let e = unmeasured m in
         place-22 e ∙ ap {B = Placing} (λ (a : Measured). record { answer = a; buffer = buffer }) (measure-22 e ∙ m)
 
-    -- a buffer of 188 bytes is large enough, where no field has more
+    -- a buffer of 187 bytes is large enough, where no field has more
     pub pair : (isGiven s ≡ true → length field ≤ fieldMost) → Pair s buffer
     pair most = record {
       measured = space-measured;

@@ -6,10 +6,9 @@ use Prim.Native.Nat.{ℕ, suc, _+_, _≤_, _<_}
 use native.Mathlib.Omega.{arith}
 use lib.Dec.{eqb}
 use lib.ListN.{length}
-use Rattle.swift_utils.specs.Bytes.{all}
 use Rattle.field_utils.specs.Lines.{onto, starts, lines, isEmpty, withoutCr}
 use Rattle.field_utils.proofs.Places.{withoutCr-short}
-use Rattle.field_utils.proofs.Tests.{first-not, rest-not, none-more, both, both-left, both-right, either-left, either-right, Line}
+use Rattle.field_utils.proofs.Tests.{first-not, rest-not, none-more, either-left, either-right, Line}
 use Rattle.writer.specs.Writing.{joined, pieces}
 use Rattle.writer.specs.ReadBack.{endsCr, lastEmpty, earlierCr}
 
@@ -68,14 +67,7 @@ cr-front (b ∷ []) [] e = rw (e, withoutCr)
 cr-front (b ∷ []) (a ∷ x) e = refl
 cr-front (b ∷ a ∷ t) x e = ap (_∷_ b) (cr-front (a ∷ t) x e)
 
--- and so does a line in front, with its LF
-pub cr-after : (l x : List ℕ) → withoutCr (l ++ 10 ∷ x) ≡ l ++ 10 ∷ withoutCr x
-unfolding withoutCr
-cr-after [] [] = refl
-cr-after [] (a ∷ x) = refl
-cr-after (b ∷ []) x = ap (_∷_ b) (cr-after [] x)
-cr-after (b ∷ a ∷ l) x = ap (_∷_ b) (cr-after (a ∷ l) x)
-
+-- a line in front, with its LF, does not count
 pub ends-after : (l x : List ℕ) → endsCr (l ++ 10 ∷ x) ≡ endsCr x
 unfolding endsCr
 ends-after [] [] = refl
@@ -185,14 +177,3 @@ lines-are (b ∷ l) = go (eqb b 10) (eqb b 13 && starts 10 l) refl refl (lines-a
     go true q e f h = rw (e, lines) (refl, h)
     go false true e f h = rw (e, lines) (rw f h)
     go false false e f h = rw (e, lines) (rw f (onto-lines b (lines l) e h))
-
--- a line without a CR has no other bytes
-pub cr-all : (f : ℕ → Bool) (l : List ℕ) → all f l ≡ true → all f (withoutCr l) ≡ true
-unfolding withoutCr
-cr-all f [] e = refl
-cr-all f (b ∷ []) e = go (eqb b 13) refl
-  where
-    go : (t : Bool) → eqb b 13 ≡ t → all f (withoutCr (b ∷ [])) ≡ true
-    go true a = rw (a, withoutCr)
-    go false a = rw (a, withoutCr) e
-cr-all f (b ∷ a ∷ l) e = both (f b) (all f (withoutCr (a ∷ l))) (both-left (f b) (all f (a ∷ l)) e) (cr-all f (a ∷ l) (both-right (f b) (all f (a ∷ l)) e))

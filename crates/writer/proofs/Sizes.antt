@@ -17,16 +17,14 @@ use Rattle.party.proofs.Options.{place-one, by-option}
 use Rattle.field_utils.specs.Names.{skipOf}
 use Rattle.field_utils.specs.Tags.{tagOf}
 use Rattle.field_utils.proofs.Tests.{both-left}
-use Rattle.writer.specs.Writing.{slashOf, gapOf, nameLines, headLines, writtenLines, joined, writtenBody, writtenField, fieldMost}
+use Rattle.writer.specs.Writing.{slashOf, nameLines, headLines, writtenLines, joined, writtenBody, writtenField, fieldMost, identified59F}
 use Rattle.writer.specs.Given.{every, isAccount, isBic, areNames}
-use Rattle.writer.specs.ReadBack.{identified59F}
 use Rattle.writer.proofs.Fields.{tag-most}
 use Rattle.writer.proofs.Relined.{weight, closed}
 use Rattle.writer.proofs.Sayings.{saidWith, bytesOf}
 use Rattle.writer.proofs.NamePasses.{AllPass}
 use Rattle.writer.proofs.HeadPasses.{extraOf, text-length}
 use Rattle.writer.proofs.Facts.{Facts, names-are, account-passes, bic-passes}
-use Rattle.writer.proofs.Bare.{bareHead, bare}
 use Rattle.writer.proofs.Witness.{bic-most, names-none}
 
 pub weight-append : (xs ys : List (List ℕ)) → weight (xs ++ ys) ≡ weight xs + weight ys
@@ -44,7 +42,7 @@ one-text limit u = go (ltb 0 limit) refl
     go true e = rw (e, where-limit) (omega arith)
     go false e = rw (e, where-limit) (omega arith)
 
-head-weight : (o : PartyOption) (present : Bool) (us : List Used) → length us ≤ 1 → every (isAccount o present) us ≡ true → weight (bareHead o present us) ≤ headMost o
+head-weight : (o : PartyOption) (present : Bool) (us : List Used) → length us ≤ 1 → every (isAccount o present) us ≡ true → weight (headLines o present us) ≤ headMost o
 head-weight o true [] n h = omega arith
 head-weight o true (u ∷ []) n h =
     omega (arith, length-append (slashOf o) (u .bytes), text-length (limitsOf o .first) o (u .bytes) (account-passes o u (both-left (isAccount o true u) true h)))
@@ -100,12 +98,6 @@ table-180 =
     by-option (λ (o : PartyOption). eqb (placeOf o) (placeOf Field59F) ≡ false → leb (headMost o + bicMost o + namesMost o) 180 ≡ true) (λ e. refl)
     (λ e. refl) (λ e. refl) (λ e. refl) (λ e. refl) (λ e. refl) (λ e. refl) (λ e. refl) (λ e. refl) (λ e. refl) (λ e. absurd (true≢false e))
 
--- only 59F has an empty line after its identifier
-pub gap-none : (o : PartyOption) → eqb (placeOf o) (placeOf Field59F) ≡ false → gapOf o ≡ []
-gap-none =
-    by-option (λ (o : PartyOption). eqb (placeOf o) (placeOf Field59F) ≡ false → gapOf o ≡ []) (λ e. refl) (λ e. refl) (λ e. refl) (λ e. refl)
-    (λ e. refl) (λ e. refl) (λ e. refl) (λ e. refl) (λ e. refl) (λ e. refl) (λ e. absurd (true≢false e))
-
 -- what lines weigh closed, and joined
 pub closed-length : (ls : List (List ℕ)) → length (closed ls) ≤ weight ls + weight ls
 closed-length [] = omega arith
@@ -127,79 +119,33 @@ module _ (o : PartyOption) (present : Bool) (count : ℕ) (u v : Used) (us : Lis
   abbrev S : Said
   S = saidWith o present count u v us
 
-  parts : weight (bare S) ≤ weight (bareHead o present (S .account)) + bicMost o + namesMost o
-  unfolding bare
+  parts : weight (writtenLines S) ≤ weight (headLines o present (S .account)) + bicMost o + namesMost o
+  unfolding writtenLines
   parts =
       let b = bic-weight o v (h .bic) in
       let n = names-weight o count us (h .names) in
-      let x = weight-append (bareHead o present (S .account)) (map bytesOf (S .bic)) in
-      let y = weight-append (bareHead o present (S .account) ++ map bytesOf (S .bic)) (nameLines (limitsOf o .numbering) 1 (S .names)) in
+      let x = weight-append (headLines o present (S .account)) (map bytesOf (S .bic)) in
+      let y = weight-append (headLines o present (S .account) ++ map bytesOf (S .bic)) (nameLines (limitsOf o .numbering) 1 (S .names)) in
       omega (arith, b, n, x, y)
 
-  head-part : weight (bareHead o present (S .account)) ≤ headMost o
+  head-part : weight (headLines o present (S .account)) ≤ headMost o
   head-part = head-weight o present (S .account) (one-text (limitsOf o .longest) u) (h .account)
 
-  pub bare-183 : weight (bare S) ≤ 183
-  bare-183 = omega (arith, parts, head-part, leb-true (headMost o + bicMost o + namesMost o) 183 (table-183 o))
+  pub written-183 : weight (writtenLines S) ≤ 183
+  written-183 = omega (arith, parts, head-part, leb-true (headMost o + bicMost o + namesMost o) 183 (table-183 o))
 
-  -- 59F's empty line
-  abbrev gapPart : Bool → ℕ
-  gapPart true = weight (gapOf o)
-  gapPart false = 0
-
-  written-weight : weight (writtenLines S) ≡ weight (bare S) + gapPart present
-  unfolding writtenLines bare
-  written-weight = go present
-    where
-      go : (t : Bool) → weight (headLines o t (S .account) ++ map bytesOf (S .bic) ++ nameLines (limitsOf o .numbering) 1 (S .names))
-          ≡ weight (bareHead o t (S .account) ++ map bytesOf (S .bic) ++ nameLines (limitsOf o .numbering) 1 (S .names)) + gapPart t
-      go true =
-          let head = bareHead o true (S .account) in
-          let bic = map bytesOf (S .bic) in
-          let names = nameLines (limitsOf o .numbering) 1 (S .names) in
-          omega (arith, weight-append (head ++ gapOf o ++ bic) names, weight-append (head ++ gapOf o) bic, weight-append head (gapOf o), weight-append (head ++ bic) names, weight-append head bic)
-      go false = omega arith
-
-  gap-59F : eqb (placeOf o) (placeOf Field59F) ≡ true → weight (gapOf o) ≡ 1
-  gap-59F e = ap (λ (r : PartyOption). weight (gapOf r)) (place-one o Field59F (eqb-true _ _ e))
-
-  gap-other : eqb (placeOf o) (placeOf Field59F) ≡ false → weight (gapOf o) ≡ 0
-  gap-other e = ap weight (gap-none o e)
-
-  gap-one : gapPart present ≤ 1
-  gap-one = go (eqb (placeOf o) (placeOf Field59F)) present refl
-    where
-      go : (t q : Bool) → eqb (placeOf o) (placeOf Field59F) ≡ t → gapPart q ≤ 1
-      go t false e = omega arith
-      go true true e = omega (arith, gap-59F e)
-      go false true e = omega (arith, gap-other e)
-
-  -- a written field has at most 188 bytes
+  -- a written field has at most 187 bytes
   pub field-most : length (writtenField S) ≤ fieldMost
   unfolding writtenField writtenBody
-  field-most =
-      omega (
-        arith,
-        joined-most (writtenLines S) 183 (omega (arith, written-weight, gap-one, bare-183)),
-        length-append (tagOf o) (joined (writtenLines S)),
-        tag-most o,
-      )
+  field-most = omega (arith, joined-most (writtenLines S) 182 written-183, length-append (tagOf o) (joined (writtenLines S)), tag-most o)
 
   written-180 : (t q : Bool) → eqb (placeOf o) (placeOf Field59F) ≡ t → present ≡ q → (t && q) ≡ false → weight (writtenLines S) ≤ 180
   written-180 true true e p n = absurd (true≢false n)
   written-180 true false e p n =
-      let f : o ≡ Field59F = place-one o Field59F (eqb-true _ _ e) in
-      let none : weight (bareHead o present (S .account)) ≡ 0 = ap (λ (b : Bool). weight (bareHead o b (S .account))) p in
-      let gap : gapPart present ≡ 0 = ap gapPart p in
-      let names : bicMost o + namesMost o ≡ 144 = ap (λ (r : PartyOption). bicMost r + namesMost r) f in
-      omega (arith, written-weight, parts, none, gap, names)
-  written-180 false q e p n =
-      let gap : gapPart present ≤ 0 = go present in
-      omega (arith, written-weight, parts, head-part, gap, leb-true (headMost o + bicMost o + namesMost o) 180 (table-180 o e))
-    where
-      go : (b : Bool) → gapPart b ≤ 0
-      go true = omega (arith, gap-other e)
-      go false = omega arith
+      let none : weight (headLines o present (S .account)) ≡ 0 = ap (λ (b : Bool). weight (headLines o b (S .account))) p in
+      let names : bicMost o + namesMost o ≡ 144 = ap (λ (r : PartyOption). bicMost r + namesMost r) (place-one o Field59F (eqb-true _ _ e)) in
+      omega (arith, parts, none, names)
+  written-180 false q e p n = omega (arith, parts, head-part, leb-true (headMost o + bicMost o + namesMost o) 180 (table-180 o e))
 
   -- one that is not a 59F with identifier has at most 184
   pub field-less : identified59F S ≡ false → length (writtenField S) ≤ 184

@@ -21,15 +21,15 @@ use Rattle.field_utils.proofs.Tests.{Line}
 use Rattle.reader.specs.Reading.{Reading, Found, giving, partyOf}
 use Rattle.reader.specs.Options.{ascii, bodyReply, byLines, foundBy, read, bodyMost}
 use Rattle.reader.proofs.Bodies.{body-passed}
-use Rattle.writer.specs.Writing.{joined}
+use Rattle.writer.specs.Writing.{writtenLines, joined}
 use Rattle.writer.specs.Given.{Given, isGiven}
 use Rattle.writer.proofs.Relined.{All, weight, closed, lines-closed}
 use Rattle.writer.proofs.Sayings.{saidWith, said-with, said-party}
 use Rattle.writer.proofs.Ascii.{all-more}
 use Rattle.writer.proofs.Facts.{Facts, facts}
-use Rattle.writer.proofs.Bare.{bare, foundOf, Reads, bare-found}
-use Rattle.writer.proofs.Witness.{Plain, saying-back, fitting, bare-plain}
-use Rattle.writer.proofs.Sizes.{bare-183, closed-length, joined-most}
+use Rattle.writer.proofs.Written.{foundOf, Reads, written-found}
+use Rattle.writer.proofs.Witness.{Plain, saying-back, fitting, written-plain}
+use Rattle.writer.proofs.Sizes.{written-183, closed-length, joined-most}
 
 -- ---- bodies of plain lines
 pub lines-of : (ls : List (List ℕ)) → All Plain ls → All Line ls
@@ -55,11 +55,11 @@ bodyFor BicOnly ls = joined ls
 bodyFor TextOnly ls = joined ls
 bodyFor ByLines ls = closed ls
 
-bodyFor-found : (layout : Layout) (o : PartyOption) (s : Said) → Reads layout o s → All Plain (bare s) → foundBy layout o (bodyFor layout (bare s)) ≡ foundOf s
+bodyFor-found : (layout : Layout) (o : PartyOption) (s : Said) → Reads layout o s → All Plain (writtenLines s) → foundBy layout o (bodyFor layout (writtenLines s)) ≡ foundOf s
 unfolding bodyFor
 bodyFor-found BicOnly o s r h = r
 bodyFor-found TextOnly o s r h = r
-bodyFor-found ByLines o s r h = ap (byLines o) (lines-closed (bare s) (lines-of (bare s) h)) ∙ r
+bodyFor-found ByLines o s r h = ap (byLines o) (lines-closed (writtenLines s) (lines-of (writtenLines s) h)) ∙ r
 
 bodyFor-fits : (layout : Layout) (ls : List (List ℕ)) → weight ls ≤ 183 → All Plain ls → bodyReply (bodyFor layout ls) ≡ accepted
 unfolding bodyFor
@@ -95,7 +95,7 @@ sufficient p e =
     let o = p .option in
     let s = parts p in
     let h = given-facts p e in
-    let plain = bare-plain o _ _ _ _ _ h in
+    let plain = written-plain o _ _ _ _ _ h in
     let layout = limitsOf o .layout in
-    let f = same-found p (bodyFor layout (bare s)) h (bodyFor-fits layout (bare s) (bare-183 o _ _ _ _ _ h) plain) (bodyFor-found layout o s (bare-found _ _ _ _ o (p .present) h) plain) in
-    record { body = bodyFor layout (bare s); accepts = f .0; same = f .1 }
+    let f = same-found p (bodyFor layout (writtenLines s)) h (bodyFor-fits layout (writtenLines s) (written-183 o _ _ _ _ _ h) plain) (bodyFor-found layout o s (written-found _ _ _ _ o (p .present) h) plain) in
+    record { body = bodyFor layout (writtenLines s); accepts = f .0; same = f .1 }

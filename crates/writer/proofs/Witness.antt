@@ -21,7 +21,7 @@ use Rattle.field_utils.specs.Identifier.{isNumbered}
 use Rattle.field_utils.specs.Names.{kept}
 use Rattle.field_utils.proofs.Tests.{both-left, both-right, both, none-more, Line}
 use Rattle.reader.specs.Options.{ascii}
-use Rattle.writer.specs.Writing.{slashOf, nameLines}
+use Rattle.writer.specs.Writing.{slashOf, nameLines, headLines, writtenLines}
 use Rattle.writer.specs.Given.{every, isLine, isAccount, isBic, areNames}
 use Rattle.writer.proofs.Relined.{All}
 use Rattle.writer.proofs.Sayings.{saidWith, usedOf, bytesOf, Short, Fitting, saying, line-used, line-free, lines-used}
@@ -29,7 +29,7 @@ use Rattle.writer.proofs.NamePasses.{Passes, AllPass, kept-short, kept-
 use Rattle.writer.proofs.Ascii.{digit-ascii, all-legal, text-ascii, bic-ascii}
 use Rattle.writer.proofs.HeadPasses.{text-length, extra-most}
 use Rattle.writer.proofs.Facts.{Facts, names-are, account-line, account-passes, bic-passes, bic-lines, small}
-use Rattle.writer.proofs.Bare.{bareHead, bare, firstBytes, accountBytes, foundOf}
+use Rattle.writer.proofs.Written.{firstBytes, accountBytes, foundOf}
 
 -- ---- the record of what is found in its lines says what it says
 where-yes : (limit : ℕ) (us : List Used) → ltb 0 limit ≡ true → where-limit limit us ≡ us
@@ -156,7 +156,7 @@ slash-plain o x h = go (limitsOf o .slash)
     go true = slashed x h
     go false = h
 
-head-plain : (o : PartyOption) (present : Bool) (us : List Used) → every (isAccount o present) us ≡ true → All Plain (bareHead o present us)
+head-plain : (o : PartyOption) (present : Bool) (us : List Used) → every (isAccount o present) us ≡ true → All Plain (headLines o present us)
 head-plain o true [] h = tt
 head-plain o true (u ∷ us) h =
     let a = both-left (isAccount o true u) (every (isAccount o true) us) h in (
@@ -201,10 +201,10 @@ names-all o count us h = go (eqb (limitsOf o .names) 0) refl
         let n = names-are o count w h in
         names-plain (limitsOf o .numbering) (limitsOf o .name) 1 (nameLines (limitsOf o .numbering) 1 w) (written-lines (limitsOf o .numbering) 1 w (n .lines)) (n .pass e .each)
 
-pub bare-plain : (o : PartyOption) (present : Bool) (count : ℕ) (u v : Used) (us : List Used) → Facts (saidWith o present count u v us) → All Plain (bare (saidWith o present count u v us))
-unfolding bare
-bare-plain o present count u v us h =
+pub written-plain : (o : PartyOption) (present : Bool) (count : ℕ) (u v : Used) (us : List Used) → Facts (saidWith o present count u v us) → All Plain (writtenLines (saidWith o present count u v us))
+unfolding writtenLines
+written-plain o present count u v us h =
     let s = saidWith o present count u v us in
-    all-append Plain (bareHead o present (s .account) ++ map bytesOf (s .bic)) _
-    (all-append Plain (bareHead o present (s .account)) _ (head-plain o present (s .account) (h .account)) (bic-plain (s .bic) (h .bic)))
+    all-append Plain (headLines o present (s .account) ++ map bytesOf (s .bic)) _
+    (all-append Plain (headLines o present (s .account)) _ (head-plain o present (s .account) (h .account)) (bic-plain (s .bic) (h .bic)))
     (names-all o count us (h .names))

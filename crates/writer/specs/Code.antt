@@ -38,10 +38,6 @@ unfoldable pub led : Bool → List (List ℕ) → List ℕ
 led later [] = []
 led later (l ∷ ls) = (lead later ++ l) ++ led true ls
 
--- whether an empty line follows an account or identifier
-abbrev pub hasGap : PartyOption → Bool
-hasGap o = limitsOf o .gap
-
 -- whether an account or identifier is written
 abbrev pub hasHead : PartyOption → Bool → Bool
 hasHead o present = present && ltb 0 (limitsOf o .longest)
@@ -50,9 +46,9 @@ hasHead o present = present && ltb 0 (limitsOf o .longest)
 abbrev pub nameCount : PartyOption → ℕ → ℕ
 nameCount o count = elim (ltb 0 (limitsOf o .names)) [ true ↦ min count 4 | false ↦ 0 ]
 
--- an account or identifier, where it is written, and the LF of its gap
+-- an account or identifier, where it is written
 abbrev pub headOf : PartyOption → Bool → Used → List ℕ
-headOf o true u = (slashOf o ++ u .bytes) ++ lead (hasGap o)
+headOf o true u = slashOf o ++ u .bytes
 headOf o false u = []
 
 -- a record's names as they are written

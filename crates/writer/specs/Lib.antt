@@ -2,4 +2,5 @@ pub mod Writing
 pub mod Given
 pub mod Placing
 pub mod ReadBack
+pub mod Longest
 pub mod Code

@@ -58,5 +58,5 @@ pub record Pair (s : Said) (buffer : List ℕ) : Type 0 where
   pub measured : {n : ℕ} → measure s ≡ lengthIs n → Space s n buffer
   -- a refusal to measure is 22, and that of placing, whatever the buffer
   pub unmeasured : {k l : ℕ} → measure s ≡ refusedWith k l → (k ≡ 22) × (l ≡ 0) × (place s buffer ≡ record { answer = refusedWith k l; buffer = buffer })
-  -- a buffer of 188 bytes is large enough: there both answer the same
+  -- a buffer of 187 bytes is large enough: there both answer the same
   pub agrees : fieldMost ≤ length buffer → place s buffer .answer ≡ measure s

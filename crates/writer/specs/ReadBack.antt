@@ -6,9 +6,7 @@ use mathlib.Core.Bool.{Bool, true, false, not, _&&_, _||_}
 use mathlib.Core.List.{List, [], _∷_}
 use lib.Dec.{eqb}
 use Rattle.errors.specs.Refusals.{accepted}
-use Rattle.party.specs.declared.PartyOption.the-variants.{Field59F}
 use Rattle.party.specs.declared.Party.{Party}
-use Rattle.party.specs.Limits.{placeOf}
 use Rattle.party.specs.Party.{Said, said, Same}
 use Rattle.field_utils.specs.Lines.{isEmpty}
 use Rattle.reader.specs.Options.{read}
@@ -32,14 +30,9 @@ earlierCr [] = false
 earlierCr (l ∷ []) = false
 earlierCr (l ∷ m ∷ ls) = endsCr l || earlierCr (m ∷ ls)
 
--- 59F with identifier
-unfoldable pub identified59F : Said → Bool
-identified59F s = eqb (placeOf (s .option)) (placeOf Field59F) && s .present
-
--- none of the three
+-- neither of the two
 unfoldable pub isReadBack : Said → Bool
-isReadBack s =
-    not (lastEmpty (pieces (writtenBody s))) && not (earlierCr (pieces (writtenBody s))) && not (identified59F s)
+isReadBack s = not (lastEmpty (pieces (writtenBody s))) && not (earlierCr (pieces (writtenBody s)))
 
 -- its written body is read as the same record
 pub record ReadsBack (p : Party) : Type 0 where

@@ -1,16 +1,17 @@
 -- The written field (document 01, field50.rs, field59.rs and 'Rust forms': bytes into a lent buffer).
 use Prim.Native.Nat.{ℕ, suc, _+_}
-use mathlib.Core.Bool.{Bool, true, false}
+use mathlib.Core.Bool.{Bool, true, false, _&&_}
 use mathlib.Core.List.{List, [], _∷_, _++_, map}
 use lib.Dec.{leb, eqb}
 use lib.ListN.{length}
 use lib.Seq.{paste}
 use Rattle.party.specs.declared.PartyOption.{PartyOption}
+use Rattle.party.specs.declared.PartyOption.the-variants.{Field59F}
 use Rattle.party.specs.Text.{Used}
 use Rattle.party.specs.Party.{Said}
 use Rattle.party.specs.declared.Numbering.{Numbering}
 use Rattle.party.specs.declared.Numbering.the-variants.{Unnumbered, Numbered, InTurn}
-use Rattle.party.specs.Limits.{limitsOf}
+use Rattle.party.specs.Limits.{limitsOf, placeOf}
 use Rattle.swift_utils.specs.Bytes.{bytes}
 use Rattle.field_utils.specs.Lines.{onto}
 use Rattle.field_utils.specs.Tags.{tagOf}
@@ -18,10 +19,6 @@ use Rattle.field_utils.specs.Tags.{tagOf}
 -- what stands before an account or identifier: `/`, but for 50F and 50L (field50.rs)
 abbrev pub slashOf : PartyOption → List ℕ
 slashOf o = elim (limitsOf o .slash) [ true ↦ bytes "/" | false ↦ [] ]
-
--- the lines after an account or identifier line: 59F's has an empty one (field59.rs)
-abbrev pub gapOf : PartyOption → List (List ℕ)
-gapOf o = elim (limitsOf o .gap) [ true ↦ [] ∷ [] | false ↦ [] ]
 
 -- what is written before the k-th name: 50F's lines are numbered 1, 2, 3, 4; 59F's names have their numbers
 abbrev pub numberOf : Numbering → ℕ → List ℕ
@@ -34,9 +31,9 @@ unfoldable pub nameLines : Numbering → ℕ → List Used → List (List ℕ)
 nameLines f k [] = []
 nameLines f k (u ∷ us) = (numberOf f k ++ u .bytes) ∷ nameLines f (suc k) us
 
--- the lines of an account or identifier, where it is there
+-- the line of an account or identifier, where it is there; no empty one follows 59F's (document 02, Six)
 abbrev pub headLines : PartyOption → Bool → List Used → List (List ℕ)
-headLines o true us = map (λ (u : Used). slashOf o ++ u .bytes) us ++ gapOf o
+headLines o true us = map (λ (u : Used). slashOf o ++ u .bytes) us
 headLines o false us = []
 
 -- the written lines: account or identifier, BIC, names
@@ -60,9 +57,13 @@ writtenBody s = joined (writtenLines s)
 unfoldable pub writtenField : Said → List ℕ
 writtenField s = tagOf (s .option) ++ writtenBody s
 
--- a written field alone takes at most 188 bytes ('Pages (added)'); proofs/Theorems.antt has `written-most`
+-- the longest written field is 187 bytes (document 02, Six); proofs/Theorems.antt has `written-most`
 abbrev pub fieldMost : ℕ
-fieldMost = 188
+fieldMost = 187
+
+-- 59F with an identifier, the form whose field can pass 184 bytes (document 02, Six, 'this form'); `written-less` is of all others
+unfoldable pub identified59F : Said → Bool
+identified59F s = eqb (placeOf (s .option)) (placeOf Field59F) && s .present
 
 -- the pieces of a text between LFs ('written lines being the pieces of its written body between LFs')
 unfoldable pub pieces : List ℕ → List (List ℕ)

@@ -39,10 +39,10 @@ ghost use Rattle.reader.specs.Options.{accountReply};
 ghost use Rattle.writer.specs.Writing.{slashOf, numberOf, writtenField, fits, placed};
 ghost use Rattle.writer.specs.Given.{passes, every, textReply, isAccount, isPresence, isBic, areNames, isTaken, isGiven};
 ghost use Rattle.writer.specs.Placing.{measure as measureOf, place as placeIn, toldMeasured, toldPlacing};
-ghost use Rattle.writer.specs.Code.{Counted, Puts, lead, hasGap, hasHead, headOf, nameCount, namesOn, restOn, lineReply, numberIn, isName, allNames, slashName};
+ghost use Rattle.writer.specs.Code.{Counted, Puts, lead, hasHead, headOf, nameCount, namesOn, restOn, lineReply, numberIn, isName, allNames, slashName};
 
 // The most bytes of a written field.
-pub const FIELD_MOST: usize = 188;
+pub const FIELD_MOST: usize = 187;
 
 // Measuring and placing answer the length of the written field, or a refusal.
 pub enum Measured {
@@ -77,14 +77,6 @@ fn slash_count(option: PartyOption) -> usize
     if limits.slash { 1 } else { 0 }
 }
 
-// Whether an empty line follows an account or identifier: in 59F.
-fn has_gap(option: PartyOption) -> bool
-    ensures { λ r. ⌜ r ≡ hasGap option ⌝ }
-{
-    let limits = limits_of(option);
-    limits.gap
-}
-
 // Whether an account or identifier is written.
 fn has_head(option: PartyOption, present: bool) -> bool
     ensures { λ r. ⌜ r ≡ hasHead option present ⌝ }
@@ -113,12 +105,12 @@ pub fn tag_length(option: PartyOption) -> usize
 
 // The length of an account or identifier, where it is written.
 fn head_length(option: PartyOption, written: bool, account: Text) -> usize
-    ensures { λ r. ⌜ Counted 40 (headOf option written (used account)) r ⌝ }
+    ensures { λ r. ⌜ Counted 39 (headOf option written (used account)) r ⌝ }
 {
     if !written {
         return 0;
     }
-    slash_count(option) + used_length(account) + lf_count(has_gap(option))
+    slash_count(option) + used_length(account)
 }
 
 // The length of the names.
@@ -244,9 +236,7 @@ fn put_head(buf: &mut [u8], at: usize, option: PartyOption, written: bool, accou
     }
     let slash = [b'/'];
     let n = slash_count(option);
-    let end = put_line(buf, at, false, &slash[..n], account);
-    let gap = has_gap(option);
-    put_lf(buf, end, gap)
+    put_line(buf, at, false, &slash[..n], account)
 }
 
 // Puts the names, each with its number where the option's names are written so.

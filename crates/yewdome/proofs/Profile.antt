@@ -1,6 +1,6 @@
 -- What members rely on under the network profile: it changes no record, and what it takes a page accepts. Assumes nothing.
 use mathlib.Core.Path.{_≡_, refl, sym, _∙_, ap, subst}
-use mathlib.Core.Bool.{Bool, true, false, not, _||_, and-false}
+use mathlib.Core.Bool.{Bool, true, false, not, _||_}
 use mathlib.Core.List.{List, [], _∷_}
 use Prim.Native.Nat.{ℕ, suc, _≤_}
 use native.Mathlib.Omega.{arith}
@@ -16,7 +16,7 @@ use Rattle.party.proofs.Options.{by-option}
 use Rattle.swift_utils.specs.Bytes.{among}
 use Rattle.field_utils.specs.Lines.{lines}
 use Rattle.field_utils.specs.Trim.{trimmed}
-use Rattle.field_utils.proofs.Tests.{both, Line}
+use Rattle.field_utils.proofs.Tests.{Line}
 use Rattle.reader.specs.Reading.{Reading}
 use Rattle.reader.specs.Options.{accountReply, textOnly, foundBy, read}
 use Rattle.choices.specs.declared.Choice.{Choice}
@@ -24,16 +24,16 @@ use Rattle.choices.specs.Choices.{refusing, parse, parseWithVariant}
 use Rattle.choices.proofs.Every.{body-parse, body-variant}
 use Rattle.profile.specs.Profile.{holdsBic, isInside, linesReply, profileReply, profiled}
 use Rattle.profile.proofs.Laws.{lines-none, lines-fault, lines-pass, profiled-refused, profiled-pass}
-use Rattle.writer.specs.Writing.{writtenBody, writtenField, pieces}
+use Rattle.writer.specs.Writing.{writtenLines, writtenBody, writtenField}
 use Rattle.writer.specs.Given.{isGiven}
-use Rattle.writer.specs.ReadBack.{endsCr, identified59F}
+use Rattle.writer.specs.ReadBack.{endsCr}
 use Rattle.writer.proofs.Relined.{lines-rest, pieces-joined}
 use Rattle.writer.proofs.Sayings.{saying}
 use Rattle.writer.proofs.Facts.{is-given}
-use Rattle.writer.proofs.Bare.{bare}
+use Rattle.writer.proofs.Witness.{written-plain}
 use Rattle.writer.proofs.Sufficient.{lines-of}
 use Rattle.writer.proofs.Necessary.{readLines}
-use Rattle.writer.proofs.Back.{accepted-is, giving-reply, plain, body-bare, text-least}
+use Rattle.writer.proofs.Back.{accepted-is, giving-reply, text-least}
 use Rattle.page_writer.specs.Adding.{linesCarried, isCarried, withLf, Call, putting, add}
 use Rattle.page_writer.proofs.Addings.{add-asked, asked-by}
 use Rattle.yewdome.specs.Profile.{OnlyRefuses, PageAccepts, Promise, Profile}
@@ -54,15 +54,12 @@ module _ (o : PartyOption) (text : List ℕ) (e : read o text .reply ≡ accepte
   pub read-given : isGiven (said p) ≡ true
   read-given = ap isGiven says ∙ is-given s (accepted-is o text e .good .facts)
 
-  read-carried : Carried (readLines (limitsOf o .layout) text) → identified59F (said p) ≡ false → isCarried (said p) ≡ true
-  unfolding isCarried
-  read-carried h id =
+  read-carried : Carried (readLines (limitsOf o .layout) text) → isCarried (said p) ≡ true
+  unfolding isCarried writtenBody
+  read-carried h =
       let g = accepted-is o text e .good in
-      let i : identified59F s ≡ false = ap identified59F (sym says) ∙ id in
-      let ws : pieces (writtenBody s) ≡ bare s =
-      ap pieces (body-bare o _ _ _ _ _ i) ∙ pieces-joined (bare s) (g .some) (lines-of (bare s) (plain o _ _ _ _ _ (g .facts))) in
-      let c : linesCarried (pieces (writtenBody s)) ≡ true = ap linesCarried ws ∙ carried-lines (bare s) (g .some) (carried-written (bare s) _ (g .lines) h) in
-      ap isCarried says ∙ both (linesCarried (pieces (writtenBody s))) (not (identified59F s)) c (rw i)
+      let ws = writtenLines s in
+      ap isCarried says ∙ ap linesCarried (pieces-joined ws (g .some) (lines-of ws (written-plain o _ _ _ _ _ (g .facts)))) ∙ carried-lines ws (g .some) (carried-written ws _ (g .lines) h)
 
 -- ---- the lines that are read of a body, and of one that is trimmed
 -- 50L
@@ -91,7 +88,7 @@ lined =
 -- ---- a reading of a body that passes the profile: a page carries its record
 pub record Takes (p : Party) : Type 0 where
   pub given : isGiven (said p) ≡ true
-  pub carried : identified59F (said p) ≡ false → isCarried (said p) ≡ true
+  pub carried : isCarried (said p) ≡ true
 
 module _ (body : List ℕ) where
   abbrev pub Taken : Reading → Type 0
@@ -133,16 +130,11 @@ module _ (body : List ℕ) where
   variant-held = body-variant (Held body) refused-held body (read-held body) (tried-held body) (none-held body (trimmed body))
 
 -- ---- a page accepts it
-identified-not : (s : Said) → identified59F s ≡ true → isCarried s ≡ false
-unfolding isCarried
-identified-not s id = rw (id, and-false (linesCarried (pieces (writtenBody s))))
-
 pub page-accepts : (p : Party) → Takes p → PageAccepts p
 page-accepts p t = record {
-  adds = λ id buffer at b w space free.
-      let c : add buffer at b (said p) ≡ putting accepted buffer at (withLf (writtenField (said p))) = add-asked buffer at b (said p) w (asked-by (said p) (t .given) (t .carried id)) ∙ rw (space, free) in
+  adds = λ buffer at b w space free.
+      let c : add buffer at b (said p) ≡ putting accepted buffer at (withLf (writtenField (said p))) = add-asked buffer at b (said p) w (asked-by (said p) (t .given) (t .carried)) ∙ rw (space, free) in
       ap (λ (x : Call). x .answer) c;
-  except = λ id buffer at b w. ap (λ (c : Call). c .answer) (add-asked buffer at b (said p) w (asked-by (said p) (t .given) (identified-not (said p) id)));
 }
 
 -- ---- the profile

@@ -27,12 +27,12 @@ use Rattle.reader.specs.Reading.{Reading, Found}
 use Rattle.reader.specs.Options.{foundBy, read}
 use Rattle.choices.specs.Detection.{firstLine}
 use Rattle.profile.specs.Profile.{isSame, holdsBic}
+use Rattle.writer.specs.Writing.{headLines, writtenLines}
 use Rattle.writer.specs.Given.{every, isBic}
 use Rattle.writer.proofs.Relined.{lines-rest}
 use Rattle.writer.proofs.NamePasses.{Rewritten, AllRewritten}
 use Rattle.writer.proofs.Sayings.{usedOf, saying}
 use Rattle.writer.proofs.Facts.{bic-passes}
-use Rattle.writer.proofs.Bare.{bare, bareHead}
 use Rattle.writer.proofs.Necessary.{readLines, letters-free}
 use Rattle.writer.proofs.Back.{accepted-is, bic-least}
 use Rattle.yewdome.specs.Profile.{anyHolds}
@@ -142,11 +142,11 @@ module _ (x : List ℕ) (e : parseBic 1 x ≡ accepted) where
   bic-line l r = ⊎-elim (λ q. q) (λ h. absurd (bic-unnumbered (h .0))) r
 
 -- ---- among the lines that are written of a record is its BIC
-bic-in : (s : Said) (v : Used) → s .bic ≡ v ∷ [] → Some (λ w. v .bytes ≡ w) (bare s)
-unfolding bare
+bic-in : (s : Said) (v : Used) → s .bic ≡ v ∷ [] → Some (λ w. v .bytes ≡ w) (writtenLines s)
+unfolding writtenLines
 bic-in s v e =
-    some-left (λ w. v .bytes ≡ w) (bareHead (s .option) (s .present) (s .account) ++ map (λ (u : Used). u .bytes) (s .bic)) _
-    (some-right (λ w. v .bytes ≡ w) (bareHead (s .option) (s .present) (s .account)) (map (λ (u : Used). u .bytes) (s .bic)) (rw e (inl refl)))
+    some-left (λ w. v .bytes ≡ w) (headLines (s .option) (s .present) (s .account) ++ map (λ (u : Used). u .bytes) (s .bic)) _
+    (some-right (λ w. v .bytes ≡ w) (headLines (s .option) (s .present) (s .account)) (map (λ (u : Used). u .bytes) (s .bic)) (rw e (inl refl)))
 
 -- and so among the lines that were read
 rewritten-some : (x : List ℕ) (ws ls : List (List ℕ)) → AllRewritten ws ls → Some (λ w. x ≡ w) ws → Some (λ l. Rewritten x l) ls
@@ -305,7 +305,7 @@ module _ (o : PartyOption) (text : List ℕ) (e : read o text .reply ≡ accepte
     read-holds =
         let ls = readLines (limitsOf o .layout) text in
         some-as (Rewritten (f .bic)) (λ l. holdsBic p l ≡ true) (λ l r. holds-it l (ap trimmed (sym (bic-line (f .bic) bic-accepted l r)) ∙ bic-trimmed (f .bic) bic-accepted)) ls
-        (rewritten-some (f .bic) (bare (saying o f)) ls (accepted-is o text e .good .lines) (bic-in (saying o f) (usedOf (f .bic)) one))
+        (rewritten-some (f .bic) (writtenLines (saying o f)) ls (accepted-is o text e .good .lines) (bic-in (saying o f) (usedOf (f .bic)) one))
 
 -- of a body that is one line, that line
 abbrev Holds : Party → List (List ℕ) → Type 0

@@ -56,11 +56,11 @@ module _ (known : Bool) (r : Reading) (body bytes : List ℕ) (n : Named (profil
   exported : CallPromise r call
   exported = record {
     loads = loaded;
-    adds = λ e id buffer at b w space free.
+    adds = λ e buffer at b w space free.
         let h = under-accepted r body (took e) in
         let k = t (h .0) (h .1) in
         let g : recordReply (call .bytes) ≡ accepted = given-passes (call .bytes) (ap (λ (p : Party). isGiven (said p)) (loaded e) ∙ k .given) in
-        ap (λ (c : Called). c .code) (sym (adds (call .bytes) buffer at b g (sym (loaded e)))) ∙ ap filedCode (page-accepts (r .party) k .adds id buffer at b w space free);
+        ap (λ (c : Called). c .code) (sym (adds (call .bytes) buffer at b g (sym (loaded e)))) ∙ ap filedCode (page-accepts (r .party) k .adds buffer at b w space free);
   }
 
 pub exported-profile : (body bytes : List ℕ) → ExportedProfile body bytes

@@ -13,7 +13,7 @@ use Rattle.errors.proofs.Replies.{must-held, then-second}
 use Rattle.party.specs.declared.Party.{Party}
 use Rattle.swift_utils.specs.Bytes.{all, letter, digit, alphanumeric, narrowSigns, narrow}
 use Rattle.swift_utils.specs.Checks.{bicLength, parseBic}
-use Rattle.field_utils.specs.Lines.{starts, isEmpty, lines}
+use Rattle.field_utils.specs.Lines.{starts, isEmpty, lines, withoutCr}
 use Rattle.field_utils.specs.Trim.{white, trimmedStart, keep, trimmedEnd, trimmed}
 use Rattle.field_utils.specs.Identifier.{isNumbered}
 use Rattle.field_utils.proofs.Tests.{both-left, both-right, both, either-left, either-right, neither, is-not}
@@ -24,9 +24,8 @@ use Rattle.writer.proofs.Relined.{All}
 use Rattle.writer.proofs.NamePasses.{Rewritten, AllRewritten}
 use Rattle.writer.proofs.Back.{bic-least}
 use Rattle.page_reader.specs.Pages.{opens, endsPage, isBoundary}
-use Rattle.page_reader.proofs.EndLines.{ends-not}
+use Rattle.page_reader.proofs.EndLines.{is-first, ends-not}
 use Rattle.page_writer.specs.Adding.{anyCr, anyBoundary, laterBoundary, linesCarried}
-use Rattle.page_writer.proofs.Alone.{numbered-not}
 
 -- ---- lines that a page carries: the first, one after it, and all
 pub record Front (l : List ℕ) : Type 0 where
@@ -111,6 +110,15 @@ numbered-some : (w : List ℕ) → isNumbered w ≡ true → isEmpty w ≡ false
 unfolding isNumbered
 numbered-some [] e = absurd (false≢true e)
 numbered-some (d ∷ w) e = refl
+
+numbered-not : (l : List ℕ) → isNumbered l ≡ true → isBoundary true l ≡ false
+unfolding isNumbered starts withoutCr endsPage digit
+numbered-not [] e = absurd (false≢true e)
+numbered-not (d ∷ []) e = absurd (false≢true e)
+numbered-not (d ∷ s ∷ l) e =
+    let g = both-left (digit d) (eqb s 47) e in
+    let a : eqb d 58 ≡ false = ne-eqb d 58 (λ q. true≢false (sym g ∙ ap digit q)) in
+    rw a (is-first d (withoutCr (s ∷ l)) (ne-eqb d 45 (λ q. true≢false (sym g ∙ ap digit q))))
 
 module _ (w l : List ℕ) (r : Rewritten w l) where
   front-written : Front l → Front w

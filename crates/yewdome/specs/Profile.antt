@@ -20,9 +20,8 @@ use Rattle.choices.specs.declared.Choice.{Choice}
 use Rattle.choices.specs.Choices.{refusing, parse, parseWithVariant}
 use Rattle.profile.specs.Profile.{holdsBic, readProfiled, parseProfiled, parseWithVariantProfiled}
 use Rattle.writer.specs.Writing.{writtenField}
-use Rattle.writer.specs.ReadBack.{identified59F}
 use Rattle.page_writer.specs.Beside.{Beside}
-use Rattle.page_writer.specs.Adding.{writable, recordSpace, freeBeside, withLf, positionAfter, refusal, add}
+use Rattle.page_writer.specs.Adding.{writable, recordSpace, freeBeside, withLf, positionAfter, add}
 use Rattle.flat.specs.Flat.{unflatten}
 use Rattle.yewdome.specs.Interface.{Called, choiceAt, profileRead, profileParse, profileParseWithVariant, pageAdd}
 
@@ -36,11 +35,10 @@ pub record OnlyRefuses (ordinary under : Reading) : Type 0 where
   pub number : {k n : ℕ} → ordinary .reply ≡ accepted → under .reply ≡ refused k n → k ≡ 32
 
 -- a page accepts a record, space allowing: at any position to write at, with space for it, which is bytes and, where an index is kept, an
--- entry, the add answers the position after; except 59F with an identifier, which is 23
+-- entry, the add answers the position after (document 02, Five and Six)
 pub record PageAccepts (p : Party) : Type 0 where
-  pub adds : identified59F (said p) ≡ false → (buffer : List ℕ) (at : ℕ) (b : Beside) → writable buffer at ≡ true
-      → recordSpace (length buffer) at (said p) ≡ true → freeBeside b ≡ true → add buffer at b (said p) .answer ≡ positionAfter (at + length (withLf (writtenField (said p))))
-  pub except : identified59F (said p) ≡ true → (buffer : List ℕ) (at : ℕ) (b : Beside) → writable buffer at ≡ true → add buffer at b (said p) .answer ≡ refusal 23 0
+  pub adds : (buffer : List ℕ) (at : ℕ) (b : Beside) → writable buffer at ≡ true → recordSpace (length buffer) at (said p) ≡ true → freeBeside b ≡ true
+      → add buffer at b (said p) .answer ≡ positionAfter (at + length (withLf (writtenField (said p))))
 
 -- a line among these holds the BIC of a record
 unfoldable pub anyHolds : Party → List (List ℕ) → Bool
@@ -61,10 +59,10 @@ pub record Profile (body : List ℕ) : Type 0 where
   pub by-letter : (choice : Choice) (letter : ℕ) → Promise body (parseWithVariant choice body letter) (parseWithVariantProfiled choice body letter)
 
 -- through the C interface, of a call under the profile whose number is 0: the bytes that it left load as the ordinary reading's record, and
--- are a record that adding accepts, space allowing, but for 59F with an identifier
+-- are a record that adding accepts, space allowing
 pub record CallPromise (ordinary : Reading) (c : Called) : Type 0 where
   pub loads : c .code ≡ 0 → unflatten (c .bytes) ≡ ordinary .party
-  pub adds : c .code ≡ 0 → identified59F (said (ordinary .party)) ≡ false → (buffer : List ℕ) (at : ℕ) (b : Beside) → writable buffer at ≡ true
+  pub adds : c .code ≡ 0 → (buffer : List ℕ) (at : ℕ) (b : Beside) → writable buffer at ≡ true
       → recordSpace (length buffer) at (said (ordinary .party)) ≡ true → freeBeside b ≡ true
       → pageAdd (c .bytes) buffer at b .code ≡ at + length (withLf (writtenField (said (ordinary .party))))
 

@@ -2,7 +2,7 @@
 //!
 //! A rule is worked out from the letter and the body, or from the record, and from the Rust.
 
-use party_answers::differences::Class;
+use party_answers::differences::{Class, without_empty_line};
 use party_answers::model::{Answer, Call, Case, Choice, Opt, Reader, Record};
 use party_answers::{reference, rules};
 
@@ -23,6 +23,14 @@ pub fn refused(call: Call, body: &[u8]) -> Option<(u8, Class)> {
 /// The answer to a case that `refused` lets pass, and the rule where it is not the Rust's.
 pub fn answer(case: &Case) -> Result<(Answer, Option<Class>), String> {
     let rust = reference::answer(case)?;
+    if let Answer::Read { record, written } = &rust {
+        if record.option == Opt::F59 && record.party.is_some() {
+            let less = without_empty_line(record, written);
+            let written = less.ok_or_else(|| format!("no empty line in the Rust's {rust:?}"))?;
+            let ours = Answer::Read { record: record.clone(), written };
+            return Ok((ours, Some(Class::EmptyLine59F)));
+        }
+    }
     let read_as_50h = case.reader.picked(case.call) == Some(Opt::H50);
     let fgh = case.reader == Reader::Choice(Choice::OrderingCustomerFGH);
     let detected = fgh && case.reader.picked(case.call).is_none();

@@ -2,13 +2,20 @@
 
 use party_answers::model::{Call, Reader};
 
-/// A record's bytes, the most of a written field, and the most of a page.
-pub const RECORD_LENGTH: usize = 237;
-pub const LONGEST_FIELD: usize = 188;
-pub const LONGEST_PAGE: usize = 32_768;
+/// A record's bytes, the most of a written field, and the most of a page, as the header has them.
+pub const RECORD_LENGTH: usize = number(env!("YEWDOME_RECORD_LENGTH"));
+pub const LONGEST_FIELD: usize = number(env!("YEWDOME_LONGEST_FIELD"));
+pub const LONGEST_PAGE: usize = number(env!("YEWDOME_LONGEST_PAGE"));
 /// The most entries of an index, and how many numbers it is: a count, and three for each entry.
-pub const MOST_ENTRIES: usize = 256;
+pub const MOST_ENTRIES: usize = number(env!("YEWDOME_MOST_ENTRIES"));
 pub const INDEX_LENGTH: usize = 1 + 3 * MOST_ENTRIES;
+
+const fn number(text: &str) -> usize {
+    match usize::from_str_radix(text, 10) {
+        Ok(number) => number,
+        Err(_) => panic!("the header defines it as another thing than a number"),
+    }
+}
 
 // A slice of the library is a pointer and a length.
 unsafe extern "C" {

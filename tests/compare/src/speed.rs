@@ -12,7 +12,9 @@
 //! With the name of a row as argument it makes a thousand of our calls of that row and times nothing,
 //! for `valgrind --tool=callgrind` to count.
 
-use party_answers::model::{Choice, Opt};
+use party_answers::differences::without_empty_line;
+use party_answers::model::{Answer, Case, Choice, Opt};
+use party_answers::reference;
 use party_compare::ours::{
     self, INDEX_LENGTH, LONGEST_FIELD, LONGEST_PAGE, MOST_ENTRIES, RECORD_LENGTH,
 };
@@ -83,10 +85,10 @@ fn option<T: SwiftField>(option: Opt, body: &str) {
             black_box(&record);
         },
     );
-    let text = value.to_swift_string();
+    let text = field_text(option, body);
     let mut field = [0; LONGEST_FIELD];
     let length = ours::place(&record, &mut field) as usize;
-    assert_eq!(field.get(..length), Some(text.as_bytes()), "{name} is written");
+    assert_eq!(field.get(..length), Some(&text[..]), "{name} is written");
     assert_eq!(ours::measure(&record) as usize, length, "{name} is measured");
     row(
         &format!("{name}, measured"),
@@ -103,6 +105,16 @@ fn option<T: SwiftField>(option: Opt, body: &str) {
             black_box(&field);
         },
     );
+}
+
+/// What ours must write: the Rust's text, but for the empty line of 59F.
+fn field_text(option: Opt, body: &str) -> Vec<u8> {
+    match reference::answer(&Case::option(option, body)) {
+        Ok(Answer::Read { record, written }) => {
+            without_empty_line(&record, &written).unwrap_or(written)
+        }
+        other => panic!("{}: {other:?}", option.name()),
+    }
 }
 
 /// A choice's row: a body whose option it detects.

@@ -1,6 +1,6 @@
 //! Where the Rust's answer is not that of the rules.
 
-use crate::model::{Answer, Case, Choice, Opt, Reader};
+use crate::model::{Answer, Case, Choice, Opt, Reader, Record};
 use crate::rules;
 
 /// The classes of difference, as docs/DIFFERENCES.md names them.
@@ -10,6 +10,8 @@ pub enum Class {
     Account50H,
     /// What follows from that in the detection of F, G or H.
     Detected50H,
+    /// The Rust writes an empty line after the identifier of 59F.
+    EmptyLine59F,
     /// 12: a body over 2,048 bytes.
     LongBody,
     /// 13: a byte above 127.
@@ -19,13 +21,20 @@ pub enum Class {
 }
 
 impl Class {
-    pub const ALL: [Class; 5] =
-        [Class::Account50H, Class::Detected50H, Class::LongBody, Class::HighByte, Class::Letter];
+    pub const ALL: [Class; 6] = [
+        Class::Account50H,
+        Class::Detected50H,
+        Class::EmptyLine59F,
+        Class::LongBody,
+        Class::HighByte,
+        Class::Letter,
+    ];
 
     pub fn name(self) -> &'static str {
         match self {
             Class::Account50H => "50H, bytes of the account",
             Class::Detected50H => "FGH detected, bytes of the account",
+            Class::EmptyLine59F => "59F, the empty line written after its identifier",
             Class::LongBody => "12, body over 2,048",
             Class::HighByte => "13, byte above 127",
             Class::Letter => "14, letter none of A to Z",
@@ -43,6 +52,12 @@ pub fn class(case: &Case, rust: &Answer, ours: &Answer) -> Option<Class> {
             _ => (),
         }
     }
+    if let (Answer::Read { record, written }, Answer::Read { record: read, written: due }) =
+        (rust, ours)
+    {
+        let less = without_empty_line(record, written).filter(|_| record == read)?;
+        return (less == *due).then_some(Class::EmptyLine59F);
+    }
     if !has_illegal_account(&case.body) {
         return None;
     }
@@ -55,6 +70,15 @@ pub fn class(case: &Case, rust: &Answer, ours: &Answer) -> Option<Class> {
         }
         _ => None,
     }
+}
+
+/// The Rust's text of 59F with an identifier, with one LF removed: that of the empty line after the
+/// identifier. None of any other record, and where the text has no such line.
+pub fn without_empty_line(record: &Record, written: &[u8]) -> Option<Vec<u8>> {
+    let identifier = record.party.as_ref().filter(|_| record.option == Opt::F59)?;
+    let line = [b":59F:/", &identifier[..], b"\n"].concat();
+    let rest = written.strip_prefix(&line[..])?.strip_prefix(b"\n")?;
+    Some([&line, rest].concat())
 }
 
 /// Whether the first line is `/` and 1 to 34 bytes, one of them not legal.

@@ -3,11 +3,12 @@
 use crate::model::{Call, Case, Choice};
 use crate::{differences, reference};
 use swift_mt_message::fields::field50::*;
+use swift_mt_message::fields::field59::Field59F;
 use swift_mt_message::traits::SwiftField;
 
 /// Checks each fact, and stops at one that does not hold.
 pub fn check() -> Result<usize, String> {
-    let facts = [writings(), variants()?].concat();
+    let facts = [writings(), empty_line(), variants()?].concat();
     for (name, found, expected) in &facts {
         if found != expected {
             return Err(format!("{name}: {found:?}"));
@@ -28,6 +29,12 @@ fn writings() -> Vec<Fact> {
         ("50L without a text", empty.to_swift_string(), ":50L:"),
         ("50 with LF in a name", two_in_one.to_swift_string(), ":50:A\nB"),
     ]
+}
+
+/// 59F with an identifier, whose text the Rust does not read back.
+fn empty_line() -> Vec<Fact> {
+    let written = Field59F::parse("/1\n1/A").map(|field| field.to_swift_string());
+    vec![("59F with an identifier", written.unwrap_or_default(), ":59F:/1\n\n1/A")]
 }
 
 /// Variants that our one letter cannot say.

@@ -367,9 +367,6 @@ fn written(record: &Record) -> Vec<u8> {
     if let Some(party) = &record.party {
         lines.push(party_line(record.option, party));
     }
-    if record.option == Opt::F59 && record.party.is_some() {
-        lines.push(Vec::new());
-    }
     for (index, name) in record.names.iter().enumerate() {
         lines.push(name_line(record.option, index, name));
     }

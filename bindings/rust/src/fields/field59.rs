@@ -8,8 +8,8 @@
 
 /// 59F: perhaps an identifier, and numbered lines of name and address.
 ///
-/// With an identifier an empty line is written after it, as swift-mt-message does; that text does
-/// not read back, and a page does not carry it.
+/// With an identifier swift-mt-message writes an empty line after it, which no reader takes. That
+/// one LF is left out here, so that the text reads back.
 #[derive(Debug, Clone, PartialEq, Eq, Hash)]
 pub struct Field59F {
     /// The first line without its first slash.

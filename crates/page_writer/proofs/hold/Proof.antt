@@ -19,11 +19,11 @@ use Rattle.page_writer.proofs.hold.Tie as tie
 
 -- the record is placed in the room, or refused
 module _ (k : tie.After-place) where
-  abbrev asked-it : tie.After-is-identified-59f
-  asked-it = k .before .before .before .before
+  abbrev measured : tie.After-tag-length
+  measured = k .before .before .before .before
 
   abbrev start : tie.Start
-  start = asked-it .before .before .before .before
+  start = measured .before .before .before
 
   abbrev p : Party
   p = start .args .p
@@ -43,11 +43,11 @@ returns-2 c =
     let k = t .before .before .before .before in
     let a = start k .args in
     let h = room-held (a .p) (now (a .room)) (start k .pre) (placed-here k (t .len .given .1)) in
-    let g = asked-it k .before .tag-length .ensures in
+    let g = measured k .tag-length .ensures in
     let n = t .len .given .0 .0 in
     record {
       fits = (omega (arith, g, tag-within (a .p), h .len), omega (arith, ap length (h .text), h .len, length-take n (room k)), omega (arith, ap length (h .text), h .len, length-take n (room k), h .size));
-      adds = λ b. field-is (a .p) (now (a .buf)) (a .at) b (h .given) (writable-here k) (h .text) g (asked-it k .is-identified-59f .ensures);
+      adds = λ b. field-is (a .p) (now (a .buf)) (a .at) b (h .given) (writable-here k) (h .text) g;
     }
 
 returns-3 : tie.Need-returns-3
@@ -64,10 +64,9 @@ hold-spec =
     (tie.spec
     (λ c κs. search needs)
     (λ c κs. search needs)
-    (λ c κs. search needs)
     (λ c.
     let i = c .before in
-    let a = i .before .before .before .before .before .args in
+    let a = i .before .before .before .before .args in
     record { fits = tt; adds = λ b. sym (add-21 (now (a .buf)) (a .at) b (said (a .p)) (sym (i .is-writable .ensures) ∙ not-true _ (c .if1 .taken))) })
     (λ c κs. search needs)
     (λ c. search needs)

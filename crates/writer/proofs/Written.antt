@@ -1,4 +1,4 @@
--- The lines of a record that passes the test for 22 are read as what it says. Assumes nothing.
+-- The written lines of a record that passes the test for 22 are read as what it says. Assumes nothing.
 use mathlib.Core.Path.{_≡_, refl, sym, _∙_, ap, subst}
 use mathlib.Core.Bool.{Bool, true, false, false≢true, true≢false}
 use mathlib.Core.List.{List, [], _∷_, _++_, map, head-eq-of-cons-eq}
@@ -29,20 +29,12 @@ use Rattle.reader.specs.Code.{passedHead}
 use Rattle.reader.proofs.Bodies.{head-there, head-none}
 use Rattle.reader.proofs.LineCounts.{counts-open}
 use Rattle.reader.proofs.Readings.{rest-bic, rest-names, text-line}
-use Rattle.writer.specs.Writing.{slashOf, numberOf, nameLines, joined}
+use Rattle.writer.specs.Writing.{numberOf, nameLines, writtenLines, joined}
 use Rattle.writer.specs.Given.{every, isAccount, isBic, areNames, isTaken}
 use Rattle.writer.proofs.Sayings.{saidWith, bytesOf, line-free}
 use Rattle.writer.proofs.NamePasses.{NamesPass, names-pass, written-length, kept-written}
 use Rattle.writer.proofs.HeadPasses.{slashBy, Heads, Free, head-made, none-made}
 use Rattle.writer.proofs.Facts.{Facts, names-are, account-line, account-passes, bic-passes, small}
-
--- the lines that a record owes, 59F's empty line left out
-abbrev pub bareHead : PartyOption → Bool → List Used → List (List ℕ)
-bareHead o true us = map (λ (u : Used). slashOf o ++ u .bytes) us
-bareHead o false us = []
-
-unfoldable pub bare : Said → List (List ℕ)
-bare s = bareHead (s .option) (s .present) (s .account) ++ map bytesOf (s .bic) ++ nameLines (limitsOf (s .option) .numbering) 1 (s .names)
 
 -- what is found in them
 abbrev pub firstBytes : List Used → List ℕ
@@ -173,9 +165,9 @@ untaken-short (u ∷ us) h = h
 
 -- the reading of the lines of a record, by the layout of its option
 abbrev pub Reads : Layout → PartyOption → Said → Type 0
-Reads BicOnly o s = bicOnly (joined (bare s)) ≡ foundOf s
-Reads TextOnly o s = textOnly o (joined (bare s)) ≡ foundOf s
-Reads ByLines o s = byLines o (bare s) ≡ foundOf s
+Reads BicOnly o s = bicOnly (joined (writtenLines s)) ≡ foundOf s
+Reads TextOnly o s = textOnly o (joined (writtenLines s)) ≡ foundOf s
+Reads ByLines o s = byLines o (writtenLines s) ≡ foundOf s
 
 one : (f : Used → Bool) (u : Used) → every f (u ∷ []) ≡ true → f u ≡ true
 one f u e = both-left (f u) true e
@@ -199,27 +191,27 @@ module _ (count : ℕ) (u v : Used) (us : List Used) where
       let passes : accountReply Field50L (u .bytes) ≡ accepted = account-passes Field50L u (one (isAccount Field50L true) u h) in
       λ i. record { reply = (text-line Field50L (u .bytes) line ∙ passes) i; present = true; account = u .bytes; bic = []; names = [] }
 
-  pub bare-found : (o : PartyOption) (present : Bool) → Goal o present
-  unfolding bare nameLines named joined
-  bare-found Field50NoOption true h = absurd (false≢true (h .presence))
-  bare-found Field50NoOption false h = false-names Field50NoOption (λ z. omega arith) count us (h .names) (λ n a b. within 1 4 n a b) (λ l ls e p. tt)
-  bare-found Field50A true h = bic-there Field50A refl _ (u .bytes) v (head-in Field50A tt (h .account)) refl (one isBic v (h .bic))
-  bare-found Field50A false h = bic-none Field50A refl v (none-made Identified Field50A (v .bytes) (free-bic (h .bic))) refl (one isBic v (h .bic))
-  bare-found Field50F true h = true-names Field50F (λ z. omega arith) count us (h .names) _ (u .bytes) (head-in Field50F tt (h .account)) (λ n a b. counts-open Field50F refl (suc n) (omega arith) refl)
-  bare-found Field50F false h = absurd (false≢true (h .presence))
-  bare-found Field50K true h = true-names Field50K (λ z. omega arith) count us (h .names) _ (u .bytes) (head-in Field50K tt (h .account)) (λ n a b. counts-open Field50K refl (suc n) (omega arith) refl)
-  bare-found Field50K false h = false-names Field50K (λ z. omega arith) count us (h .names) (λ n a b. counts-open Field50K refl n a refl) (λ l ls e p. untaken us l ls (h .free) e)
-  bare-found Field50C true h = absurd (false≢true (h .presence))
-  bare-found Field50C false h = rw (bic-passes v (one isBic v (h .bic)))
-  bare-found Field50L true h = text-found (h .account)
-  bare-found Field50L false h = absurd (false≢true (h .presence))
-  bare-found Field50G true h = bic-there Field50G refl _ (u .bytes) v (head-in Field50G tt (h .account)) refl (one isBic v (h .bic))
-  bare-found Field50G false h = absurd (false≢true (h .presence))
-  bare-found Field50H true h = true-names Field50H (λ z. omega arith) count us (h .names) _ (u .bytes) (head-in Field50H tt (h .account)) (λ n a b. counts-open Field50H refl (suc n) (omega arith) refl)
-  bare-found Field50H false h = absurd (false≢true (h .presence))
-  bare-found Field59NoOption true h = true-names Field59NoOption (λ z. omega arith) count us (h .names) _ (u .bytes) (head-in Field59NoOption tt (h .account)) (λ n a b. counts-open Field59NoOption refl (suc n) (omega arith) refl)
-  bare-found Field59NoOption false h = false-names Field59NoOption (λ z. omega arith) count us (h .names) (λ n a b. counts-open Field59NoOption refl n a refl) (λ l ls e p k. untaken us l ls (untaken-short us (h .free)) e)
-  bare-found Field59A true h = bic-there Field59A refl _ (u .bytes) v (head-in Field59A tt (h .account)) refl (one isBic v (h .bic))
-  bare-found Field59A false h = bic-none Field59A refl v (none-made ShortAccount Field59A (v .bytes) (λ k. free-bic (h .bic))) refl (one isBic v (h .bic))
-  bare-found Field59F true h = true-names Field59F (λ z. omega arith) count us (h .names) _ (u .bytes) (head-in Field59F tt (h .account)) (λ n a b. counts-open Field59F refl (suc n) (omega arith) refl)
-  bare-found Field59F false h = false-names Field59F (λ z. omega arith) count us (h .names) (λ n a b. counts-open Field59F refl n a refl) (λ l ls e p. numbered-free l (both-left _ _ (p .each .0 .number)))
+  pub written-found : (o : PartyOption) (present : Bool) → Goal o present
+  unfolding writtenLines nameLines named joined
+  written-found Field50NoOption true h = absurd (false≢true (h .presence))
+  written-found Field50NoOption false h = false-names Field50NoOption (λ z. omega arith) count us (h .names) (λ n a b. within 1 4 n a b) (λ l ls e p. tt)
+  written-found Field50A true h = bic-there Field50A refl _ (u .bytes) v (head-in Field50A tt (h .account)) refl (one isBic v (h .bic))
+  written-found Field50A false h = bic-none Field50A refl v (none-made Identified Field50A (v .bytes) (free-bic (h .bic))) refl (one isBic v (h .bic))
+  written-found Field50F true h = true-names Field50F (λ z. omega arith) count us (h .names) _ (u .bytes) (head-in Field50F tt (h .account)) (λ n a b. counts-open Field50F refl (suc n) (omega arith) refl)
+  written-found Field50F false h = absurd (false≢true (h .presence))
+  written-found Field50K true h = true-names Field50K (λ z. omega arith) count us (h .names) _ (u .bytes) (head-in Field50K tt (h .account)) (λ n a b. counts-open Field50K refl (suc n) (omega arith) refl)
+  written-found Field50K false h = false-names Field50K (λ z. omega arith) count us (h .names) (λ n a b. counts-open Field50K refl n a refl) (λ l ls e p. untaken us l ls (h .free) e)
+  written-found Field50C true h = absurd (false≢true (h .presence))
+  written-found Field50C false h = rw (bic-passes v (one isBic v (h .bic)))
+  written-found Field50L true h = text-found (h .account)
+  written-found Field50L false h = absurd (false≢true (h .presence))
+  written-found Field50G true h = bic-there Field50G refl _ (u .bytes) v (head-in Field50G tt (h .account)) refl (one isBic v (h .bic))
+  written-found Field50G false h = absurd (false≢true (h .presence))
+  written-found Field50H true h = true-names Field50H (λ z. omega arith) count us (h .names) _ (u .bytes) (head-in Field50H tt (h .account)) (λ n a b. counts-open Field50H refl (suc n) (omega arith) refl)
+  written-found Field50H false h = absurd (false≢true (h .presence))
+  written-found Field59NoOption true h = true-names Field59NoOption (λ z. omega arith) count us (h .names) _ (u .bytes) (head-in Field59NoOption tt (h .account)) (λ n a b. counts-open Field59NoOption refl (suc n) (omega arith) refl)
+  written-found Field59NoOption false h = false-names Field59NoOption (λ z. omega arith) count us (h .names) (λ n a b. counts-open Field59NoOption refl n a refl) (λ l ls e p k. untaken us l ls (untaken-short us (h .free)) e)
+  written-found Field59A true h = bic-there Field59A refl _ (u .bytes) v (head-in Field59A tt (h .account)) refl (one isBic v (h .bic))
+  written-found Field59A false h = bic-none Field59A refl v (none-made ShortAccount Field59A (v .bytes) (λ k. free-bic (h .bic))) refl (one isBic v (h .bic))
+  written-found Field59F true h = true-names Field59F (λ z. omega arith) count us (h .names) _ (u .bytes) (head-in Field59F tt (h .account)) (λ n a b. counts-open Field59F refl (suc n) (omega arith) refl)
+  written-found Field59F false h = false-names Field59F (λ z. omega arith) count us (h .names) (λ n a b. counts-open Field59F refl n a refl) (λ l ls e p. numbered-free l (both-left _ _ (p .each .0 .number)))
