@@ -10,7 +10,8 @@
 //! - [`ParseError`] is a kind, which has a number, and a body line;
 //! - a body over [`pages::LONGEST_BODY`] bytes is refused with 12, one with a byte above 127 with
 //!   13, and a variant that is no letter from A to Z with 14;
-//! - the account of 50H takes bytes of any kind up to 127.
+//! - the account of 50H takes bytes of any kind up to 127;
+//! - 59F with an identifier is written without the empty line that swift-mt-message has after it.
 //!
 //! # A field
 //!

@@ -84,10 +84,12 @@ filing-ruled-out = record {
   position = refl;
 }
 
--- the bounds of a page (document 02, Six): one field of 59F with an identifier can pass 185 and 2, and that of 188 and 2 is met
+-- a buffer for one field of the longest length, its LF and the end
 abbrev room : List ℕ
 room = replicate 190 0
 
+-- the bounds of a page (document 02, Six): one field of 59F with an identifier, as long as it may be, makes a page that meets the bound of
+-- 188 a field and 2, and so passes that of 185 and 2
 pub record PageBounds : Type 0 where
   pub closes : closing noIndex (longest ∷ []) room .answer ≡ positionAfter 190
   pub met : length (page noIndex (longest ∷ []) room 190) ≡ (fieldMost + 1) * length (acceptedAdds noIndex (longest ∷ []) room) + 2

@@ -34,7 +34,7 @@ use Rattle.swift_mt_message.specs.Field50 as rust50
 use Rattle.swift_mt_message.specs.Field59 as rust59
 use Rattle.swift_mt_message.specs.Structs.{to-swift-string}
 use Rattle.swift_mt_message.specs.Equal.{recordOf}
-use Rattle.swift_mt_message.specs.Writing.{structOf, structIn, lessEmpty, Agrees, Writes}
+use Rattle.swift_mt_message.specs.Writing.{structOf, structIn, lessLf, lessEmpty, Agrees, Writes}
 
 -- ---- lines joined
 join-is : (ls : List Str) → join ls ≡ joined ls
@@ -74,12 +74,11 @@ unfolding rust59.written joined
 then-parted f l [] z h = rw (z, rust59.written) (append-nil l)
 then-parted f l (m ∷ ls) z h = rw (z, rust59.written) (ap (λ (x : Str). l ++ x) (all-parted f (0 + 1) m ls (λ k g. h k (omega arith))))
 
--- a line, and its empty line removed
+-- a line, and the empty line after it removed
 empty-less : (x y : Str) → Line x → lessEmpty (x ++ 10 ∷ 10 ∷ y) ≡ x ++ 10 ∷ y
-unfolding lessEmpty
+unfolding lessLf lessEmpty
 empty-less [] y h = refl
-empty-less (b ∷ []) y h = rw (first-not b [] h, lessEmpty) (ap (_∷_ b) (empty-less [] y refl))
-empty-less (b ∷ c ∷ x) y h = rw (first-not b (c ∷ x) h, lessEmpty) (ap (_∷_ b) (empty-less (c ∷ x) y (rest-not b (c ∷ x) h)))
+empty-less (b ∷ x) y h = rw (first-not b x h, lessEmpty) (ap (_∷_ b) (empty-less x y (rest-not b x h)))
 
 -- ---- how many names there are
 module _ (o : PartyOption) (z : eqb (limitsOf o .names) 0 ≡ false) (count : ℕ) (us : List Used) (h : areNames o count us ≡ true) where

@@ -2,7 +2,7 @@
 -- ours writes, with one LF more in 59F with an identifier. proofs/Writing.antt and proofs/Values.antt have the proofs.
 use Prim.Native.Nat.{ℕ, suc}
 use mathlib.Core.Path.{_≡_}
-use mathlib.Core.Bool.{Bool, true, false, _&&_}
+use mathlib.Core.Bool.{Bool, true, false}
 use mathlib.Core.List.{List, [], _∷_, map}
 use mathlib.Core.Option.{Option, none, some}
 use lib.Dec.{eqb}
@@ -47,14 +47,18 @@ abbrev pub structIn : (p : Party) → Struct (p .option)
 structIn p =
     structOf (p .option) (p .present) (used (p .account) .bytes) (used (p .bic) .bytes) (map (λ (u : Used). u .bytes) (namesOf (p .count) p))
 
--- a text without its first empty line: of the first two LFs on end one is removed
+-- a text without an LF at its start
+unfoldable pub lessLf : Str → Str
+lessLf [] = []
+lessLf (b ∷ text) = elim (eqb b 10) [ true ↦ text | false ↦ b ∷ text ]
+
+-- a text without an empty second line: the LF that stands right after its first LF is removed
 unfoldable pub lessEmpty : Str → Str
 lessEmpty [] = []
-lessEmpty (b ∷ []) = b ∷ []
-lessEmpty (b ∷ c ∷ text) = elim (eqb b 10 && eqb c 10) [ true ↦ c ∷ text | false ↦ b ∷ lessEmpty (c ∷ text) ]
+lessEmpty (b ∷ text) = b ∷ elim (eqb b 10) [ true ↦ lessLf text | false ↦ lessEmpty text ]
 
--- a text of the Rust and ours of a record (document 02, Six): equal; but in 59F with an identifier the Rust's has an empty line after it,
--- one LF more than ours, and with that LF removed it is what ours is
+-- a text of the Rust and ours of a record (document 02, Six): equal; but in 59F with an identifier, its first line, the Rust's has an empty
+-- line after that, one LF more than ours, and with that LF removed it is what ours is
 pub record Agrees (s : Said) (text : Str) : Type 0 where
   pub equal : identified59F s ≡ false → text ≡ writtenField s
   pub less : identified59F s ≡ true → (lessEmpty text ≡ writtenField s) × (length text ≡ suc (length (writtenField s)))

@@ -23,7 +23,7 @@ abbrev pub Named : Reply → Type 0
 Named accepted = Unit {0}
 Named (refused k n) = (1 ≤ k) × (n ≤ bodyMost)
 
--- and a length is at most 188
+-- and a length is at most that of the longest field
 abbrev pub Measurable : Measured → Type 0
 Measurable (lengthIs n) = n ≤ fieldMost
 Measurable (refusedWith k n) = Named (refused k n)

@@ -34,7 +34,7 @@ impl Class {
         match self {
             Class::Account50H => "50H, bytes of the account",
             Class::Detected50H => "FGH detected, bytes of the account",
-            Class::EmptyLine59F => "59F, the empty line written after its identifier",
+            Class::EmptyLine59F => "59F, the LF of its empty line",
             Class::LongBody => "12, body over 2,048",
             Class::HighByte => "13, byte above 127",
             Class::Letter => "14, letter none of A to Z",
