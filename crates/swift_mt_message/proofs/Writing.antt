@@ -146,7 +146,11 @@ module _ (count : ℕ) (u v : Used) where
       ∙ ap (λ (t : Str). x ++ 10 ∷ t)
       (all-parted _ 0 (w .bytes) (map bytesOf us) (λ k g. or-true (ltb 0 k)) ∙ ap (λ (ls : List Str). 10 ∷ joined (w .bytes ∷ ls)) (names-whole InTurn (λ k. refl) 2 us)) in
       let line : Line x = line-free u (account-line Field59F true u (both-left (isAccount Field59F true u) true (h .account))) in
-      record { equal = λ e. absurd (true≢false e); less = λ e. (ap lessEmpty q ∙ empty-less x y line, omega (arith, ap length q, length-append x (10 ∷ 10 ∷ y), length-append x (10 ∷ y))) }
+      record {
+        equal = λ e. absurd (true≢false e);
+        less = λ e. ap lessEmpty q ∙ empty-less x y line;
+        longer = λ e. omega (arith, ap length q, length-append x (10 ∷ 10 ∷ y), length-append x (10 ∷ y));
+      }
 
   bare-59F : Text Field59F false
   unfolding writtenField writtenBody writtenLines nameLines tagOf joined rust59.Field59F·to-swift-string
@@ -157,7 +161,7 @@ module _ (count : ℕ) (u v : Used) where
   -- of all other records the texts are equal
   equals : (o : PartyOption) (present : Bool) → (eqb (placeOf o) (placeOf Field59F) && present) ≡ false → Text o present → Agree o present
   unfolding identified59F
-  equals o present z t us h = record { equal = λ e. t us h; less = λ e. absurd (false≢true (sym z ∙ e)) }
+  equals o present z t us h = record { equal = λ e. t us h; less = λ e. absurd (false≢true (sym z ∙ e)); longer = λ e. absurd (false≢true (sym z ∙ e)) }
 
   other : (o : PartyOption) → eqb (placeOf o) (placeOf Field59F) ≡ false → ((present : Bool) → isPresence o present ≡ true → Text o present) → (present : Bool) → isPresence o present ≡ true → Agree o present
   other o z t present e = equals o present (rw z) (t present e)

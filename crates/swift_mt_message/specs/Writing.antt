@@ -57,11 +57,12 @@ unfoldable pub lessEmpty : Str → Str
 lessEmpty [] = []
 lessEmpty (b ∷ text) = b ∷ elim (eqb b 10) [ true ↦ lessLf text | false ↦ lessEmpty text ]
 
--- a text of the Rust and ours of a record (document 02, Six): equal; but in 59F with an identifier, its first line, the Rust's has an empty
--- line after that, one LF more than ours, and with that LF removed it is what ours is
+-- a text of the Rust and ours of a record (document 02, Six): equal; but of 59F with an identifier, which is in the first line, the Rust's has
+-- an empty line after it, so one LF more than ours, and with that LF removed it is ours
 pub record Agrees (s : Said) (text : Str) : Type 0 where
   pub equal : identified59F s ≡ false → text ≡ writtenField s
-  pub less : identified59F s ≡ true → (lessEmpty text ≡ writtenField s) × (length text ≡ suc (length (writtenField s)))
+  pub less : identified59F s ≡ true → lessEmpty text ≡ writtenField s
+  pub longer : identified59F s ≡ true → length text ≡ suc (length (writtenField s))
 
 -- the Rust's struct has the same record, and of it the Rust writes what ours writes, but for that LF
 pub record Writes (p : Party) : Type 0 where
