@@ -6,7 +6,7 @@ use Prim.Native.Nat.{ℕ, _+_, _*_}
 use lib.Dec.{ltb}
 use lib.ListN.{length, replicate}
 use Rattle.errors.specs.Refusals.{accepted, refused}
-use Rattle.party.specs.declared.PartyOption.the-variants.{Field50K, Field59F}
+use Rattle.party.specs.declared.PartyOption.the-variants.{Field50A, Field50F, Field50K, Field59F}
 use Rattle.party.specs.declared.Party.{Party}
 use Rattle.party.specs.Text.{padded, textOf, fourTexts}
 use Rattle.party.specs.Party.{said}
@@ -17,7 +17,7 @@ use Rattle.field_utils.specs.Identifier.{isNumbered, secondSlash, identifierRep
 use Rattle.field_utils.specs.Names.{parseLine, parseLines, parseNameAndAddress}
 use Rattle.field_utils.specs.Tags.{tagOf}
 use Rattle.reader.specs.Reading.{partyOf}
-use Rattle.writer.specs.Writing.{nameLines, writtenLines, joined, writtenBody, writtenField, fieldMost, pieces}
+use Rattle.writer.specs.Writing.{nameLines, writtenLines, joined, writtenBody, writtenField, fieldMost, identified59F, pieces}
 use Rattle.writer.specs.Given.{isLine, areNames, isGiven}
 use Rattle.writer.specs.ReadBack.{endsCr, lastEmpty}
 use Rattle.writer.specs.Longest.{longest}
@@ -25,7 +25,7 @@ use Rattle.page_reader.specs.Pages.{isEnd, endsPage}
 use Rattle.page_writer.specs.Beside.{noIndex}
 use Rattle.page_writer.specs.Adding.{anyCr, anyBoundary, laterBoundary, isCarried, writable, positionAfter, refusal, asked, recordReply, addReply, add, addIndex, close}
 use Rattle.page_writer.specs.Fold.{run, acceptedOf}
-use Rattle.page_writer.specs.Demand3.{adds, acceptedAdds, closing, page}
+use Rattle.page_writer.specs.Demand3.{adds, acceptedAdds, closing, page, identifiedIn}
 use Rattle.promises.specs.Starred.{gives}
 
 -- a 50K of these names
@@ -88,13 +88,27 @@ filing-ruled-out = record {
 abbrev room : List ℕ
 room = replicate 190 0
 
--- the bounds of a page (document 02, Six): one field of 59F with an identifier, as long as it may be, makes a page that meets the bound of
--- 188 a field and 2, and so passes that of 185 and 2
+-- a 50F, each text as long as it may be
+abbrev long50F : Party
+long50F = gives Field50F true (replicate 35 65) [] (replicate 4 (replicate 33 65)) .party
+
+-- records without the form: that 50F, a 59F without an identifier, a 50A with one
+abbrev others : List Party
+others = long50F ∷ gives Field59F false [] [] (bytes "1/A" ∷ []) .party ∷ gives Field50A true (bytes "1") (bytes "ABCDEFGH") [] .party ∷ []
+
+-- the bounds of a page (document 02, Six)
 pub record PageBounds : Type 0 where
+  -- one field of 59F with an identifier, as long as it may be: the page meets 188 a field and 2, and so passes 185 a field and 2
   pub closes : closing noIndex (longest ∷ []) room .answer ≡ positionAfter 190
   pub met : length (page noIndex (longest ∷ []) room 190) ≡ (fieldMost + 1) * length (acceptedAdds noIndex (longest ∷ []) room) + 2
   pub passed : ltb (185 * length (acceptedAdds noIndex (longest ∷ []) room) + 2) (length (page noIndex (longest ∷ []) room 190)) ≡ true
+  -- a bound of 185 whose premise no page meets: it counts the form, and nothing else
+  pub counted : identifiedIn (longest ∷ []) ≡ 1
+  pub not-counted : identifiedIn others ≡ 0
+  -- and one that could be lower: a page of one 50F meets 185 a field and 2
+  pub closes-50F : closing noIndex (long50F ∷ []) room .answer ≡ positionAfter 187
+  pub met-50F : length (page noIndex (long50F ∷ []) room 187) ≡ 185 * length (acceptedAdds noIndex (long50F ∷ []) room) + 2
 
 pub page-bounds : PageBounds
-unfolding padded textOf said letter digit alphanumeric signs legal parseSwiftChars parseAccount upto onto starts isNumbered secondSlash identifierReply parseLine parseLines parseNameAndAddress fourTexts partyOf nameLines writtenLines joined writtenBody writtenField pieces isLine areNames isGiven endsCr lastEmpty withoutCr isEnd endsPage anyCr anyBoundary laterBoundary isCarried writable asked recordReply addReply add addIndex close run acceptedOf tagOf
-page-bounds = record { closes = refl; met = refl; passed = refl }
+unfolding padded textOf said letter digit alphanumeric signs legal parseSwiftChars parseAccount upto onto starts isNumbered secondSlash identifierReply parseLine parseLines parseNameAndAddress fourTexts partyOf nameLines writtenLines joined writtenBody writtenField pieces isLine areNames isGiven endsCr lastEmpty withoutCr isEnd endsPage anyCr anyBoundary laterBoundary isCarried writable asked recordReply addReply add addIndex close run acceptedOf tagOf identified59F identifiedIn
+page-bounds = record { closes = refl; met = refl; passed = refl; counted = refl; not-counted = refl; closes-50F = refl; met-50F = refl }

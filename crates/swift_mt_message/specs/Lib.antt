@@ -7,6 +7,7 @@ pub mod Structs
 pub mod Enums
 pub mod Equal
 pub mod Writing
+pub mod WritingExamples
 pub mod Panics
 pub mod Cases
 pub mod Listed

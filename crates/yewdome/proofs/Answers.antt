@@ -115,7 +115,7 @@ module _ (body : List ℕ) where
   profile-variant-line choice letter = profiled-line (parseWithVariant choice body letter) body (variant-line choice body letter) (variant-fits choice body letter)
 
 -- ---- measuring and placing
--- a refusal names no line, and no field is longer than the longest
+-- a refusal names no line, and a field has at most `fieldMost` bytes
 measuring-within : (r : Reply) (text : List ℕ) → Named r → (r ≡ accepted → length text ≤ fieldMost) → Measurable (measuring r text)
 measuring-within accepted text n h = h refl
 measuring-within (refused k l) text n h = n
