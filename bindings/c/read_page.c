@@ -1,7 +1,7 @@
 /*
  * Reads a page from standard input and prints its answers, one to a line, up to the end: a record's
- * option and texts, or a refusal and the body that is refused. Says on standard error what each
- * refusal is for.
+ * option and texts, and the digits of the lines of 50F, or a refusal and the body that is refused.
+ * Says on standard error what each refusal is for.
  */
 #include "yewdome.h"
 
@@ -35,8 +35,8 @@ static void print_part(const uint8_t *record, int place)
 }
 
 /*
- * Every text has its label, an absent account has none, and names are counted, so that no two
- * records print alike. A BIC is never empty.
+ * Every text has its label, an absent account has none, names are counted, and 50F has a digit for
+ * each, so that no two records print alike. A BIC is never empty.
  */
 static void print_record(const uint8_t *record)
 {
@@ -54,6 +54,10 @@ static void print_record(const uint8_t *record)
         printf(" names %u", (unsigned)record[2]);
     for (names = 0; names < record[2]; names++)
         print_part(record, 2 + names);
+    if (record[0] == YEWDOME_50F) {
+        printf(" digits");
+        print_text(record + YEWDOME_FIRST_DIGIT, record[2]);
+    }
     putchar('\n');
 }
 

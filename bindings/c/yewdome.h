@@ -24,15 +24,22 @@ extern "C" {
 
 /*
  * A record as bytes: the option's place, 1 or 0 for whether there is an account or identifier, the
- * count of names, then six texts: the account or identifier, the BIC, four names. A text is its
- * length and room for the longest one, of which the bytes after the length are not used. A record
- * that is lent may have more bytes than these; the others are neither read nor written.
+ * count of names, then six texts: the account or identifier, the BIC, four names; then four digits,
+ * one for each name. A text is its length and room for the longest one, of which the bytes after
+ * the length are not used. A record that is lent may have more bytes than these; the others are
+ * neither read nor written.
+ *
+ * The digits are those of the lines of 50F, `1/JANE ROE`, as they came: '0' to '9', in any order.
+ * The name is without its digit and slash, and writing puts both before it. A digit is used where
+ * the option is 50F and the count has its name. A reader stores 0 for one that is not used, and in a
+ * record that is lent it may be anything; a used one that is no digit is 22.
  */
-#define YEWDOME_RECORD_LENGTH 237
+#define YEWDOME_RECORD_LENGTH 241
 #define YEWDOME_FIRST_TEXT 3
 #define YEWDOME_TEXTS 6
 #define YEWDOME_TEXT_LENGTH 39
 #define YEWDOME_LONGEST_TEXT 38
+#define YEWDOME_FIRST_DIGIT 237
 
 /* The longest body that is read, the longest field that is written, and the longest page. */
 #define YEWDOME_LONGEST_BODY 2048

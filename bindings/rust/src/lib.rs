@@ -11,6 +11,9 @@
 //! - a body over [`pages::LONGEST_BODY`] bytes is refused with 12, one with a byte above 127 with
 //!   13, and a variant that is no letter from A to Z with 14;
 //! - the account of 50H takes bytes of any kind up to 127;
+//! - [`Field50F`](fields::Field50F) has the digits of its lines beside the names, and they are
+//!   written as they came; `Field50F::new` takes what swift-mt-message has, and numbers the lines
+//!   1, 2, 3, 4 as it does;
 //! - 59F with an identifier is written without the empty line that swift-mt-message has after it.
 //!
 //! # A field

@@ -1,15 +1,18 @@
 //! A record as the library has it, in bytes: the option's place in the library's table, 1 or 0 for
 //! whether there is an account or identifier, the count of names, then six texts: the account or
-//! identifier, the BIC, four names. A text is its length and room for the longest one.
+//! identifier, the BIC, four names; then the digits of the names' lines, which 50F alone has. A text
+//! is its length and room for the longest one.
 
 use crate::errors::{ErrorKind, ParseError, Result};
+use crate::fields::LineDigits;
 
-pub(crate) const LENGTH: usize = 237;
+pub(crate) const LENGTH: usize = 241;
 const OPTION: usize = 0;
 const PRESENCE: usize = 1;
 const COUNT: usize = 2;
 const FIRST_TEXT: usize = 3;
 const TEXT_LENGTH: usize = 39;
+pub(crate) const FIRST_DIGIT: usize = LENGTH - 4;
 
 /// Where the texts stand among the six.
 const ACCOUNT: usize = 0;
@@ -82,8 +85,10 @@ pub(crate) struct Account;
 pub(crate) struct Bic;
 /// The names of a record.
 pub(crate) struct Names;
+/// The digits of their lines.
+pub(crate) struct Digits;
 
-/// A field of a struct that is a part of the record: [`Account`], [`Bic`] or [`Names`].
+/// A field of a struct that is a part of the record: [`Account`], [`Bic`], [`Names`] or [`Digits`].
 pub(crate) trait Part<Place> {
     fn get(record: &Record) -> Self;
     fn put(&self, record: &mut Record);
@@ -134,6 +139,22 @@ impl Part<Names> for Vec<String> {
         for (place, name) in NAMES.zip(self) {
             record.put_text(place, name);
         }
+    }
+}
+
+/// Those that the record does not use stay as [`LineDigits::default`] has them.
+impl Part<Digits> for LineDigits {
+    fn get(record: &Record) -> Self {
+        let mut digits = Self::default();
+        let used = record.0[FIRST_DIGIT..].iter().take(usize::from(record.0[COUNT]));
+        for (digit, &came) in digits.0.iter_mut().zip(used) {
+            *digit = came;
+        }
+        digits
+    }
+
+    fn put(&self, record: &mut Record) {
+        record.0[FIRST_DIGIT..].copy_from_slice(&self.0);
     }
 }
 

@@ -66,7 +66,7 @@ fn the_example_page_with_cr_lf_is_filed_alike() {
 
 #[test]
 fn a_page_is_listed() {
-    let page = b"junk\n:50K:/\n\"A\"\n:50:\n:59F:2/A\nB\n:52A:X\n:50A:/C/1\nDEUTDEFF\n:50H:/\x01\\\nA\n-\n";
+    let page = b"junk\n:50K:/\n\"A\"\n:50:\n:59F:2/A\nB\n:52A:X\n:50A:/C/1\nDEUTDEFF\n:50H:/\x01\\\nA\n:50F:X\n7/A\n7/\n-\n";
     let listing = r#"1  page line  1  refused with 16
 2  page line  2  50K
    account             0 ""
@@ -82,11 +82,16 @@ fn a_page_is_listed() {
 7  page line 10  50H
    account             2 "\01\5c"
    name_and_address 1  1 "A"
-end at byte 71
+8  page line 12  50F
+   party_identifier    1 "X"
+   name_and_address 1  1 "A"
+   name_and_address 2  0 ""
+   digits              2 "77"
+end at byte 85
 "#;
     let (status, out, err) = told(&["read"], page);
     assert_eq!((status, out.as_str()), (1, listing), "{err}");
-    assert!(err.ends_with("yewdome: standard input: 3 records, 4 refused\n"), "{err}");
+    assert!(err.ends_with("yewdome: standard input: 4 records, 4 refused\n"), "{err}");
     assert_eq!(told(&["check"], page), (1, String::new(), err));
 }
 
@@ -319,7 +324,7 @@ fn what_is_filed_is_listed_as_before() {
 
 #[test]
 fn no_two_records_are_listed_alike() {
-    let fields: [&[u8]; 16] = [
+    let fields: [&[u8]; 20] = [
         b":50K:A",
         b":50K:/\nA",
         b":50K:/A\nA",
@@ -336,6 +341,10 @@ fn no_two_records_are_listed_alike() {
         b":50H:/\x02\nA",
         b":50H:/\\01\nA",
         b":50H:/\\\x01\nA",
+        b":50F:X\n1/A\n2/B",
+        b":50F:X\n2/A\n1/B",
+        b":50F:X\n1/A\n1/B",
+        b":50F:X\n1/A",
     ];
     let page = [&fields.join(&b'\n')[..], b"\n-\n"].concat();
     let (status, listing, err) = told(&["read"], &page);

@@ -2,7 +2,7 @@
 
 mod parties;
 
-use parties::{one_of_each, refused};
+use parties::{one_of_each, parsed, refused};
 use yewdome::fields::*;
 use yewdome::pages::*;
 use yewdome::Result;
@@ -315,6 +315,36 @@ fn is_found(page: &[u8], index: &Index, number: u8) {
         Answer::End => 255,
     };
     assert_eq!((told, &read), (number, &read_at(page, 0)), "{page:?}");
+}
+
+/// Values of 50F of which some differ in their digits alone.
+#[test]
+fn a_field_is_found_with_its_digits() {
+    let bodies = ["X\n7/A\n7/B", "X\n1/A\n2/B", "X\n2/A\n1/B", "X\n0/A", "X\n9/A\n0/B\n0/C\n9/D"];
+    let parties = bodies.map(|body| Party::from(parsed::<Field50F>(body)));
+    let (mut buffer, mut index, mut position) = ([STALE; 128], Index::new(), 0);
+    for party in &parties {
+        let next = added(party, &mut buffer, position, &mut index);
+        position = next.expect("a page carries it");
+    }
+    let length = close(&mut buffer, position).expect("there is space for the end");
+    for page in [&buffer[..position], &buffer[..length]] {
+        is_of(&index, page);
+        for ((k, party), body) in (1..).zip(&parties).zip(bodies) {
+            let read = look_up(page, &index, k).expect("the field is there");
+            assert_eq!(&page[read.body], body.as_bytes());
+            assert_eq!(read.answer, Answer::Record(party.clone()));
+        }
+    }
+}
+
+#[test]
+fn a_digit_that_is_none_is_not_filed() {
+    for digit in [0, b'/', b':', 255] {
+        let bad = Field50F { digits: [digit, b'2', b'3', b'4'].into(), ..parsed("X\n1/A") };
+        let (mut buffer, mut index) = ([STALE; 64], stale());
+        assert_eq!(refused(added(&bad.into(), &mut buffer, 0, &mut index)), 22, "{digit}");
+    }
 }
 
 /// Numbers that look like any (xorshift).

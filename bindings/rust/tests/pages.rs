@@ -30,6 +30,7 @@ fn all() -> Vec<Party> {
         parsed::<Field50InstructingParty>("BNPAFRPP").into(),
         parsed::<Field50OrderingCustomerFGH>("/99\nCHASUS33").into(),
         parsed::<Field50OrderingCustomerAFK>("/12\nA").into(),
+        parsed::<Field50OrderingCustomerAFK>("X\n2/A\n1/B\n0/C\n9/D").into(),
         parsed::<Field50OrderingCustomerNCF>("A\nB").into(),
         parsed::<Field50Creditor>("DEUTDEFF").into(),
         parsed::<Field59>("1/A").into(),
@@ -71,6 +72,21 @@ fn what_is_measured_has_space() {
         let position = add(&party, &mut buffer, 0).expect("there is space");
         assert_eq!(close(&mut buffer, position), Ok(space));
     }
+}
+
+/// The lines of 50F stay as they came, whatever their digits.
+#[test]
+fn a_page_of_50f_is_filed_as_it_came() {
+    let page = b":50F:X\n7/A\n7/B\n:50F:X\n1/A\n2/B\n:50F:X\n2/A\n1/B\n:50F:X\n0/A\n-\n";
+    let mut buffer = [STALE; 64];
+    assert_eq!(file(page, &mut buffer).closed, Ok(page.len()));
+    assert_eq!(&buffer[..page.len()], page);
+    let mut records = answers(page).map(|read| read.answer);
+    let due = ["X\n7/A\n7/B", "X\n1/A\n2/B", "X\n2/A\n1/B", "X\n0/A"];
+    for body in due.map(parsed::<Field50F>) {
+        assert_eq!(records.next(), Some(Answer::Record(body.into())));
+    }
+    assert_eq!(records.next(), Some(Answer::End));
 }
 
 #[test]
@@ -237,6 +253,12 @@ fn refusals_of_an_add() {
         assert_eq!(refused_add(&bad, &mut buffer, 0), 22, "{bad:?}");
         assert_eq!(refused_add(&bad, &mut buffer, 1), 21, "21 comes before 22: {bad:?}");
         assert_eq!(refused_add(&bad, &mut [STALE; 1], 0), 22, "22 comes before 24: {bad:?}");
+    }
+    for digit in [0, b'/', b':', 255] {
+        let bad = Field50F { digits: [b'1', digit, b'3', b'4'].into(), ..parsed("X\n1/A\n2/B") };
+        assert_eq!(refused_add(&bad, &mut buffer, 0), 22, "{bad:?}");
+        let one = Field50F { name_and_address: vec!["A".to_string()], ..bad };
+        assert_eq!(add(&one, &mut buffer.clone(), 0), Ok(b":50F:X\n1/A\n".len()), "{one:?}");
     }
     for names in
         [&["A", ""][..], &["A", "-"], &["A", "-}"], &[":"], &["A\r"], &["A\r", "B"], &["A", "B\r"]]

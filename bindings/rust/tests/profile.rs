@@ -101,6 +101,17 @@ fn small_letters_are_good_elsewhere() {
     inside::<Field59>("1/bnpafrpp");
 }
 
+/// Under the profile too, and they are read as without it.
+#[test]
+fn the_digits_of_50f_may_be_any() {
+    for body in ["X\n7/A\n7/B", "X\n0/A", "X\n4/A\n3/B\n2/C\n1/D", "/12\n9/A\n0/B\n9/C"] {
+        inside::<Field50F>(body);
+        inside::<Field50OrderingCustomerAFK>(body);
+        inside::<Field50OrderingCustomerFGH>(body);
+        inside::<Field50OrderingCustomerNCF>(body);
+    }
+}
+
 #[test]
 fn no_line_comes_after_the_bic() {
     for after in ["X", " ", "BNPAFRPP", "/12", "X\nY"] {
@@ -404,7 +415,7 @@ fn piece(random: &mut Random, [common, odd]: Pieces) -> &'static str {
 }
 
 /// The lines of a body: perhaps an account or identifier, then a BIC, names or numbered names. A
-/// BIC has one or two lines after it two times in seven.
+/// BIC has one or two lines after it two times in seven, and a number is any digit one time in eight.
 fn lines(random: &mut Random) -> Vec<String> {
     let mut lines = Vec::new();
     if random.one_in(2) {
@@ -417,7 +428,8 @@ fn lines(random: &mut Random) -> Vec<String> {
     }
     for n in 1..=names {
         let name = piece(random, NAMES);
-        lines.push(if form == 1 { format!("{n}/{name}") } else { name.to_string() });
+        let number = if random.one_in(8) { random.below(10) } else { n };
+        lines.push(if form == 1 { format!("{number}/{name}") } else { name.to_string() });
     }
     lines
 }
@@ -515,14 +527,17 @@ fn filed(party: &Party) -> Result<Answer> {
 fn a_page_accepts_what_is_read_under_the_profile() {
     let mut taken = HashSet::new();
     each_reading(|_, _, [_, profiled]| taken.extend(profiled));
-    let (mut tags, mut identified) = (HashSet::new(), 0);
+    let (mut tags, mut identified, mut sevens) = (HashSet::new(), 0, 0);
     for party in taken {
         tags.insert(party.to_string()[..4].to_string());
-        if let Party::Field59F(Field59F { party_identifier: Some(_), .. }) = party {
-            identified += 1;
+        match &party {
+            Party::Field59F(Field59F { party_identifier: Some(_), .. }) => identified += 1,
+            Party::Field50F(field) if field.line_digits()[0] == b'7' => sevens += 1,
+            _ => {}
         }
         assert_eq!(filed(&party).map_err(told), Ok(Answer::Record(party)));
     }
     assert_eq!(tags.len(), 11, "of every option some are filed: {tags:?}");
     assert!(identified > 0, "59F with an identifier among them");
+    assert!(sevens > 0, "50F whose first digit is 7 among them");
 }

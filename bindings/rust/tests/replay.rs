@@ -69,7 +69,7 @@ fn decimal<T: std::str::FromStr>(text: &str) -> T {
 }
 
 /// The value of a record of the list: option, presence, account or identifier, BIC, count, four
-/// names.
+/// names. The Rust keeps no digits of 50F, and numbers its lines.
 fn party(fields: &[String]) -> Party {
     let (presence, account, bic) = (fields[1].as_str(), fields[2].clone(), fields[3].clone());
     let name_and_address = fields[5..5 + decimal::<usize>(&fields[4])].to_vec();
@@ -80,7 +80,7 @@ fn party(fields: &[String]) -> Party {
     match fields[0].as_str() {
         "50" => Field50NoOption { name_and_address }.into(),
         "50A" => Field50A { party_identifier: some, bic }.into(),
-        "50F" => Field50F { party_identifier: account, name_and_address }.into(),
+        "50F" => Field50F::new(account, name_and_address).into(),
         "50K" => Field50K { account: some, name_and_address }.into(),
         "50C" => Field50C { bic }.into(),
         "50L" => Field50L { party_identifier: account }.into(),
@@ -145,7 +145,10 @@ fn expected(case: &Case) -> (&'static str, Answer) {
         return ("13", Err((13, 0)));
     }
     let rust = case.rust.clone().expect("the Rust panics at bytes above 127 alone");
-    let rust = rust.map(|(party, written)| (party.clone(), without_empty_line(&party, written)));
+    let rust = rust.map(|(party, written)| match party {
+        Party::Field50F(field) => as_it_came(field, &case.body),
+        _ => (party.clone(), without_empty_line(&party, written)),
+    });
     match (illegal_account(&case.body), way_to_50h(case)) {
         (Some(account), Way::Asked) => {
             assert_eq!(rust, Err((3, 1)), "{}", case.row);
@@ -160,6 +163,18 @@ fn expected(case: &Case) -> (&'static str, Answer) {
         }
         _ => ("Rust", rust),
     }
+}
+
+/// The Rust's 50F as ours is, with the digits of the body's lines, and its text, which is these
+/// lines.
+fn as_it_came(field: Field50F, body: &str) -> (Party, String) {
+    let lines: Vec<&str> = body.lines().collect();
+    let mut digits = [0; 4];
+    for (digit, line) in digits.iter_mut().zip(&lines[1..]) {
+        *digit = line.as_bytes()[0];
+    }
+    let field = Field50F { digits: digits.into(), ..field };
+    (field.into(), format!(":50F:{}", lines.join("\n")))
 }
 
 /// The Rust's text as ours is: in 59F with an identifier it has an empty line after that, and that
@@ -239,6 +254,26 @@ fn every_case_is_read_as_expected() {
     }
     let due = [("12", 55), ("13", 107), ("14", 139), ("50H", 52), ("Rust", 5647)];
     assert_eq!(counts, BTreeMap::from(due));
+}
+
+/// Where the digits of 50F are set to 1, 2, 3, 4, its value and its text are the Rust's.
+#[test]
+fn with_its_lines_numbered_50f_is_the_rusts() {
+    let (mut in_turn, mut otherwise) = (0, 0);
+    for case in cases() {
+        let Ok((Party::Field50F(field), came)) = reader(&case.reader)(&case.call, &case.body)
+        else {
+            continue;
+        };
+        let party = Party::from(Field50F { digits: LineDigits::default(), ..field });
+        let written = party.to_swift_string().expect("a reader gave its texts");
+        match written == came {
+            true => in_turn += 1,
+            false => otherwise += 1,
+        }
+        assert_eq!(case.rust, Some(Ok((party, written))), "{}", case.row);
+    }
+    assert_eq!((in_turn, otherwise), (170, 46));
 }
 
 #[test]

@@ -1,4 +1,4 @@
-//! Values that are refused, variants, and the text of refusals.
+//! Values that are refused, the digits of 50F, variants, and the text of refusals.
 
 use std::collections::HashSet;
 use yewdome::fields::*;
@@ -92,6 +92,101 @@ fn texts_that_are_too_long_are_22() {
             assert_eq!(refused(value.to_swift_string()), (22, 0), "{length}: {value:?}");
         }
     }
+}
+
+const FOUR: [&str; 4] = ["A", "B", "C", "D"];
+
+/// 50F of so many names.
+fn of_50f(digits: &[u8; 4], count: usize) -> Field50F {
+    Field50F { digits: (*digits).into(), ..Field50F::new("X".to_string(), names(&FOUR[..count])) }
+}
+
+/// The body of as many lines as there are digits.
+fn numbered(digits: &[u8]) -> String {
+    let lines = digits.iter().zip(FOUR);
+    lines.fold("X".to_string(), |body, (&digit, name)| format!("{body}\n{}/{name}", digit as char))
+}
+
+#[test]
+fn two_sevens_are_written() {
+    let field = Field50F::parse("X\n7/A\n7/B").expect("the body is good");
+    assert_eq!(field.name_and_address, ["A", "B"]);
+    assert_eq!(field.line_digits(), b"77");
+    assert_eq!(field.to_swift_string(), Ok(":50F:X\n7/A\n7/B".to_string()));
+    assert_eq!(field.to_string(), ":50F:X\n7/A\n7/B");
+}
+
+/// Every digit in each of up to four lines: in turn, repeated and out of order.
+#[test]
+fn all_digits_are_kept() {
+    type Customer = Field50OrderingCustomerAFK;
+    for count in 1..=4 {
+        for number in 0..10_usize.pow(count as u32) {
+            let digits = format!("{number:0count$}").into_bytes();
+            let body = numbered(&digits);
+            let field = Field50F::parse(&body).expect("each line has its digit");
+            assert_eq!(field.line_digits(), digits);
+            assert_eq!(field.name_and_address, FOUR[..count]);
+            assert_eq!(field.to_swift_string(), Ok(format!(":50F:{body}")));
+            assert_eq!(measure(&field), Ok(":50F:".len() + body.len()));
+            assert_eq!(Customer::parse(&body), Ok(Customer::F(field)));
+        }
+    }
+}
+
+/// Measures and writes 50F with a byte in the place of a digit.
+fn look_at_digit(byte: u8, place: usize, count: usize) {
+    let mut digits = *b"1234";
+    digits[place] = byte;
+    let field = of_50f(&digits, count);
+    let (measured, written) = (measure(&field), field.to_swift_string());
+    if place < count && !byte.is_ascii_digit() {
+        assert_eq!((refused(measured), refused(written)), ((22, 0), (22, 0)), "{field:?}");
+    } else {
+        let due = format!(":50F:{}", numbered(&digits[..count]));
+        assert_eq!((measured, written), (Ok(due.len()), Ok(due)), "{field:?}");
+    }
+}
+
+/// Where it is not used, it may be any byte.
+#[test]
+fn a_used_digit_that_is_none_is_22() {
+    for byte in 0..=255 {
+        for place in 0..4 {
+            for count in 1..=4 {
+                look_at_digit(byte, place, count);
+            }
+        }
+    }
+}
+
+#[test]
+fn lines_are_numbered_by_default() {
+    let (party_identifier, name_and_address) = ("X".to_string(), names(&FOUR));
+    let field = Field50F::new(party_identifier.clone(), name_and_address.clone());
+    assert_eq!(field.to_swift_string(), Ok(":50F:X\n1/A\n2/B\n3/C\n4/D".to_string()));
+    assert_eq!(Field50F::parse("X\n1/A\n2/B\n3/C\n4/D"), Ok(field.clone()));
+    let digits = LineDigits::default();
+    assert_eq!(Field50F { party_identifier, name_and_address, digits }, field);
+    let Field50F { party_identifier, name_and_address, .. } = field;
+    assert_eq!((&*party_identifier, &name_and_address[..]), ("X", &names(&FOUR)[..]));
+}
+
+#[test]
+fn a_line_put_after_those_that_were_read_is_numbered_by_its_place() {
+    let mut field = Field50F::parse("X\n7/A\n1/B").expect("the body is good");
+    field.name_and_address.push("C".to_string());
+    assert_eq!(field.to_swift_string(), Ok(":50F:X\n7/A\n1/B\n3/C".to_string()));
+}
+
+#[test]
+fn line_digits_are_four_bytes() {
+    let digits = LineDigits::from(*b"70\0\xff");
+    let due = [Some(b'7'), Some(b'0'), Some(0), Some(255), None];
+    assert_eq!([0, 1, 2, 3, 4].map(|index| digits.get(index)), due);
+    assert_eq!(<[u8; 4]>::from(digits), *b"70\0\xff");
+    assert_eq!(format!("{digits:?}"), r#"LineDigits("70\x00\xff")"#);
+    assert_eq!(<[u8; 4]>::from(LineDigits::default()), *b"1234");
 }
 
 #[test]
@@ -213,4 +308,25 @@ fn values_are_shown_as_they_are_written() {
 fn equal_values_are_one_key() {
     let parties = ["A", "B", "A"].map(|name| Party::from(of_50k(None, name)));
     assert_eq!(HashSet::from(parties).len(), 2);
+}
+
+/// How many keys values of 50F are, alone and as parties.
+fn keys<const N: usize>(fields: [Field50F; N]) -> usize {
+    let keys = HashSet::from(fields.clone()).len();
+    assert_eq!(HashSet::from(fields.map(Party::from)).len(), keys);
+    keys
+}
+
+#[test]
+fn values_of_50f_are_equal_by_the_digits_that_they_use() {
+    let alike = [b"7734", b"7700", b"77\0\0", b"77\xffA"].map(|digits| of_50f(digits, 2));
+    assert!(alike.iter().all(|field| *field == alike[0]));
+    assert_eq!(keys(alike), 1);
+    assert_eq!(keys([b"1234", b"4321"].map(|digits| of_50f(digits, 0))), 1);
+    let different = [b"7734", b"7134", b"1734", b"1134", b"7/34"].map(|digits| of_50f(digits, 2));
+    assert_eq!(keys(different), 5);
+    assert_eq!(keys([0, 1, 2, 3, 4].map(|count| of_50f(b"7777", count))), 5);
+    let five = Field50F { name_and_address: vec!["A".to_string(); 5], ..of_50f(b"1234", 4) };
+    let last = Field50F { digits: LineDigits::from(*b"1235"), ..five.clone() };
+    assert_eq!(keys([five.clone(), five, last]), 2);
 }

@@ -14,14 +14,14 @@ use Rattle.party.specs.declared.PartyOption.{PartyOption}
 use Rattle.party.specs.declared.Limits.{Limits}
 use Rattle.party.specs.declared.Text.{Text}
 use Rattle.party.specs.Limits.{limitsOf}
-use Rattle.party.specs.Text.{fourTexts}
+use Rattle.party.specs.Text.{four, fourTexts}
 use Rattle.party.specs.declared.Numbering.{Numbering}
 use Rattle.party.specs.declared.Numbering.the-variants.{Unnumbered, Numbered, InTurn}
 use Rattle.swift_utils.specs.Bytes.{all, letter, digit, alphanumeric, signs, legal}
 use Rattle.swift_utils.specs.Checks.{parseSwiftChars}
 use Rattle.swift_utils.proofs.Checks.{chars}
 use Rattle.field_utils.specs.Identifier.{isNumbered}
-use Rattle.field_utils.specs.Names.{skipOf, parseNumber, parseLine, parseLines, parseCount, parseNameAndAddress, kept, namesOr, readNames, keptFrom}
+use Rattle.field_utils.specs.Names.{skipOf, parseNumber, parseLine, parseLines, parseCount, parseNameAndAddress, NamesRead, kept, digitOf, namesOr, readNames, keptFrom}
 use Rattle.field_utils.specs.Code.{parseShape, parseRest, givenNames}
 
 -- a numbered line has room for its digit and slash
@@ -124,10 +124,10 @@ module _ (illegal most count : ℕ) where
   pub rest-counted : illegal ≡ 0 → parseRest illegal most count ≡ parseCount most count
   rest-counted e = rw (eq-eqb illegal 0 e)
 
--- what names give, by their count and their texts
-given : (r : Reply) (ns : List (List ℕ)) → namesOr r ns ≡ givenNames r (length ns) (fourTexts ns)
-given accepted ns = refl
-given (refused k n) ns = refl
+-- what names give, by their count, their texts and their digits
+given : (r : Reply) (ns : List (List ℕ)) (ds : List ℕ) → namesOr r ns ds ≡ givenNames r (length ns) (fourTexts ns) (four 0 ds)
+given accepted ns ds = refl
+given (refused k n) ns ds = refl
 
 -- names, by what their lines say; m is what the code holds of the option
 module _ (o : PartyOption) {m : Limits} (e : m ≡ limitsOf o) (n : ℕ) (ls : List (List ℕ)) where
@@ -140,14 +140,18 @@ module _ (o : PartyOption) {m : Limits} (e : m ≡ limitsOf o) (n : ℕ) (ls : L
   names-counted h = rw (← e, h)
 
   -- what they give: none where a line is refused, else what their count says
-  pub read-refused : {r j : ℕ} → parseLines (m .numbering) (m .name) n 1 ls ≡ refused r j → readNames o n ls ≡ (record { reply = refused r j; count = 0; texts = fourTexts [] })
-  unfolding readNames
-  read-refused h = ap (λ (r : Reply). namesOr r (map (kept (limitsOf o .numbering)) ls)) (names-refused h)
+  abbrev by : Reply → NamesRead
+  by r = namesOr r (map (kept (limitsOf o .numbering)) ls) (map (digitOf (limitsOf o .numbering)) ls)
 
-  pub read-counted : {count : ℕ} {texts : List Text} → parseLines (m .numbering) (m .name) n 1 ls ≡ accepted → count ≡ length ls → texts ≡ fourTexts (map (kept (m .numbering)) ls)
-      → readNames o n ls ≡ givenNames (parseCount (m .names) count) count texts
+  pub read-refused : {r j : ℕ} → parseLines (m .numbering) (m .name) n 1 ls ≡ refused r j → readNames o n ls ≡ (record { reply = refused r j; count = 0; texts = fourTexts []; digits = four 0 [] })
   unfolding readNames
-  read-counted h c t =
-      ap (λ (r : Reply). namesOr r (map (kept (limitsOf o .numbering)) ls)) (names-counted h)
-      ∙ given (parseCount (m .names) (length ls)) (map (kept (limitsOf o .numbering)) ls)
-      ∙ rw (length-map ls (kept (limitsOf o .numbering)), ← e, ← t, ← c)
+  read-refused h = ap by (names-refused h)
+
+  pub read-counted : {count : ℕ} {texts : List Text} {digits : List ℕ} → parseLines (m .numbering) (m .name) n 1 ls ≡ accepted → count ≡ length ls
+      → texts ≡ fourTexts (map (kept (m .numbering)) ls) → digits ≡ four 0 (map (digitOf (m .numbering)) ls)
+      → readNames o n ls ≡ givenNames (parseCount (m .names) count) count texts digits
+  unfolding readNames
+  read-counted h c t d =
+      ap by (names-counted h)
+      ∙ given (parseCount (m .names) (length ls)) (map (kept (limitsOf o .numbering)) ls) (map (digitOf (limitsOf o .numbering)) ls)
+      ∙ rw (length-map ls (kept (limitsOf o .numbering)), ← e, ← t, ← d, ← c)

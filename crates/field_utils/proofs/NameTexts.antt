@@ -1,6 +1,6 @@
 -- Names tested and filled one line after the other. Assumes nothing.
 use mathlib.Core.Path.{_≡_, refl, sym, _∙_, ap}
-use mathlib.Core.List.{List, [], _∷_, _++_, map, append-nil}
+use mathlib.Core.List.{List, [], _∷_, _++_, map, map-append, map-map, append-nil}
 use Prim.Native.Nat.{ℕ, suc, _+_, _≤_, _<_}
 use native.Mathlib.Nat.{add-zero}
 use native.Mathlib.Omega.{arith}
@@ -11,67 +11,86 @@ use Rattle.party.specs.declared.PartyOption.{PartyOption}
 use Rattle.party.specs.declared.Limits.{Limits}
 use Rattle.party.specs.declared.Text.{Text}
 use Rattle.party.specs.Limits.{limitsOf}
-use Rattle.party.specs.Text.{textOf, fourTexts}
+use Rattle.party.specs.Text.{textOf, four, fourTexts}
 use Rattle.party.specs.declared.Numbering.{Numbering}
-use Rattle.field_utils.specs.Names.{parseLine, parseLines, parseCount, readNames, keptFrom}
+use Rattle.field_utils.specs.Names.{parseLine, parseLines, parseCount, readNames, keptFrom, kept, digitOf}
 use Rattle.field_utils.specs.Code.{givenNames}
 use Rattle.field_utils.proofs.NameLines.{lines-refused, lines-passed, lines-none, read-counted}
 
--- one more text, at its place; a fifth and later ones change none
-four-more : (xs : List (List ℕ)) (x : List ℕ) → length xs < 4 → set (fourTexts xs) (length xs) (textOf x) ≡ fourTexts (xs ++ (x ∷ []))
-unfolding fourTexts
-four-more [] x h = refl
-four-more (a ∷ []) x h = refl
-four-more (a ∷ b ∷ []) x h = refl
-four-more (a ∷ b ∷ c ∷ []) x h = refl
-four-more (a ∷ b ∷ c ∷ d ∷ xs) x h = absurd (omega arith)
+-- one more of four, at its place; a fifth and later ones change none
+module _ {A : Type 0} (none : A) where
+  four-more : (xs : List A) (x : A) → length xs < 4 → set (four none xs) (length xs) x ≡ four none (xs ++ (x ∷ []))
+  unfolding four
+  four-more [] x h = refl
+  four-more (a ∷ []) x h = refl
+  four-more (a ∷ b ∷ []) x h = refl
+  four-more (a ∷ b ∷ c ∷ []) x h = refl
+  four-more (a ∷ b ∷ c ∷ d ∷ xs) x h = absurd (omega arith)
 
-four-past : (xs : List (List ℕ)) (x : List ℕ) → 4 ≤ length xs → fourTexts xs ≡ fourTexts (xs ++ (x ∷ []))
-unfolding fourTexts
-four-past [] x h = absurd (omega arith)
-four-past (a ∷ []) x h = absurd (omega arith)
-four-past (a ∷ b ∷ []) x h = absurd (omega arith)
-four-past (a ∷ b ∷ c ∷ []) x h = absurd (omega arith)
-four-past (a ∷ b ∷ c ∷ d ∷ xs) x h = refl
+  four-past : (xs : List A) (x : A) → 4 ≤ length xs → four none xs ≡ four none (xs ++ (x ∷ []))
+  unfolding four
+  four-past [] x h = absurd (omega arith)
+  four-past (a ∷ []) x h = absurd (omega arith)
+  four-past (a ∷ b ∷ []) x h = absurd (omega arith)
+  four-past (a ∷ b ∷ c ∷ []) x h = absurd (omega arith)
+  four-past (a ∷ b ∷ c ∷ d ∷ xs) x h = refl
 
--- after n lines of ls, of which later ones are left: what all say is what those left say, and the texts are filled
-pub record Passed (f : Numbering) (longest start skip : ℕ) (ls : List (List ℕ)) (n : ℕ) (texts : List Text) (later : List (List ℕ)) : Type 0 where
+  -- the same of what lines give
+  module _ (f : List ℕ → A) (ls : List (List ℕ)) (l : List ℕ) {n : ℕ} (count : n ≡ length ls) where
+    more-of : {w : List A} {x : A} → w ≡ four none (map f ls) → x ≡ f l → n < 4 → set w n x ≡ four none (map f (ls ++ (l ∷ [])))
+    more-of e g h =
+        rw (e, g, count, map-append f ls (l ∷ []), ← length-map ls f) (four-more (map f ls) (f l) (omega (arith, h, count, length-map ls f)))
+
+    past-of : {w : List A} → w ≡ four none (map f ls) → 4 ≤ n → w ≡ four none (map f (ls ++ (l ∷ [])))
+    past-of e h = e ∙ four-past (map f ls) (f l) (omega (arith, h, count, length-map ls f)) ∙ ap (four none) (sym (map-append f ls (l ∷ [])))
+
+-- the text that is kept of a line
+abbrev textFrom : ℕ → List ℕ → Text
+textFrom skip l = textOf (drop skip l)
+
+-- after n lines of ls, of which later ones are left: what all say is what those left say, and the texts and the digits are filled
+pub record Passed (f : Numbering) (longest start skip : ℕ) (ls : List (List ℕ)) (n : ℕ) (texts : List Text) (digits : List ℕ) (later : List (List ℕ)) : Type 0 where
   pub says : parseLines f longest (suc start) 1 ls ≡ parseLines f longest (suc (start + n)) (suc n) later
   pub done : List (List ℕ)
-  pub all : map (drop skip) ls ≡ done ++ map (drop skip) later
+  pub all : ls ≡ done ++ later
   pub count : n ≡ length done
-  pub texts-are : texts ≡ fourTexts done
+  pub texts-are : texts ≡ four (textOf []) (map (textFrom skip) done)
+  pub digits-are : digits ≡ four 0 (map (digitOf f) done)
 
-pub passed-none : (f : Numbering) (longest start skip : ℕ) (ls : List (List ℕ)) {texts : List Text} → texts ≡ fourTexts [] → Passed f longest start skip ls 0 texts ls
-passed-none f longest start skip ls e = record { says = rw add-zero; done = []; all = refl; count = refl; texts-are = e }
+pub passed-none : (f : Numbering) (longest start skip : ℕ) (ls : List (List ℕ)) {texts : List Text} {digits : List ℕ} → texts ≡ fourTexts [] → digits ≡ four 0 []
+    → Passed f longest start skip ls 0 texts digits ls
+passed-none f longest start skip ls e g = record { says = rw add-zero; done = []; all = refl; count = refl; texts-are = e; digits-are = g }
 
 -- one more line
-module _ {f : Numbering} {longest start skip n : ℕ} {ls t : List (List ℕ)} {l : List ℕ} {texts : List Text} (p : Passed f longest start skip ls n texts (l ∷ t)) where
+module _ {f : Numbering} {longest start skip n : ℕ} {ls t : List (List ℕ)} {l : List ℕ} {texts : List Text} {digits : List ℕ} (p : Passed f longest start skip ls n texts digits (l ∷ t)) where
   pub passed-refused : {r m : ℕ} → parseLine f longest (start + (n + 1)) (n + 1) l ≡ refused r m → parseLines f longest (suc start) 1 ls ≡ refused r m
   passed-refused e = p .says ∙ lines-refused f longest start n l t e
 
   module _ (e : parseLine f longest (start + (n + 1)) (n + 1) l ≡ accepted) where
-    more : {w : List Text} → w ≡ fourTexts (p .done ++ (drop skip l ∷ [])) → Passed f longest start skip ls (n + 1) w t
-    more k =
+    more : {w : List Text} {d : List ℕ} → w ≡ four (textOf []) (map (textFrom skip) (p .done ++ (l ∷ []))) → d ≡ four 0 (map (digitOf f) (p .done ++ (l ∷ [])))
+        → Passed f longest start skip ls (n + 1) w d t
+    more k g =
         record {
           says = p .says ∙ lines-passed f longest start n l t e;
-          done = p .done ++ (drop skip l ∷ []);
-          all = p .all ∙ sym (append-snoc (p .done) (drop skip l) (map (drop skip) t));
-          count = omega (arith, p .count, length-append (p .done) (drop skip l ∷ []));
+          done = p .done ++ (l ∷ []);
+          all = p .all ∙ sym (append-snoc (p .done) l t);
+          count = omega (arith, p .count, length-append (p .done) (l ∷ []));
           texts-are = k;
+          digits-are = g;
         }
 
-    pub passed-more : {x : Text} → n < 4 → x ≡ textOf (drop skip l) → Passed f longest start skip ls (n + 1) (set texts n x) t
-    passed-more h k = more (rw (p .texts-are, k, p .count) (four-more (p .done) (drop skip l) (omega (arith, h, p .count))))
+    pub passed-more : {x : Text} {d : ℕ} → n < 4 → x ≡ textOf (drop skip l) → d ≡ digitOf f l → Passed f longest start skip ls (n + 1) (set texts n x) (set digits n d) t
+    passed-more h k g =
+        more (more-of (textOf []) (textFrom skip) (p .done) l (p .count) (p .texts-are) k h) (more-of 0 (digitOf f) (p .done) l (p .count) (p .digits-are) g h)
 
-    pub passed-past : 4 ≤ n → Passed f longest start skip ls (n + 1) texts t
-    passed-past h = more (p .texts-are ∙ four-past (p .done) (drop skip l) (omega (arith, h, p .count)))
+    pub passed-past : 4 ≤ n → Passed f longest start skip ls (n + 1) texts digits t
+    passed-past h = more (past-of (textOf []) (textFrom skip) (p .done) l (p .count) (p .texts-are) h) (past-of 0 (digitOf f) (p .done) l (p .count) (p .digits-are) h)
 
 -- all lines; m is what the code holds of the option
-pub passed-all : (o : PartyOption) {m : Limits} {start skip n : ℕ} {ls : List (List ℕ)} {texts : List Text} → m ≡ limitsOf o → skip ≡ keptFrom (m .numbering)
-    → Passed (m .numbering) (m .name) start skip ls n texts [] → readNames o (suc start) ls ≡ givenNames (parseCount (m .names) n) n texts
+pub passed-all : (o : PartyOption) {m : Limits} {start skip n : ℕ} {ls : List (List ℕ)} {texts : List Text} {digits : List ℕ} → m ≡ limitsOf o → skip ≡ keptFrom (m .numbering)
+    → Passed (m .numbering) (m .name) start skip ls n texts digits [] → readNames o (suc start) ls ≡ givenNames (parseCount (m .names) n) n texts digits
 passed-all o {m} {start} {skip} {n} {ls} e k p =
-    let all : map (drop skip) ls ≡ p .done = p .all ∙ append-nil (p .done) in
-    let size : n ≡ length ls = omega (arith, p .count, ap length all, length-map ls (drop skip)) in
-    read-counted o e (suc start) ls (p .says ∙ lines-none (m .numbering) (m .name) (suc (start + n)) (suc n)) size
-    (p .texts-are ∙ ap fourTexts (sym all ∙ ap (λ (j : ℕ). map (drop j) ls) k))
+    let all : p .done ≡ ls = sym (p .all ∙ append-nil (p .done)) in
+    let texts : map (textFrom skip) ls ≡ map textOf (map (kept (m .numbering)) ls) = ap (λ (j : ℕ). map (textFrom j) ls) k ∙ sym (map-map textOf (kept (m .numbering)) ls) in
+    read-counted o e (suc start) ls (p .says ∙ lines-none (m .numbering) (m .name) (suc (start + n)) (suc n)) (p .count ∙ ap length all)
+    (p .texts-are ∙ ap (four (textOf [])) (ap (map (textFrom skip)) all ∙ texts)) (p .digits-are ∙ ap (λ (d : List (List ℕ)). four 0 (map (digitOf (m .numbering)) d)) all)

@@ -5,7 +5,7 @@ use lib.Dec.{leb, eqb}
 use lib.ListN.{length, drop}
 use Rattle.errors.specs.Refusals.{Reply, accepted, refused, must, _then_}
 use Rattle.party.specs.declared.Text.{Text}
-use Rattle.party.specs.Text.{fourTexts}
+use Rattle.party.specs.Text.{four, fourTexts}
 use Rattle.party.specs.declared.Numbering.{Numbering}
 use Rattle.field_utils.specs.Names.{skipOf, parseNumber, parseCount, NamesRead}
 
@@ -17,7 +17,7 @@ parseShape f longest n k l = parseNumber f n k l then must (leb (length (drop (s
 abbrev pub parseRest : ℕ → ℕ → ℕ → Reply
 parseRest illegal most count = must (eqb illegal 0) 3 illegal then parseCount most count
 
--- a count and texts, or none where the names are refused
-abbrev pub givenNames : Reply → ℕ → List Text → NamesRead
-givenNames accepted count texts = record { reply = accepted; count = count; texts = texts }
-givenNames (refused k n) count texts = record { reply = refused k n; count = 0; texts = fourTexts [] }
+-- a count, texts and digits, or none where the names are refused
+abbrev pub givenNames : Reply → ℕ → List Text → List ℕ → NamesRead
+givenNames accepted count texts digits = record { reply = accepted; count = count; texts = texts; digits = digits }
+givenNames (refused k n) count texts digits = record { reply = refused k n; count = 0; texts = fourTexts []; digits = four 0 [] }

@@ -7,7 +7,7 @@ use Rattle.errors.specs.Refusals.{Reply, accepted, refused, told, must, _then_}
 use Rattle.party.specs.declared.PartyOption.{PartyOption}
 use Rattle.party.specs.declared.Text.{Text}
 use Rattle.party.specs.Limits.{limitsOf}
-use Rattle.party.specs.Text.{fourTexts}
+use Rattle.party.specs.Text.{four, fourTexts}
 use Rattle.party.specs.declared.Numbering.{Numbering}
 use Rattle.party.specs.declared.Numbering.the-variants.{Unnumbered, Numbered, InTurn}
 use Rattle.swift_utils.specs.Bytes.{between}
@@ -47,7 +47,7 @@ parseCount most count = must (between 1 most count) 7 0
 unfoldable pub parseNameAndAddress : PartyOption → ℕ → List (List ℕ) → Reply
 parseNameAndAddress o n ls = parseLines (limitsOf o .numbering) (limitsOf o .name) n 1 ls then parseCount (limitsOf o .names) (length ls)
 
--- how many of a line's first bytes are not kept: 50F's digit and slash are not, 59F's are
+-- how many of a line's first bytes are not kept in its text: 50F's digit and slash are not, 59F's are
 abbrev pub keptFrom : Numbering → ℕ
 keptFrom Unnumbered = 0
 keptFrom Numbered = 2
@@ -57,20 +57,27 @@ keptFrom InTurn = 0
 abbrev pub kept : Numbering → List ℕ → List ℕ
 kept f l = drop (keptFrom f) l
 
--- what the names give: the reply, how many there are, and the first four by value; none where they are refused
+-- the digit that is held beside what is kept of a line: 50F's, as it came (document 02, Seven); 0 where there is none
+abbrev pub digitOf : Numbering → List ℕ → ℕ
+digitOf Unnumbered l = 0
+digitOf Numbered l = getD l 0 0
+digitOf InTurn l = 0
+
+-- what the names give: the reply, how many there are, and the first four with their digits by value; none where they are refused
 pub record NamesRead : Type 0 where
   pub reply : Reply
   pub count : ℕ
   pub texts : List Text
+  pub digits : List ℕ
 
-abbrev pub namesOr : Reply → List (List ℕ) → NamesRead
-namesOr accepted ns = record { reply = accepted; count = length ns; texts = fourTexts ns }
-namesOr (refused k n) ns = record { reply = refused k n; count = 0; texts = fourTexts [] }
+abbrev pub namesOr : Reply → List (List ℕ) → List ℕ → NamesRead
+namesOr accepted ns ds = record { reply = accepted; count = length ns; texts = fourTexts ns; digits = four 0 ds }
+namesOr (refused k n) ns ds = record { reply = refused k n; count = 0; texts = fourTexts []; digits = four 0 [] }
 
--- names from body line n on, as they are kept
+-- names from body line n on, as they are kept, with their digits
 unfoldable pub readNames : PartyOption → ℕ → List (List ℕ) → NamesRead
-readNames o n ls = namesOr (parseNameAndAddress o n ls) (map (kept (limitsOf o .numbering)) ls)
+readNames o n ls = namesOr (parseNameAndAddress o n ls) (map (kept (limitsOf o .numbering)) ls) (map (digitOf (limitsOf o .numbering)) ls)
 
 -- the names that the code gives, in document 01's terms
 abbrev pub toldNames : Names → NamesRead
-toldNames w = record { reply = told (w .outcome); count = w .count; texts = w .texts }
+toldNames w = record { reply = told (w .outcome); count = w .count; texts = w .texts; digits = w .digits }

@@ -25,10 +25,10 @@ ghost use lib.Dec.{eqb};
 ghost use lib.ListN.{length, drop, getD};
 ghost use Rattle.errors.specs.declared.Outcome.the-variants.{Refused};
 ghost use Rattle.errors.specs.Refusals.{told, must};
-ghost use Rattle.party.specs.Text.{fourTexts};
+ghost use Rattle.party.specs.Text.{four, fourTexts};
 ghost use Rattle.field_utils.specs.Lines.{starts, lines as linesOf};
 ghost use Rattle.field_utils.specs.Identifier.{isNumbered, toldIdentifier, parsePartyIdentifier, identifierReply};
-ghost use Rattle.field_utils.specs.Names.{skipOf, keptFrom, parseNumber, parseCount, readNames, toldNames};
+ghost use Rattle.field_utils.specs.Names.{skipOf, keptFrom, digitOf, parseNumber, parseCount, readNames, toldNames};
 ghost use Rattle.field_utils.specs.Code.{parseShape, parseRest, givenNames};
 
 // Whether a line starts with a slash.
@@ -184,7 +184,7 @@ fn parse_line(
     Outcome::Accepted
 }
 
-// How many bytes of a line of names are not kept.
+// How many bytes of a line of names are not kept in its text.
 pub fn kept_from(numbering: Numbering) -> usize
     ensures { λ r. ⌜ r ≡ keptFrom numbering ⌝ }
 {
@@ -195,27 +195,43 @@ pub fn kept_from(numbering: Numbering) -> usize
     }
 }
 
-// What the names give: accepted with how many there are and their texts, or refused with none.
+// The digit that is held beside the text of a line of names: 50F's, else 0.
+fn digit_of(input: &[u8], numbering: Numbering) -> u8
+    ensures { λ r. ⌜ r ≡ digitOf numbering (now (input .entry)) ⌝ }
+{
+    if input.len() == 0 {
+        return 0;
+    }
+    match numbering {
+        Numbering::Unnumbered => 0,
+        Numbering::Numbered => input[0],
+        Numbering::InTurn => 0,
+    }
+}
+
+// What the names give: accepted with how many there are, their texts and their digits, or refused with none.
 pub struct Names {
     pub outcome: Outcome,
     pub count: usize,
     pub texts: [Text; 4],
+    pub digits: [u8; 4],
 }
 
 // A refusal, with no names beside it.
 fn refuse_names(e: ParseError) -> Names
-    ensures { λ r. ⌜ r ≡ record { outcome = Refused e; count = 0; texts = fourTexts [] } ⌝ }
+    ensures { λ r. ⌜ r ≡ record { outcome = Refused e; count = 0; texts = fourTexts []; digits = four 0 [] } ⌝ }
 {
     Names {
         outcome: Outcome::Refused(e),
         count: 0,
         texts: [NOTHING; 4],
+        digits: [0u8; 4],
     }
 }
 
 // The names, after the lines: the one of an illegal byte, or 0 (3), then the count (7).
-fn counted(illegal: usize, count: usize, most: usize, texts: [Text; 4]) -> Names
-    ensures { λ r. ⌜ toldNames r ≡ givenNames (parseRest illegal most count) count texts ⌝ }
+fn counted(illegal: usize, count: usize, most: usize, texts: [Text; 4], digits: [u8; 4]) -> Names
+    ensures { λ r. ⌜ toldNames r ≡ givenNames (parseRest illegal most count) count texts digits ⌝ }
 {
     if illegal != 0 {
         return refuse_names(ParseError::IllegalByte(illegal));
@@ -228,6 +244,7 @@ fn counted(illegal: usize, count: usize, most: usize, texts: [Text; 4]) -> Names
         outcome: Outcome::Accepted,
         count,
         texts,
+        digits,
     }
 }
 
@@ -241,6 +258,7 @@ pub fn parse_name_and_address(body: &[u8], from: Lines, start_idx: u8, option: P
     let kept = kept_from(numbering);
     let classes = class_table();
     let mut texts = [NOTHING; 4];
+    let mut digits = [0u8; 4];
     let mut cursor = from;
     let mut count = 0;
     let illegal = 'lines: loop {
@@ -265,9 +283,10 @@ pub fn parse_name_and_address(body: &[u8], from: Lines, start_idx: u8, option: P
         }
         if count < 4 {
             texts[count] = text_of(&input[kept..]);
+            digits[count] = digit_of(input, numbering);
         }
         count = turn;
         cursor = rest;
     };
-    counted(illegal, count, limits.names, texts)
+    counted(illegal, count, limits.names, texts, digits)
 }

@@ -8,14 +8,14 @@ use native.Mathlib.Omega.{arith}
 use native.Mathlib.Numerals.{add-one}
 use borrow.Author.Tests.{le-leb, lt-leb, leb-true}
 use lib.Dec.{leb}
-use lib.ListN.{length, getD, take, drop, set, length-append, length-drop}
-use lib.Seq.{paste, take-at, drop-at, take-all, take-add, drop-drop, drop-cons, drop-set-lt, take-suc-set, append-snoc, length-take-le, take-paste, drop-paste}
+use lib.ListN.{length, getD, take, drop, set, length-append, length-drop, length-set}
+use lib.Seq.{paste, paste-zero, paste-suc, take-at, drop-at, take-all, take-add, take-append-le, drop-drop, drop-cons, drop-set-lt, take-suc-set, append-snoc, length-take-le, take-paste, drop-paste}
 use Rattle.party.specs.declared.Text.{Text}
 use Rattle.party.specs.declared.Party.{Party}
 use Rattle.party.specs.Limits.{placeOf}
 use Rattle.party.specs.Text.{textMost, padded, textOf}
 use Rattle.party.specs.Party.{IsParty, blank}
-use Rattle.flat.specs.Flat.{textSize, recordSize, byteOf, bit, flatText, flatTexts, textsOf, flatten, stored, textAt, isFlat, partyFrom, unflatten}
+use Rattle.flat.specs.Flat.{textSize, digitsAt, recordSize, byteOf, bit, flatText, flatTexts, textsOf, flatten, stored, textAt, isFlat, partyFrom, unflatten}
 
 -- the text that stands for one past the end
 abbrev pub none : Text
@@ -54,6 +54,23 @@ text-here s n t h e =
     let bytes : t .bytes ≡ take textMost (drop (at + 1) s) =
     ap (λ (u : Text). u .bytes) e ∙ (ap (λ (k : ℕ). textOf (take k (drop (at + 1) s)) .bytes) width ∙ full _ size) in
     rw (bytes, drop-cons s at 0 (omega arith), add-one)
+
+-- ---- bytes copied one by one
+-- out is d, with the first i bytes of s from at on
+pub record Copied (d : List ℕ) (at : ℕ) (s : List ℕ) (i : ℕ) (out : List ℕ) : Type 0 where
+  pub size : length out ≡ length d
+  pub bytes : out ≡ paste d at s i
+
+module _ (d : List ℕ) (at : ℕ) (s : List ℕ) where
+  pub copied-none : Copied d at s 0 d
+  copied-none = record { size = refl; bytes = paste-zero d at s }
+
+  pub copied-more :
+      (i : ℕ) (out : List ℕ) → Copied d at s i out → at + i < length d → i < length s → Copied d at s (i + 1) (set out (at + i) (getD s i 0))
+  copied-more i out h room inside = record {
+    size = length-set out (at + i) (getD s i 0) ∙ h .size;
+    bytes = rw (h .bytes, add-one i) (paste-suc d at s i 0 room inside);
+  }
 
 -- ---- a text stored at a place
 pub text-put :
@@ -107,6 +124,14 @@ sizes p h (suc (suc i)) l = h .name i none (omega (arith, h .size)) .size
 pub six : (p : Party) → length (p .«name_and_address») ≡ 4 → Sizes (textsOf p) → length (flatTexts (textsOf p)) ≡ 6 * textSize
 six p four h = texts-size (textsOf p) h ∙ rw four
 
+-- the bytes after the first three: the texts, then the digits
+abbrev pub body : Party → List ℕ
+body p = flatTexts (textsOf p) ++ p .digits
+
+pub body-size :
+    (p : Party) → length (p .«name_and_address») ≡ 4 → length (p .digits) ≡ 4 → Sizes (textsOf p) → length (body p) ≡ 6 * textSize + 4
+body-size p four digits h = omega (arith, length-append (flatTexts (textsOf p)) (p .digits), six p four h, digits)
+
 -- a buffer that is long enough takes the record
 pub stored-whole : (p : Party) (d : List ℕ) → recordSize ≤ length d → stored p d ≡ flatten p ++ drop recordSize d
 unfolding stored
@@ -116,13 +141,25 @@ pub stored-none : (p : Party) (d : List ℕ) → length d < recordSize → store
 unfolding stored
 stored-none p d h = rw (lt-leb recordSize (length d) h, stored)
 
--- the first three bytes, then the texts
+-- the texts and then the digits are those bytes
+texts-digits :
+    (p : Party) (d : List ℕ) → IsParty p → recordSize ≤ length d →
+    paste (paste d 3 (flatTexts (textsOf p)) (6 * textSize)) digitsAt (p .digits) 4 ≡ take 3 d ++ body p ++ drop recordSize d
+texts-digits p d h l =
+    let texts = flatTexts (textsOf p) in
+    let size = six p (h .size) (sizes p h) in
+    let all = body-size p (h .size) (h .digits) (sizes p h) in
+    let last : take 4 (p .digits) ≡ take 4 (drop (6 * textSize) (body p)) = ap (take 4) (sym (drop-at texts (p .digits) (6 * textSize) size)) in
+    let more = paste-more d (body p) (p .digits) 3 (6 * textSize) 4 l (omega (arith, all)) last in
+    rw (take-append-le (6 * textSize) texts (p .digits) (omega (arith, size)), take-all (6 * textSize + 4) (body p) (omega (arith, all))) at more
+
+-- the first three bytes, then those
 pub store-all :
     (p : Party) (d : List ℕ) → IsParty p → recordSize ≤ length d →
-    paste (set (set (set d 0 (placeOf (p .option))) 1 (bit (p .present))) 2 (byteOf (p .count))) 3 (flatTexts (textsOf p)) (6 * textSize)
+    paste (paste (set (set (set d 0 (placeOf (p .option))) 1 (bit (p .present))) 2 (byteOf (p .count))) 3 (flatTexts (textsOf p)) (6 * textSize)) digitsAt (p .digits) 4
     ≡ flatten p ++ drop recordSize d
 unfolding flatten
 store-all p [] h l = absurd (omega arith)
 store-all p (x ∷ []) h l = absurd (omega arith)
 store-all p (x ∷ y ∷ []) h l = absurd (omega arith)
-store-all p (x ∷ y ∷ z ∷ d) h l = rw (take-all (6 * textSize) (flatTexts (textsOf p)) (omega (arith, six p (h .size) (sizes p h))))
+store-all p (x ∷ y ∷ z ∷ d) h l = texts-digits p (placeOf (p .option) ∷ bit (p .present) ∷ byteOf (p .count) ∷ d) h l

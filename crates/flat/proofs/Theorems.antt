@@ -3,24 +3,24 @@
 use Prim.Native.Nat.{ℕ, zero, suc, _+_, _*_, _-_, _<_, _≤_}
 use mathlib.Core.Path.{_≡_, refl, _∙_, ap}
 use mathlib.Core.Bool.{Bool, true, false}
-use mathlib.Core.List.{List, [], _∷_, _++_}
+use mathlib.Core.List.{List, [], _∷_, _++_, append-assoc}
 use native.Mathlib.Omega.{arith}
 use borrow.Author.Tests.{le-leb}
 use lib.Dec.{eqb}
 use lib.ListN.{length, getD, take, drop, length-append, length-drop}
-use lib.Seq.{take-append-le, drop-append-le}
+use lib.Seq.{take-at, drop-at, take-append-le, drop-append-le}
 use Rattle.party.specs.declared.Text.{Text}
 use Rattle.party.specs.declared.Party.{Party}
 use Rattle.party.specs.Limits.{placeOf}
 use Rattle.party.specs.Party.{IsParty}
 use Rattle.party.proofs.Options.{placed, place-most}
 use Rattle.flat.specs.Flat.{textSize, recordSize, byteOf, bit, flatText, flatTexts, textsOf, flatten, textFrom, textAt, isFlat, partyFrom, unflatten}
-use Rattle.flat.proofs.Laws.{none, loaded, Sizes, text-in, sizes, six}
+use Rattle.flat.proofs.Laws.{none, loaded, Sizes, text-in, sizes, six, body, body-size}
 
 -- ---- the bytes
 pub flatten-size : (p : Party) → IsParty p → length (flatten p) ≡ recordSize
 unfolding flatten
-flatten-size p h = rw (six p (h .size) (sizes p h))
+flatten-size p h = omega (arith, body-size p (h .size) (h .digits) (sizes p h))
 
 abbrev Bytes : List ℕ → Type 0
 Bytes l = (i : ℕ) → getD l i 0 < 256
@@ -54,7 +54,7 @@ unfolding flatten
 flatten-bytes p h zero = omega (arith, place-most (p .option))
 flatten-bytes p h (suc zero) = omega (arith, bit-small (p .present))
 flatten-bytes p h (suc (suc zero)) = omega arith
-flatten-bytes p h (suc (suc (suc i))) = bytes-texts (textsOf p) (texts-bytes p h) i
+flatten-bytes p h (suc (suc (suc i))) = bytes-append (flatTexts (textsOf p)) (p .digits) (bytes-texts (textsOf p) (texts-bytes p h)) (h .digit) i
 
 -- ---- and back
 -- a record whose lengths and count are at most 255
@@ -82,34 +82,39 @@ four (a ∷ b ∷ c ∷ []) d h = absurd (omega arith)
 four (a ∷ b ∷ c ∷ e ∷ []) d h = refl
 four (a ∷ b ∷ c ∷ e ∷ f ∷ l) d h = absurd (omega arith)
 
--- a record of four names and of texts of 38 bytes, and whatever bytes follow it
-module _ (p : Party) (rest : List ℕ) (size : length (p .«name_and_address») ≡ 4) (h : Sizes (textsOf p)) (s : Small p) where
+-- a record of four names, of four digits and of texts of 38 bytes, and whatever bytes follow it
+module _ (p : Party) (rest : List ℕ) (size : length (p .«name_and_address») ≡ 4) (digits : length (p .digits) ≡ 4) (h : Sizes (textsOf p)) (s : Small p) where
   small : (k : ℕ) → k < 6 → getD (textsOf p) k none .len ≤ 255
   small zero l = s .account
   small (suc zero) l = s .bic
   small (suc (suc i)) l = s .name i (omega arith)
 
   -- the text at a place, by its number among the six
-  text-at : (k : ℕ) → k < 6 → textFrom (take textSize (drop (textSize * k) (flatTexts (textsOf p) ++ rest))) ≡ getD (textsOf p) k none
+  text-at : (k : ℕ) → k < 6 → textFrom (take textSize (drop (textSize * k) (flatTexts (textsOf p) ++ (p .digits ++ rest)))) ≡ getD (textsOf p) k none
   text-at k l =
       let texts = flatTexts (textsOf p) in
+      let after = p .digits ++ rest in
       let n = six p size h in
-      let part : take textSize (drop (textSize * k) (texts ++ rest)) ≡ take textSize (drop (textSize * k) texts) =
-      ap (take textSize) (drop-append-le (textSize * k) texts rest (omega (arith, n)))
-      ∙ take-append-le textSize (drop (textSize * k) texts) rest (omega (arith, n, length-drop (textSize * k) texts)) in
+      let part : take textSize (drop (textSize * k) (texts ++ after)) ≡ take textSize (drop (textSize * k) texts) =
+      ap (take textSize) (drop-append-le (textSize * k) texts after (omega (arith, n)))
+      ∙ take-append-le textSize (drop (textSize * k) texts) after (omega (arith, n, length-drop (textSize * k) texts)) in
       ap textFrom (part ∙ text-in (textsOf p) k h (omega arith)) ∙ text-back (getD (textsOf p) k none) (small k l)
+
+  -- and the digits after them
+  digits-back : take 4 (drop (6 * textSize) (flatTexts (textsOf p) ++ (p .digits ++ rest))) ≡ p .digits
+  digits-back = ap (take 4) (drop-at (flatTexts (textsOf p)) (p .digits ++ rest) (6 * textSize) (six p size h)) ∙ take-at (p .digits) rest 4 digits
 
   is-flat : isFlat (flatten p ++ rest) ≡ true
   unfolding isFlat flatten
   is-flat =
-      let n : recordSize ≤ length (flatten p ++ rest) = omega (arith, six p size h, length-append (flatTexts (textsOf p)) rest) in
+      let n : recordSize ≤ length (flatten p ++ rest) = omega (arith, body-size p size digits h, length-append (body p) rest) in
       rw (le-leb recordSize (length (flatten p ++ rest)) n, le-leb (placeOf (p .option)) 10 (place-most (p .option))) (le-leb (bit (p .present)) 1 (bit-small (p .present)))
 
   party-back : partyFrom (flatten p ++ rest) ≡ p
   unfolding partyFrom textAt flatten
   party-back =
       rw
-      (placed (p .option), bit-back (p .present), byte-back (p .count) (s .count), text-at 0 (omega arith), text-at 1 (omega arith), text-at 2 (omega arith), text-at 3 (omega arith), text-at 4 (omega arith), text-at 5 (omega arith))
+      (append-assoc (flatTexts (textsOf p)) (p .digits) rest, placed (p .option), bit-back (p .present), byte-back (p .count) (s .count), text-at 0 (omega arith), text-at 1 (omega arith), text-at 2 (omega arith), text-at 3 (omega arith), text-at 4 (omega arith), text-at 5 (omega arith), digits-back)
       (ap
       (λ (names : List Text).
       record {
@@ -119,6 +124,7 @@ module _ (p : Party) (rest : List ℕ) (size : length (p .«name_and_address») 
         bic = p .bic;
         count = p .count;
         «name_and_address» = names;
+        digits = p .digits;
       })
       (four (p .«name_and_address») none size))
 
@@ -127,4 +133,4 @@ module _ (p : Party) (rest : List ℕ) (size : length (p .«name_and_address») 
 
 -- every value of the Rattle type is such
 pub round-trip : (p : Party) (rest : List ℕ) → IsParty p → Small p → unflatten (flatten p ++ rest) ≡ p
-round-trip p rest h s = loads-back p rest (h .size) (sizes p h) s
+round-trip p rest h s = loads-back p rest (h .size) (h .digits) (sizes p h) s

@@ -1,4 +1,5 @@
--- A record as bytes, which document 01 leaves to us: the option's place in the table, the presence, the count, then six texts.
+-- A record as bytes, which document 01 leaves to us: the option's place in the table, the presence, the count, then six texts and four
+-- digits.
 use Prim.Native.Nat.{ℕ, _+_, _*_, min}
 use mathlib.Core.Bool.{Bool, true, false, _&&_}
 use mathlib.Core.List.{List, [], _∷_, _++_}
@@ -15,9 +16,13 @@ use Rattle.party.specs.Party.{blank}
 abbrev pub textSize : ℕ
 textSize = 1 + textMost
 
--- a record takes three bytes and six texts, 237 in all
+-- the digits stand after three bytes and six texts (document 02, Seven)
+abbrev pub digitsAt : ℕ
+digitsAt = 3 + 6 * textSize
+
+-- and are four, so that a record takes 241 bytes in all
 abbrev pub recordSize : ℕ
-recordSize = 3 + 6 * textSize
+recordSize = digitsAt + 4
 
 -- a length or count; one above 255 is kept as 255, which is still more than a text or a record holds
 abbrev pub byteOf : ℕ → ℕ
@@ -43,7 +48,7 @@ textsOf p = p .account ∷ p .bic ∷ p .«name_and_address»
 
 -- the bytes of a record
 unfoldable pub flatten : Party → List ℕ
-flatten p = placeOf (p .option) ∷ bit (p .present) ∷ byteOf (p .count) ∷ flatTexts (textsOf p)
+flatten p = placeOf (p .option) ∷ bit (p .present) ∷ byteOf (p .count) ∷ flatTexts (textsOf p) ++ p .digits
 
 -- a buffer with a record stored at its start, where it has as many bytes; the bytes after those stay, and so do all of a shorter one
 unfoldable pub stored : Party → List ℕ → List ℕ
@@ -71,6 +76,7 @@ partyFrom s = record {
   bic = textAt 1 s;
   count = getD s 2 0;
   «name_and_address» = textAt 2 s ∷ textAt 3 s ∷ textAt 4 s ∷ textAt 5 s ∷ [];
+  digits = take 4 (drop digitsAt s);
 }
 
 -- the record at the start of bytes; where there is none, the blank one, which no reader gives

@@ -1,5 +1,5 @@
 // A party record as bytes, for programs in other languages. The place of the option in the table, the presence and the count are
-// a byte each; then come six texts, a length and 38 bytes each: the account, the BIC and the names.
+// a byte each; then come six texts, a length and 38 bytes each: the account, the BIC and the names; and last the four digits.
 use party::Party;
 use party::TEXT_MOST;
 use party::Text;
@@ -11,14 +11,18 @@ ghost use mathlib.Core.Path.{_≡_};
 ghost use mathlib.Core.List.{[]};
 ghost use Prim.Native.Nat.{_+_, _*_, _≤_, _<_};
 ghost use lib.Dec.{leb};
-ghost use lib.ListN.{length, getD};
+ghost use lib.ListN.{length, getD, take, drop};
 ghost use lib.Seq.{paste};
-ghost use Rattle.flat.specs.Flat.{textSize, recordSize, byteOf, bit as bitOf, flatText, flatTexts, textsOf, stored, textAt, isFlat, unflatten};
+ghost use Rattle.flat.specs.Flat.{textSize, digitsAt, recordSize, byteOf, bit as bitOf, flatText, flatTexts, textsOf, stored, textAt, isFlat, unflatten};
 
-// The bytes of a text, and of a record.
+// The bytes of a text.
 const TEXT_SIZE: usize = 1 + TEXT_MOST;
 
-pub const RECORD_SIZE: usize = 3 + 6 * TEXT_SIZE;
+// Where the digits stand: after the texts.
+const DIGITS_AT: usize = 3 + 6 * TEXT_SIZE;
+
+// The bytes of a record: 241.
+pub const RECORD_SIZE: usize = DIGITS_AT + 4;
 
 // A length or count as a byte.
 fn byte_of(n: usize) -> u8
@@ -77,6 +81,18 @@ fn put_texts(p: Party, out: &mut [u8])
     }
 }
 
+// The four digits, after the texts.
+fn put_digits(p: Party, out: &mut [u8])
+    requires { ⌜ recordSize ≤ length (now out) ⌝ }
+    ensures { λ _. ⌜ now (out .exit) ≡ paste (now (out .entry)) digitsAt (p .digits) 4 ⌝ }
+{
+    let mut i = 0;
+    while i < 4 {
+        out[DIGITS_AT + i] = p.digits[i];
+        i += 1;
+    }
+}
+
 // Stores a record at the start of the bytes, and says whether there are as many; where there are not, no byte changes.
 pub fn store(p: Party, out: &mut [u8]) -> bool
     ensures { λ r. ⌜ r ≡ leb recordSize (length (now (out .entry))) ⌝ }
@@ -92,6 +108,7 @@ pub fn store(p: Party, out: &mut [u8]) -> bool
     out[1] = bit(present);
     out[2] = byte_of(count);
     put_texts(p, out);
+    put_digits(p, out);
     true
 }
 
@@ -109,6 +126,20 @@ fn text_at(s: &[u8], n: usize) -> Text
         bytes,
         len: s[at] as usize,
     }
+}
+
+// The four digits.
+fn digits_at(s: &[u8]) -> [u8; 4]
+    requires { ⌜ recordSize ≤ length (now s) ⌝ }
+    ensures { λ r. ⌜ r ≡ take 4 (drop digitsAt (now (s .entry))) ⌝ }
+{
+    let mut digits = [0u8; 4];
+    let mut i = 0;
+    while i < 4 {
+        digits[i] = s[DIGITS_AT + i];
+        i += 1;
+    }
+    digits
 }
 
 // Whether bytes start with a record.
@@ -140,5 +171,6 @@ pub fn load(s: &[u8]) -> Party
         bic: text_at(s, 1),
         count: s[2] as usize,
         name_and_address: names,
+        digits: digits_at(s),
     }
 }

@@ -77,6 +77,11 @@ fn count(k: usize) -> usize {
     if limits.names == 0 { 0 } else { 1 + k % 4 }
 }
 
+// The digit of the line of a name; where the count leaves that out, no digit.
+fn line_digit(k: usize, turn: usize, n: usize) -> u8 {
+    if turn <= count(k) { digit(n) } else { 255 }
+}
+
 pub(crate) fn record(k: usize) -> Party {
     let present = is_present(k);
     Party {
@@ -86,6 +91,12 @@ pub(crate) fn record(k: usize) -> Party {
         bic: bic(k),
         count: count(k),
         name_and_address: [first_name(k), text(k, 2), text(k, 3), text(k, 4)],
+        digits: [
+            line_digit(k, 1, k),
+            line_digit(k, 2, k / 3),
+            line_digit(k, 3, k),
+            line_digit(k, 4, k / 7),
+        ],
     }
 }
 

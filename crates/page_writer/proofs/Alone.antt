@@ -22,7 +22,8 @@ use Rattle.writer.specs.Given.{Given}
 use Rattle.writer.specs.ReadBack.{endsCr}
 use Rattle.writer.proofs.Relined.{weight, relined, relined-most, cr-kept, cr-shorter, lines-joined}
 use Rattle.writer.proofs.Sayings.{saying}
-use Rattle.writer.proofs.Necessary.{light, readLines}
+use Rattle.writer.specs.Sender.{readLines}
+use Rattle.writer.proofs.Necessary.{light}
 use Rattle.writer.proofs.Back.{accepted-is}
 use Rattle.writer.proofs.Theorems.{reading-back, written-most}
 use Rattle.page_reader.specs.Pages.{pageMost, isBoundary, tagged, PageRead, readTagged, readField, readAt}

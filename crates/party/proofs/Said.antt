@@ -1,18 +1,20 @@
--- Two records are the same, or not, by their parts: first option, presence and count, then the texts that the option has.
+-- Two records are the same, or not, by their parts: first option, presence and count, then the texts and the digits that the option has.
 -- Assumes nothing.
+use Prim.Native.Nat.{ℕ}
 use mathlib.Core.Path.{_≡_, _∙_, sym, ap}
 use mathlib.Core.List.{List, [], _∷_}
+use lib.ListN.{take}
 use Rattle.party.specs.declared.Party.{Party}
 use Rattle.party.specs.Limits.{limitsOf}
 use Rattle.party.specs.Text.{Used, used}
-use Rattle.party.specs.Party.{where-limit, namesOf, Said, said, Same}
+use Rattle.party.specs.Party.{where-limit, namesOf, where-numbered, Said, said, Same}
 
 pub record SameHead (p q : Party) : Type 0 where
   pub option : p .option ≡ q .option
   pub present : p .present ≡ q .present
   pub count : p .count ≡ q .count
 
--- the texts of the record q, by the option and the count of the record p
+-- the texts and the digits of the record q, by the option and the count of the record p
 abbrev accountIn : Party → Party → List Used
 accountIn p q = where-limit (limitsOf (p .option) .longest) (used (q .account) ∷ [])
 
@@ -22,6 +24,9 @@ bicIn p q = where-limit (limitsOf (p .option) .bic) (used (q .bic) ∷ [])
 abbrev namesIn : Party → Party → List Used
 namesIn p q = where-limit (limitsOf (p .option) .names) (namesOf (p .count) q)
 
+abbrev digitsIn : Party → Party → List ℕ
+digitsIn p q = where-numbered (limitsOf (p .option) .numbering) (take (p .count) (q .digits))
+
 saidIn : Party → Party → Said
 saidIn p q = record {
   option = p .option;
@@ -30,6 +35,7 @@ saidIn p q = record {
   account = accountIn p q;
   bic = bicIn p q;
   names = namesIn p q;
+  digits = digitsIn p q;
 }
 
 abbrev pub SameAccount : Party → Party → Type 0
@@ -40,6 +46,9 @@ SameBic p q = bicIn p p ≡ bicIn p q
 
 abbrev pub SameNames : Party → Party → Type 0
 SameNames p q = namesIn p p ≡ namesIn p q
+
+abbrev pub SameDigits : Party → Party → Type 0
+SameDigits p q = digitsIn p p ≡ digitsIn p q
 
 module _ {p q : Party} where
   pub head : Same p q → SameHead p q
@@ -66,9 +75,13 @@ module _ {p q : Party} where
   unfolding said saidIn
   names h e = ap (λ (s : Said). s .names) (e ∙ said-in h)
 
-  pub same : SameHead p q → SameAccount p q → SameBic p q → SameNames p q → Same p q
+  pub digits : SameHead p q → Same p q → SameDigits p q
   unfolding said saidIn
-  same h a b n =
+  digits h e = ap (λ (s : Said). s .digits) (e ∙ said-in h)
+
+  pub same : SameHead p q → SameAccount p q → SameBic p q → SameNames p q → SameDigits p q → Same p q
+  unfolding said saidIn
+  same h a b n d =
       let parts : said p ≡ saidIn p q = λ i. record {
         option = p .option;
         present = p .present;
@@ -76,5 +89,6 @@ module _ {p q : Party} where
         account = a i;
         bic = b i;
         names = n i;
+        digits = d i;
       } in
       parts ∙ sym (said-in h)

@@ -26,6 +26,7 @@ oneName fourth = record {
   bic = textOf [];
   count = 1;
   «name_and_address» = textOf (65 ∷ []) ∷ textOf [] ∷ textOf [] ∷ fourth ∷ [];
+  digits = 0 ∷ 0 ∷ 0 ∷ 0 ∷ [];
 }
 
 pub unused-name : Same (oneName (record { bytes = replicate textMost 255; len = 99 })) (oneName (textOf []))
@@ -42,6 +43,7 @@ module _ (bic : Text) (count : ℕ) (names : List Text) where
     bic = bic;
     count = count;
     «name_and_address» = names;
+    digits = 0 ∷ 0 ∷ 0 ∷ 0 ∷ [];
   }
 
   pub presence-counts : (account : Text) → Same (field50K true account) (field50K false account) → ⊥

@@ -37,6 +37,7 @@ all-texts (t ∷ ts) (u ∷ us) h (suc i) none l = all-texts ts us (h .1) i none
 pub is-party : (p : Party) (vs : List Val) → Is (party .row) (party .into p) vs → IsParty p
 is-party p vs h =
     let texts = h .1 .1 .1 .1 .1 .1 .1 .0 in
+    let bytes = h .1 .1 .1 .1 .1 .1 .1 .1 .0 in
     let four : length (p .«name_and_address») ≡ 4 = sym (length-map (p .«name_and_address») (text .into)) ∙ texts .1 .0 .1 in
     record {
       account = is-text (p .account) _ (h .1 .1 .1 .1 .0);
@@ -44,4 +45,6 @@ is-party p vs h =
       fits = h .1 .1 .1 .1 .1 .1 .0 .1;
       size = four;
       name = λ i none l. all-texts (p .«name_and_address») (texts .0) (texts .1 .1) i none (omega arith);
+      digits = sym (length-map (p .digits) (λ v. v)) ∙ bytes .1 .0 .1;
+      digit = λ i. elem-fits-field w8 w8 (p .digits) (bytes .0) i (bytes .1 .1) tt .fits;
     }

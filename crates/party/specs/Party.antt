@@ -7,18 +7,22 @@ use lib.Dec.{ltb}
 use lib.ListN.{length, getD, take}
 use Rattle.party.specs.declared.PartyOption.{PartyOption}
 use Rattle.party.specs.declared.PartyOption.the-variants.{Field50NoOption}
+use Rattle.party.specs.declared.Numbering.{Numbering}
+use Rattle.party.specs.declared.Numbering.the-variants.{Unnumbered, Numbered, InTurn}
 use Rattle.party.specs.declared.Text.{Text}
 use Rattle.party.specs.declared.Party.{Party}
 use Rattle.party.specs.Limits.{limitsOf}
 use Rattle.party.specs.Text.{textOf, Used, used, IsText}
 
--- a record as Rattle has it: so are its texts, there are four names, and the count is a usize ('four texts by value')
+-- a record as Rattle has it: so are its texts, there are four names and four digits, and the count is a usize ('four texts by value')
 pub record IsParty (p : Party) : Type 0 where
   pub account : IsText (p .account)
   pub bic : IsText (p .bic)
   pub fits : p .count < 2 ^ 64
   pub size : length (p .«name_and_address») ≡ 4
   pub name : (i : ℕ) (none : Text) → i < 4 → IsText (getD (p .«name_and_address») i none)
+  pub digits : length (p .digits) ≡ 4
+  pub digit : (i : ℕ) → getD (p .digits) i 0 < 256
 
 -- the blank record, which stands beside a refusal and beside a page's end; document 01 leaves it to us
 abbrev pub blank : Party
@@ -29,6 +33,7 @@ blank = record {
   bic = textOf [];
   count = 0;
   «name_and_address» = textOf [] ∷ textOf [] ∷ textOf [] ∷ textOf [] ∷ [];
+  digits = 0 ∷ 0 ∷ 0 ∷ 0 ∷ [];
 }
 
 -- the texts if the option has such texts, that is, where its limit is not 0 ('texts that the option .. leaves out are unused')
@@ -39,7 +44,13 @@ where-limit limit texts = elim (ltb 0 limit) [ true ↦ texts | false ↦ [] ]
 abbrev pub namesOf : ℕ → Party → List Used
 namesOf count p = map used (take count (p .«name_and_address»))
 
--- what a record says: option, presence, count and the used texts ('option, presence, counts and used bytes')
+-- the digits of lines, where the option has them beside its texts, as 50F alone has (document 02, Seven)
+abbrev pub where-numbered : Numbering → List ℕ → List ℕ
+where-numbered Unnumbered digits = []
+where-numbered Numbered digits = digits
+where-numbered InTurn digits = []
+
+-- what a record says: option, presence, count, the used texts and the used digits ('option, presence, counts and used bytes')
 pub record Said : Type 0 where
   pub option : PartyOption
   pub present : Bool
@@ -47,8 +58,9 @@ pub record Said : Type 0 where
   pub account : List Used
   pub bic : List Used
   pub names : List Used
+  pub digits : List ℕ
 
--- what a record says: a text that the option or the count leaves out is not in it
+-- what a record says: a text or digit that the option or the count leaves out is not in it
 unfoldable pub said : Party → Said
 said p = record {
   option = p .option;
@@ -57,6 +69,7 @@ said p = record {
   account = where-limit (limitsOf (p .option) .longest) (used (p .account) ∷ []);
   bic = where-limit (limitsOf (p .option) .bic) (used (p .bic) ∷ []);
   names = where-limit (limitsOf (p .option) .names) (namesOf (p .count) p);
+  digits = where-numbered (limitsOf (p .option) .numbering) (take (p .count) (p .digits));
 }
 
 -- two records are the same when they say the same ('records are the same when ..')

@@ -17,9 +17,13 @@ padded l = l ++ replicate (textMost - length l) 0
 unfoldable pub textOf : List ℕ → Text
 textOf l = record { bytes = padded (take textMost l); len = length (take textMost l) }
 
+-- an array of four: the first of a list, then as many of one that stands for none
+unfoldable pub four : {A : Type 0} → A → List A → List A
+four none xs = take 4 (xs ++ (none ∷ none ∷ none ∷ none ∷ []))
+
 -- four texts by value: those of a list, then empty ones
-unfoldable pub fourTexts : List (List ℕ) → List Text
-fourTexts names = take 4 (map textOf names ++ (textOf [] ∷ textOf [] ∷ textOf [] ∷ textOf [] ∷ []))
+abbrev pub fourTexts : List (List ℕ) → List Text
+fourTexts names = four (textOf []) (map textOf names)
 
 -- what a text holds: its length, and the bytes that it uses ('used bytes agree')
 pub record Used : Type 0 where

@@ -2,9 +2,10 @@
 // the option beside one record. The limits of the eleven options stand here in one table.
 ghost use mathlib.Core.Path.{_≡_};
 ghost use mathlib.Core.List.{[], _∷_};
+ghost use lib.ListN.{take};
 ghost use Rattle.party.specs.Limits.{limitsOf, placeOf, optionAt};
 ghost use Rattle.party.specs.Text.{textOf, used};
-ghost use Rattle.party.specs.Party.{IsParty, blank as blankParty, where-limit, namesOf, Same};
+ghost use Rattle.party.specs.Party.{IsParty, blank as blankParty, where-limit, namesOf, where-numbered, Same};
 ghost use Rattle.party.specs.Decides.{Decides};
 
 // The eleven options, under the names of the Rust's structs.
@@ -31,7 +32,8 @@ pub struct Text {
     pub len: usize,
 }
 
-// A party: its option, whether the body gave an account or identifier, that text, the BIC, and as many names as count says.
+// A party: its option, whether the body gave an account or identifier, that text, the BIC, as many names as count says, and in 50F the
+// digit of each name's line.
 pub struct Party {
     pub option: PartyOption,
     pub present: bool,
@@ -39,6 +41,7 @@ pub struct Party {
     pub bic: Text,
     pub count: usize,
     pub name_and_address: [Text; 4],
+    pub digits: [u8; 4],
 }
 
 // What a body is to an option: a BIC, a text, or lines.
@@ -344,7 +347,7 @@ pub fn limits_of(option: PartyOption) -> Limits
     }
 }
 
-// What every record has, whatever its bytes say: each text has its 38 bytes, and there are four names.
+// What every record has, whatever its bytes say: each text has its 38 bytes, and there are four names and four digits.
 pub fn sized(p: Party)
     ensures { λ r. ⌜ IsParty p ⌝ }
 {}
@@ -373,6 +376,7 @@ pub fn blank() -> Party
         bic: NOTHING,
         count: 0,
         name_and_address: [NOTHING; 4],
+        digits: [0u8; 4],
     }
 }
 
@@ -420,7 +424,32 @@ fn same_names(p: Party, q: Party, count: usize) -> bool
     true
 }
 
-// Whether two records are the same: option, presence, count and used bytes agree.
+// Whether the first digits of two records are the same, as many as count says.
+fn same_digits(p: Party, q: Party, count: usize) -> bool
+    ensures { λ r. ⌜ Decides r (take count (p .digits) ≡ take count (q .digits)) ⌝ }
+{
+    let mut i = 0;
+    while i < 4 && i < count {
+        if p.digits[i] != q.digits[i] {
+            return false;
+        }
+        i += 1;
+    }
+    true
+}
+
+// Whether they are, where the option has digits beside its texts.
+fn same_numbers(numbering: Numbering, p: Party, q: Party, count: usize) -> bool
+    ensures { λ r. ⌜ Decides r (where-numbered numbering (take count (p .digits)) ≡ where-numbered numbering (take count (q .digits))) ⌝ }
+{
+    match numbering {
+        Numbering::Unnumbered => true,
+        Numbering::Numbered => same_digits(p, q, count),
+        Numbering::InTurn => true,
+    }
+}
+
+// Whether two records are the same: option, presence, count, used bytes and used digits agree.
 pub fn same(p: Party, q: Party) -> bool
     ensures { λ r. ⌜ Decides r (Same p q) ⌝ }
 {
@@ -448,6 +477,10 @@ pub fn same(p: Party, q: Party) -> bool
     let bic = p.bic;
     let other_bic = q.bic;
     if !same_where(limits.bic, bic, other_bic) {
+        return false;
+    }
+    let numbering = limits.numbering;
+    if !same_numbers(numbering, p, q, count) {
         return false;
     }
     if limits.names == 0 {

@@ -6,8 +6,8 @@ use mathlib.Core.List.{List, [], _∷_, _++_, map}
 use Prim.Native.Nat.{ℕ}
 use lib.ListN.{replicate}
 use Rattle.party.specs.declared.PartyOption.{PartyOption}
-use Rattle.party.specs.declared.PartyOption.the-variants.{Field50NoOption, Field50A, Field50F, Field50K, Field50C, Field50L, Field50G, Field50H, Field59NoOption, Field59A, Field59F}
-use Rattle.party.specs.Text.{padded, textOf, fourTexts}
+use Rattle.party.specs.declared.PartyOption.the-variants.{Field50NoOption, Field50A, Field50K, Field50C, Field50L, Field50G, Field50H, Field59NoOption, Field59A, Field59F}
+use Rattle.party.specs.Text.{padded, textOf, four}
 use Rattle.swift_utils.specs.Bytes.{bytes, letter, digit, alphanumeric, signs, legal}
 use Rattle.swift_utils.specs.Checks.{parseSwiftChars, parseAccount, bicLength, parseBic}
 use Rattle.field_utils.specs.Lines.{upto, onto, starts, lines, withoutCr}
@@ -18,7 +18,7 @@ use Rattle.reader.specs.Reading.{partyOf}
 use Rattle.reader.specs.Options.{accountHead, shortAccountHead, afterHead, read}
 use Rattle.page_reader.specs.Pages.{lineAt, isEnd, endsPage, runs, begins, tagIn, ReadOutcome, aRecord, theEnd, aRefusal, PageRead, readField, readCase, readAt}
 use Rattle.page_writer.specs.Delivered.{crlf, IsEndLine}
-use Rattle.promises.specs.Starred.{gives}
+use Rattle.promises.specs.Starred.{gives, gives50F}
 use Rattle.promises.specs.Pages.{reads, named, ends, refuses}
 
 -- what so many reads from the start give
@@ -41,7 +41,7 @@ eleven =
 -- their records, and the end
 abbrev pub elevenRecords : List ReadOutcome
 elevenRecords =
-    without Field50NoOption [] (bytes "A" ∷ bytes "B" ∷ []) ∷ with Field50A (bytes "1") (bytes "ABCDEFGH") [] ∷ with Field50F (bytes "X") [] (bytes "A" ∷ bytes "B" ∷ [])
+    without Field50NoOption [] (bytes "A" ∷ bytes "B" ∷ []) ∷ with Field50A (bytes "1") (bytes "ABCDEFGH") [] ∷ aRecord (gives50F (bytes "X") (bytes "A" ∷ bytes "B" ∷ []) (bytes "12") .party)
     ∷ with Field50K (bytes "1") [] (bytes "A" ∷ bytes "B" ∷ []) ∷ without Field50C (bytes "ABCDEFGH") [] ∷ with Field50L (bytes "A") [] []
     ∷ with Field50G (bytes "1") (bytes "ABCDEFGH") [] ∷ with Field50H (bytes "1") [] (bytes "A" ∷ bytes "B" ∷ []) ∷ with Field59NoOption (bytes "1") [] (bytes "A" ∷ [])
     ∷ without Field59A (bytes "ABCDEFGH") [] ∷ without Field59F [] (bytes "1/A" ∷ bytes "2/B" ∷ []) ∷ theEnd ∷ []
@@ -68,7 +68,7 @@ pub record Delivered : Type 0 where
   pub open-brace : reads 2 (bytes ":50K:A\n-}") 0 ≡ named (bytes "A") 7 ∷ ends 9 ∷ []
 
 pub delivered : Delivered
-unfolding crlf padded textOf letter digit alphanumeric signs legal parseSwiftChars parseAccount bicLength parseBic upto onto starts lines withoutCr isNumbered secondSlash identifierReply parsePartyIdentifier parseLine parseLines parseNameAndAddress fourTexts partyOf accountHead shortAccountHead afterHead read lineAt isEnd endsPage runs begins tagIn readField readCase readAt tagOf
+unfolding crlf padded textOf letter digit alphanumeric signs legal parseSwiftChars parseAccount bicLength parseBic upto onto starts lines withoutCr isNumbered secondSlash identifierReply parsePartyIdentifier parseLine parseLines parseNameAndAddress four partyOf accountHead shortAccountHead afterHead read lineAt isEnd endsPage runs begins tagIn readField readCase readAt tagOf
 delivered = record { text = refl; lf = refl; twin = refl; brace = refl; bic = refl; longest = refl; longer = refl; part = refl; open-brace = refl }
 
 -- the end lines that `delivered-page` speaks of: `-` and `-}`, each with LF, with CR LF, and at the page's end with neither
@@ -110,7 +110,7 @@ pub record DeliveredRuledOut : Type 0 where
   pub hyphens : readAt (bytes "--\n") 0 ≡ refuses 16 3
 
 pub delivered-ruled-out : DeliveredRuledOut
-unfolding padded textOf letter digit alphanumeric signs legal parseSwiftChars parseAccount upto onto starts lines withoutCr parseLine parseLines parseNameAndAddress fourTexts partyOf accountHead afterHead read lineAt isEnd endsPage runs begins tagIn readField readCase readAt tagOf
+unfolding padded textOf letter digit alphanumeric signs legal parseSwiftChars parseAccount upto onto starts lines withoutCr parseLine parseLines parseNameAndAddress four partyOf accountHead afterHead read lineAt isEnd endsPage runs begins tagIn readField readCase readAt tagOf
 delivered-ruled-out = record {
   no-lf = refl;
   no-lf-end = refl;

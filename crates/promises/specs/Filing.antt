@@ -6,9 +6,9 @@ use Prim.Native.Nat.{ℕ, _+_, _*_}
 use lib.Dec.{ltb}
 use lib.ListN.{length, replicate}
 use Rattle.errors.specs.Refusals.{accepted, refused}
-use Rattle.party.specs.declared.PartyOption.the-variants.{Field50A, Field50F, Field50K, Field59F}
+use Rattle.party.specs.declared.PartyOption.the-variants.{Field50A, Field50K, Field59F}
 use Rattle.party.specs.declared.Party.{Party}
-use Rattle.party.specs.Text.{padded, textOf, fourTexts}
+use Rattle.party.specs.Text.{padded, textOf, four}
 use Rattle.party.specs.Party.{said}
 use Rattle.swift_utils.specs.Bytes.{bytes, letter, digit, alphanumeric, signs, legal}
 use Rattle.swift_utils.specs.Checks.{parseSwiftChars, parseAccount}
@@ -26,7 +26,7 @@ use Rattle.page_writer.specs.Beside.{noIndex}
 use Rattle.page_writer.specs.Adding.{anyCr, anyBoundary, laterBoundary, isCarried, writable, positionAfter, refusal, asked, recordReply, addReply, add, addIndex, close}
 use Rattle.page_writer.specs.Fold.{run, acceptedOf}
 use Rattle.page_writer.specs.Demand3.{adds, acceptedAdds, closing, page, identifiedIn}
-use Rattle.promises.specs.Starred.{gives}
+use Rattle.promises.specs.Starred.{gives, gives50F}
 
 -- a 50K of these names
 abbrev pub of : List (List ℕ) → Party
@@ -61,7 +61,7 @@ pub record FilingRuledOut : Type 0 where
   pub position : add (bytes "abcdefghijkl") 1 noIndex (said (of [])) .answer ≡ refusal 21 0
 
 pub filing-ruled-out : FilingRuledOut
-unfolding padded textOf said letter digit alphanumeric signs legal parseSwiftChars parseAccount upto onto starts isNumbered identifierReply parseLine parseLines parseNameAndAddress fourTexts partyOf nameLines writtenLines joined writtenBody writtenField pieces isLine areNames isGiven endsCr lastEmpty withoutCr isEnd endsPage anyCr anyBoundary laterBoundary isCarried writable asked recordReply addReply add addIndex close run tagOf
+unfolding padded textOf said letter digit alphanumeric signs legal parseSwiftChars parseAccount upto onto starts isNumbered identifierReply parseLine parseLines parseNameAndAddress four partyOf nameLines writtenLines joined writtenBody writtenField pieces isLine areNames isGiven endsCr lastEmpty withoutCr isEnd endsPage anyCr anyBoundary laterBoundary isCarried writable asked recordReply addReply add addIndex close run tagOf
 filing-ruled-out = record {
   both-filed = refl;
   enough = refl;
@@ -90,7 +90,7 @@ room = replicate 190 0
 
 -- a 50F, each text as long as it may be
 abbrev long50F : Party
-long50F = gives Field50F true (replicate 35 65) [] (replicate 4 (replicate 33 65)) .party
+long50F = gives50F (replicate 35 65) (replicate 4 (replicate 33 65)) (bytes "1234") .party
 
 -- records without the form: that 50F, a 59F without an identifier, a 50A with one
 abbrev others : List Party
@@ -110,5 +110,5 @@ pub record PageBounds : Type 0 where
   pub met-50F : length (page noIndex (long50F ∷ []) room 187) ≡ 185 * length (acceptedAdds noIndex (long50F ∷ []) room) + 2
 
 pub page-bounds : PageBounds
-unfolding padded textOf said letter digit alphanumeric signs legal parseSwiftChars parseAccount upto onto starts isNumbered secondSlash identifierReply parseLine parseLines parseNameAndAddress fourTexts partyOf nameLines writtenLines joined writtenBody writtenField pieces isLine areNames isGiven endsCr lastEmpty withoutCr isEnd endsPage anyCr anyBoundary laterBoundary isCarried writable asked recordReply addReply add addIndex close run acceptedOf tagOf identified59F identifiedIn
+unfolding padded textOf said letter digit alphanumeric signs legal parseSwiftChars parseAccount upto onto starts isNumbered secondSlash identifierReply parseLine parseLines parseNameAndAddress four partyOf nameLines writtenLines joined writtenBody writtenField pieces isLine areNames isGiven endsCr lastEmpty withoutCr isEnd endsPage anyCr anyBoundary laterBoundary isCarried writable asked recordReply addReply add addIndex close run acceptedOf tagOf identified59F identifiedIn
 page-bounds = record { closes = refl; met = refl; passed = refl; counted = refl; not-counted = refl; closes-50F = refl; met-50F = refl }

@@ -3,7 +3,7 @@ use mathlib.Core.Path.{_≡_, refl}
 use mathlib.Core.List.{List, [], _∷_, _++_}
 use Prim.Native.Nat.{ℕ}
 use lib.ListN.{length, replicate}
-use Rattle.party.specs.Text.{padded, textOf, fourTexts}
+use Rattle.party.specs.Text.{padded, textOf, four}
 use Rattle.party.specs.Party.{said}
 use Rattle.swift_utils.specs.Bytes.{bytes, letter, digit, alphanumeric, signs, legal}
 use Rattle.swift_utils.specs.Checks.{parseSwiftChars, parseAccount}
@@ -86,7 +86,7 @@ pub record IndexRuledOut : Type 0 where
   pub body-refused : lookUp (bytes ":50K:~\n-\n") (index 1 (3 ∷ 0 ∷ 6 ∷ [])) 1 ≡ found (record { at = 0; gave = record { outcome = aRefusal 3 1; body = bytes "~"; next = 7 } })
 
 pub index-ruled-out : IndexRuledOut
-unfolding padded textOf said letter digit alphanumeric signs legal parseSwiftChars parseAccount upto onto starts lines parseLine parseLines parseNameAndAddress fourTexts partyOf accountHead afterHead read nameLines writtenLines joined writtenBody writtenField pieces isLine areNames isGiven endsCr lastEmpty withoutCr lineAt isEnd endsPage runs begins tagIn readField readCase readAt readsFrom entriesIn entriesOf fieldAt fieldsIn lookUp noted anyCr anyBoundary laterBoundary isCarried writable asked recordReply addReply add addIndex run tagOf
+unfolding padded textOf said letter digit alphanumeric signs legal parseSwiftChars parseAccount upto onto starts lines parseLine parseLines parseNameAndAddress four partyOf accountHead afterHead read nameLines writtenLines joined writtenBody writtenField pieces isLine areNames isGiven endsCr lastEmpty withoutCr lineAt isEnd endsPage runs begins tagIn readField readCase readAt readsFrom entriesIn entriesOf fieldAt fieldsIn lookUp noted anyCr anyBoundary laterBoundary isCarried writable asked recordReply addReply add addIndex run tagOf
 index-ruled-out = record {
   positions = refl;
   fields = refl;

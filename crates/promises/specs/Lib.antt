@@ -6,6 +6,7 @@ pub mod Delivered
 pub mod Filing
 pub mod Index
 pub mod Profile
+pub mod Digits
 pub mod OperationsLeaves
 pub mod OperationsReaders
 pub mod OperationsBuffers

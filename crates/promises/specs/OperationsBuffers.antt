@@ -5,9 +5,9 @@ use mathlib.Core.Bool.{true, false}
 use mathlib.Core.List.{List, [], _∷_, _++_}
 use Prim.Native.Nat.{ℕ, _+_, _*_}
 use lib.ListN.{length, getD, drop, replicate}
-use Rattle.party.specs.declared.PartyOption.the-variants.{Field50NoOption, Field50A, Field50F, Field50C, Field59NoOption, Field59A, Field59F}
+use Rattle.party.specs.declared.PartyOption.the-variants.{Field50NoOption, Field50A, Field50C, Field59NoOption, Field59A, Field59F}
 use Rattle.party.specs.Limits.{placeOf, optionAt}
-use Rattle.party.specs.Text.{padded, textOf, fourTexts}
+use Rattle.party.specs.Text.{padded, textOf, four}
 use Rattle.party.specs.Party.{blank, said}
 use Rattle.swift_utils.specs.Bytes.{bytes, letter, digit, alphanumeric, signs, legal}
 use Rattle.swift_utils.specs.Checks.{parseSwiftChars, parseAccount, bicLength, parseBic}
@@ -33,7 +33,7 @@ use Rattle.page_writer.specs.Adding.{anyCr, anyBoundary, laterBoundary, isCarri
 use Rattle.page_writer.specs.Fold.{run}
 use Rattle.flat.specs.Flat.{recordSize, flatTexts, flatten, stored, textAt, isFlat, partyFrom, unflatten}
 use Rattle.yewdome.specs.Interface.{partyRead, partyParse, partyParseWithVariant, partyMeasure, partyPlace, pageRead, pageLookUp, pageBody, pageAdd, pageAddIndex, pageClose, pageAnswers, pageFile}
-use Rattle.promises.specs.Starred.{gives}
+use Rattle.promises.specs.Starred.{gives, gives50F}
 use Rattle.promises.specs.Filing.{of}
 
 pub record WriterOperations : Type 0 where
@@ -46,7 +46,7 @@ pub record WriterOperations : Type 0 where
   -- counts an empty line after 59F's identifier
   pub measure-counts-an-empty-line : measure (said (gives Field59F true (bytes "1") [] (bytes "1/A" ∷ []) .party)) ≡ lengthIs (length (bytes ":59F:/1\n1/A"))
   -- leaves out the numbers of 50F
-  pub measure-leaves-numbers : measure (said (gives Field50F true (bytes "X") [] (bytes "A" ∷ []) .party)) ≡ lengthIs (length (bytes ":50F:X\n1/A"))
+  pub measure-leaves-numbers : measure (said (gives50F (bytes "X") (bytes "A" ∷ []) (bytes "1") .party)) ≡ lengthIs (length (bytes ":50F:X\n1/A"))
   -- refuses with 24 the longest field that there is
   pub measure-refuses-with-24 : measure (said longest) ≡ lengthIs fieldMost
   -- gives a length for a record that no reader gives
@@ -63,7 +63,7 @@ pub record WriterOperations : Type 0 where
   pub put-text-writes-on : placed (bytes "abcd") 1 (bytes "AB") ≡ bytes "aABd"
 
 pub writer-operations : WriterOperations
-unfolding padded textOf said letter digit alphanumeric signs legal parseSwiftChars parseAccount upto starts isNumbered secondSlash identifierReply parseLine parseLines parseNameAndAddress fourTexts partyOf nameLines writtenLines joined writtenBody writtenField isLine areNames isGiven measure place tagOf
+unfolding padded textOf said letter digit alphanumeric signs legal parseSwiftChars parseAccount upto starts isNumbered secondSlash identifierReply parseLine parseLines parseNameAndAddress four partyOf nameLines writtenLines joined writtenBody writtenField isLine areNames isGiven measure place tagOf
 writer-operations = record {
   tag-length-counts-a-letter = refl;
   tag-length-leaves-the-colon = refl;
@@ -116,17 +116,17 @@ pub record FlatOperations : Type 0 where
   pub store-shifts-the-bic : getD (stored (gives Field50C false [] (bytes "ABCDEFGH") [] .party) (replicate recordSize 0)) 42 0 ≡ 8
   -- stores as much of a record as there is space for
   pub store-gives-a-part : stored blank (bytes "abc") ≡ bytes "abc"
-  -- takes 237 bytes and no more
-  pub load-refuses-238 : unflatten (flatA ++ 7 ∷ []) ≡ of (bytes "A" ∷ [])
+  -- takes 241 bytes and no more
+  pub load-refuses-242 : unflatten (flatA ++ 7 ∷ []) ≡ of (bytes "A" ∷ [])
   -- takes a place that no option has
   pub load-takes-place-11 : unflatten (11 ∷ replicate recordSize 0) ≡ blank
 
 pub flat-operations : FlatOperations
-unfolding padded textOf fourTexts partyOf flatTexts flatten stored optionAt textAt isFlat partyFrom unflatten
+unfolding padded textOf four partyOf flatTexts flatten stored optionAt textAt isFlat partyFrom unflatten
 flat-operations = record {
   store-shifts-the-bic = refl;
   store-gives-a-part = refl;
-  load-refuses-238 = refl;
+  load-refuses-242 = refl;
   load-takes-place-11 = refl;
 }
 
@@ -151,16 +151,16 @@ pub record YewdomeOperations : Type 0 where
   pub party-measure-counts-the-end : partyMeasure flatA ≡ 6
   -- gives a length for a record that no reader gives
   pub party-measure-takes-all : partyMeasure (replicate recordSize 0) ≡ 22 * 65536
-  -- refuses a lent record of over 237 bytes
-  pub party-measure-refuses-238 : partyMeasure (flatA ++ 7 ∷ []) ≡ 6
+  -- refuses a lent record of over 241 bytes
+  pub party-measure-refuses-242 : partyMeasure (flatA ++ 7 ∷ []) ≡ 6
   -- tests 41 before 42
   pub party-measure-tests-the-option-first : partyMeasure (11 ∷ []) ≡ 42 * 65536
   -- measures by the first option where there is none
   pub party-measure-takes-11 : partyMeasure (11 ∷ replicate recordSize 0) ≡ 41 * 65536
   -- tests 24 before 22
   pub party-place-tests-space-first : partyPlace (replicate recordSize 0) [] .code ≡ 22 * 65536
-  -- refuses a lent record of over 237 bytes
-  pub party-place-refuses-238 : partyPlace (flatA ++ 7 ∷ []) (replicate 6 0) .code ≡ 6
+  -- refuses a lent record of over 241 bytes
+  pub party-place-refuses-242 : partyPlace (flatA ++ 7 ∷ []) (replicate 6 0) .code ≡ 6
   -- tests 41 before 42
   pub party-place-tests-the-option-first : partyPlace (11 ∷ []) [] .code ≡ 42 * 65536
   -- writes by the first option where there is none
@@ -214,7 +214,7 @@ pub record YewdomeOperations : Type 0 where
   pub page-file-tests-late : pageFile (bytes "-\n") (bytes "ab") [] ≡ record { code = 43 * 65536; bytes = bytes "ab"; answers = [] }
 
 pub yewdome-operations : YewdomeOperations
-unfolding padded textOf said letter digit alphanumeric signs legal parseSwiftChars parseAccount bicLength parseBic upto onto starts lines white trimmedStart keep trimmedEnd trimmed isNumbered secondSlash identifierReply parsePartyIdentifier parseLine parseLines parseNameAndAddress fourTexts partyOf accountHead shortAccountHead afterHead read anyNumbered firstLine lastLine bicLike firstThat pickOf testLine nameLines writtenLines joined writtenBody writtenField pieces isLine areNames isGiven measure place endsCr lastEmpty withoutCr lineAt isEnd endsPage runs begins tagIn readField readAt isCarried writable asked recordReply addReply add noted addIndex close flatTexts flatten stored optionAt textAt isFlat partyFrom unflatten entriesIn entriesOf fieldAt lookUp parse parseWithVariant readCase anyCr anyBoundary laterBoundary bodyPlace tagOf run readsFrom
+unfolding padded textOf said letter digit alphanumeric signs legal parseSwiftChars parseAccount bicLength parseBic upto onto starts lines white trimmedStart keep trimmedEnd trimmed isNumbered secondSlash identifierReply parsePartyIdentifier parseLine parseLines parseNameAndAddress four partyOf accountHead shortAccountHead afterHead read anyNumbered firstLine lastLine bicLike firstThat pickOf testLine nameLines writtenLines joined writtenBody writtenField pieces isLine areNames isGiven measure place endsCr lastEmpty withoutCr lineAt isEnd endsPage runs begins tagIn readField readAt isCarried writable asked recordReply addReply add noted addIndex close flatTexts flatten stored optionAt textAt isFlat partyFrom unflatten entriesIn entriesOf fieldAt lookUp parse parseWithVariant readCase anyCr anyBoundary laterBoundary bodyPlace tagOf run readsFrom
 yewdome-operations = record {
   party-read-drops-the-line = refl;
   party-read-takes-11 = refl;
@@ -224,11 +224,11 @@ yewdome-operations = record {
   party-parse-with-variant-detects = refl;
   party-measure-counts-the-end = refl;
   party-measure-takes-all = refl;
-  party-measure-refuses-238 = refl;
+  party-measure-refuses-242 = refl;
   party-measure-tests-the-option-first = refl;
   party-measure-takes-11 = refl;
   party-place-tests-space-first = refl;
-  party-place-refuses-238 = refl;
+  party-place-refuses-242 = refl;
   party-place-tests-the-option-first = refl;
   party-place-takes-11 = refl;
   party-place-gives-0 = refl;

@@ -40,6 +40,7 @@ withBic bic = record {
   bic = textOf bic;
   count = 0;
   «name_and_address» = textOf [] ∷ textOf [] ∷ textOf [] ∷ textOf [] ∷ [];
+  digits = 0 ∷ 0 ∷ 0 ∷ 0 ∷ [];
 }
 
 pub record PartyOperations : Type 0 where
@@ -57,8 +58,9 @@ pub record PartyOperations : Type 0 where
   pub option-at-gives-the-last : optionAt 11 ≡ Field50NoOption
   -- takes any digits in 59F
   pub limits-of-leaves-59F : limitsOf Field59F .numbering ≡ InTurn
-  -- promises nothing: but a record of three names, or with a text of 37 bytes, does not have what it promises
+  -- promises nothing: but a record of three names or digits, or with a text of 37 bytes, does not have what it promises
   pub sized-takes-three : (p : Party) → length (p .«name_and_address») ≡ 3 → IsParty p → ⊥
+  pub sized-takes-three-digits : (p : Party) → length (p .digits) ≡ 3 → IsParty p → ⊥
   pub sized-takes-37 : (p : Party) → length (p .account .bytes) ≡ 37 → IsParty p → ⊥
   -- gives the length of the slice, though only 38 bytes are kept
   pub text-of-counts-all : textOf (replicate 40 65) .len ≡ 38
@@ -82,6 +84,7 @@ party-operations = record {
   option-at-gives-the-last = refl;
   limits-of-leaves-59F = refl;
   sized-takes-three = λ p e h. let z : _≡_ {A = ℕ} 3 4 = sym e ∙ h .size in omega arith;
+  sized-takes-three-digits = λ p e h. let z : _≡_ {A = ℕ} 3 4 = sym e ∙ h .digits in omega arith;
   sized-takes-37 = λ p e h. let z : _≡_ {A = ℕ} 37 38 = sym e ∙ h .account .size in omega arith;
   text-of-counts-all = refl;
   text-of-fills = refl;
@@ -183,7 +186,7 @@ pub record FieldUtilsOperations : Type 0 where
   pub skip-of-leaves-the-slash : skipOf Numbered ≡ 2
   -- counts a number where there is none
   pub skip-of-counts-none : skipOf Unnumbered ≡ 0
-  -- keeps 50F's digits
+  -- keeps 50F's digits in the text
   pub kept-from-keeps-50F : keptFrom Numbered ≡ 2
   -- leaves 59F's digits out
   pub kept-from-leaves-59F : keptFrom InTurn ≡ 0

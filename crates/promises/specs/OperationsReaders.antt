@@ -11,7 +11,7 @@ use Rattle.errors.specs.declared.Outcome.the-variants.{Refused}
 use Rattle.errors.specs.Refusals.{Reply, accepted, refused}
 use Rattle.party.specs.declared.PartyOption.{PartyOption}
 use Rattle.party.specs.declared.PartyOption.the-variants.{Field50NoOption, Field50A, Field50F, Field50K, Field50C, Field50L, Field50G, Field50H, Field59NoOption, Field59A, Field59F}
-use Rattle.party.specs.Text.{padded, textOf, fourTexts}
+use Rattle.party.specs.Text.{padded, textOf, four}
 use Rattle.party.specs.Party.{blank}
 use Rattle.party.specs.declared.First.the-variants.{ShortAccount, AnyAccount}
 use Rattle.party.specs.Limits.{limitsOf}
@@ -129,7 +129,7 @@ pub record Parses (o : PartyOption) : Type 0 where
   pub over : read o (bodyWith o (suc (mostOf o))) .reply ≡ overOf o
 
 pub parses : (o : PartyOption) → Parses o
-unfolding padded textOf letter digit alphanumeric signs legal parseSwiftChars parseAccount bicLength parseBic upto onto starts lines isNumbered secondSlash identifierReply parsePartyIdentifier parseLine parseLines parseNameAndAddress fourTexts partyOf accountHead shortAccountHead afterHead read
+unfolding padded textOf letter digit alphanumeric signs legal parseSwiftChars parseAccount bicLength parseBic upto onto starts lines isNumbered secondSlash identifierReply parsePartyIdentifier parseLine parseLines parseNameAndAddress four partyOf accountHead shortAccountHead afterHead read
 parses Field50NoOption = record { another = (refl, refl); short = refl; over = refl }
 parses Field50A = record { another = (refl, refl); short = refl; over = refl }
 parses Field50F = record { another = (refl, refl); short = refl; over = refl }
@@ -168,7 +168,7 @@ pub record ChoicesOperations : Type 0 where
   pub first-numbered-stays : holds FirstNumbered (lines (bytes "/A")) ≡ false
 
 pub choices-operations : ChoicesOperations
-unfolding padded textOf letter digit alphanumeric signs legal parseSwiftChars parseAccount bicLength parseBic upto onto starts lines white trimmedStart keep trimmedEnd trimmed isNumbered secondSlash identifierReply parsePartyIdentifier fourTexts partyOf afterHead read anyNumbered firstLine lastLine bicLike testLine firstThat pickOf parse parseWithVariant
+unfolding padded textOf letter digit alphanumeric signs legal parseSwiftChars parseAccount bicLength parseBic upto onto starts lines white trimmedStart keep trimmedEnd trimmed isNumbered secondSlash identifierReply parsePartyIdentifier four partyOf afterHead read anyNumbered firstLine lastLine bicLike testLine firstThat pickOf parse parseWithVariant
 choices-operations = record {
   parse-tries-the-third-first = (refl, refl);
   parse-tests-the-tried = refl;
@@ -225,7 +225,7 @@ pub record Field59Operations : Type 0 where
   pub debtor-by-f-picks : As (parseWithVariant Field59Debtor (bytes "1/A") 70) Field59NoOption
 
 pub field50-operations : Field50Operations
-unfolding padded textOf letter digit alphanumeric signs legal parseSwiftChars parseAccount bicLength parseBic upto onto starts lines white trimmedStart keep trimmedEnd trimmed isNumbered secondSlash identifierReply parsePartyIdentifier parseLine parseLines parseNameAndAddress fourTexts partyOf accountHead shortAccountHead afterHead read anyNumbered firstLine lastLine bicLike firstThat pickOf parse parseWithVariant
+unfolding padded textOf letter digit alphanumeric signs legal parseSwiftChars parseAccount bicLength parseBic upto onto starts lines white trimmedStart keep trimmedEnd trimmed isNumbered secondSlash identifierReply parsePartyIdentifier parseLine parseLines parseNameAndAddress four partyOf accountHead shortAccountHead afterHead read anyNumbered firstLine lastLine bicLike firstThat pickOf parse parseWithVariant
 field50-operations = record {
   instructing-party-leaves-spaces = (refl, refl);
   instructing-party-by-c-trims = refl;
@@ -243,7 +243,7 @@ field50-operations = record {
 }
 
 pub field59-operations : Field59Operations
-unfolding padded textOf letter digit alphanumeric signs legal parseSwiftChars parseAccount bicLength parseBic upto onto starts lines isNumbered parseLine parseLines parseNameAndAddress fourTexts partyOf accountHead shortAccountHead afterHead read firstLine firstThat pickOf testLine parse parseWithVariant
+unfolding padded textOf letter digit alphanumeric signs legal parseSwiftChars parseAccount bicLength parseBic upto onto starts lines isNumbered parseLine parseLines parseNameAndAddress four partyOf accountHead shortAccountHead afterHead read firstLine firstThat pickOf testLine parse parseWithVariant
 field59-operations = record {
   field59-by-k-refuses = (refl, refl);
   debtor-takes-f = (refl, refl);

@@ -6,7 +6,7 @@ use Prim.Native.Nat.{ℕ, zero, suc, _≤_, _<_}
 use lib.ListN.{length, drop}
 use borrow.Author.Tests.{le-leb, lt-leb}
 use Rattle.party.specs.declared.PartyOption.the-variants.{Field50K}
-use Rattle.party.specs.Text.{padded, textOf, fourTexts}
+use Rattle.party.specs.Text.{padded, textOf, four}
 use Rattle.swift_utils.specs.Bytes.{bytes, letter, digit, alphanumeric, signs, legal}
 use Rattle.swift_utils.specs.Checks.{parseSwiftChars, parseAccount, bicLength, parseBic}
 use Rattle.field_utils.specs.Lines.{upto, onto, starts, lines, withoutCr}
@@ -53,7 +53,7 @@ pub record PageExamples : Type 0 where
   pub unknown : reads 2 (bytes ":50B:A\n:50K:B\n-\n") 0 ≡ refuses 15 7 ∷ named (bytes "B") 14 ∷ []
 
 pub page-examples : PageExamples
-unfolding padded textOf letter digit alphanumeric signs legal parseSwiftChars parseAccount upto onto starts lines parseLine parseLines parseNameAndAddress fourTexts partyOf accountHead afterHead read withoutCr lineAt isEnd endsPage runs begins tagIn readField readCase readAt tagOf
+unfolding padded textOf letter digit alphanumeric signs legal parseSwiftChars parseAccount upto onto starts lines parseLine parseLines parseNameAndAddress four partyOf accountHead afterHead read withoutCr lineAt isEnd endsPage runs begins tagIn readField readCase readAt tagOf
 page-examples = record {
   one = refl;
   open-end = refl;
@@ -97,5 +97,5 @@ pub record PagesRuledOut : Type 0 where
   pub sixteen : readAt (bytes "X\n-\n") 0 ≡ refuses 16 2
 
 pub pages-ruled-out : PagesRuledOut
-unfolding padded textOf letter digit alphanumeric signs legal parseSwiftChars parseAccount bicLength parseBic upto onto starts lines parseLine parseLines parseNameAndAddress fourTexts partyOf accountHead afterHead read withoutCr lineAt isEnd endsPage runs begins tagIn readField readCase readAt tagOf
+unfolding padded textOf letter digit alphanumeric signs legal parseSwiftChars parseAccount bicLength parseBic upto onto starts lines parseLine parseLines parseNameAndAddress four partyOf accountHead afterHead read withoutCr lineAt isEnd endsPage runs begins tagIn readField readCase readAt tagOf
 pages-ruled-out = record { not-ended = refl; next-short = refl; hyphen = refl; closing-lf = refl; sixteen = refl }

@@ -8,7 +8,7 @@ use lib.ListN.{getD, replicate}
 use Rattle.errors.specs.Refusals.{Reply, accepted, refused}
 use Rattle.party.specs.declared.PartyOption.the-variants.{Field50NoOption, Field50A, Field50F, Field50K, Field50C, Field50G, Field59A, Field59F}
 use Rattle.party.specs.Limits.{placeOf, optionAt}
-use Rattle.party.specs.Text.{padded, textOf, fourTexts}
+use Rattle.party.specs.Text.{padded, textOf, four}
 use Rattle.party.specs.Party.{said}
 use Rattle.swift_utils.specs.Bytes.{bytes, letter, small, digit, alphanumeric, signs, legal, narrowSigns, narrow}
 use Rattle.swift_utils.specs.Checks.{parseSwiftChars, parseAccount, bicLength, parseBic}
@@ -28,7 +28,7 @@ use Rattle.writer.specs.Given.{isLine, areNames, isGiven}
 use Rattle.writer.specs.ReadBack.{endsCr, lastEmpty}
 use Rattle.page_reader.specs.Pages.{isEnd, endsPage}
 use Rattle.page_writer.specs.Adding.{anyCr, anyBoundary, laterBoundary, isCarried, asked, recordReply}
-use Rattle.flat.specs.Flat.{flatTexts, flatten, stored}
+use Rattle.flat.specs.Flat.{recordSize, flatTexts, flatten, stored}
 use Rattle.yewdome.specs.Interface.{profileRead, profileParse, profileParseWithVariant}
 use Rattle.promises.specs.Starred.{gives}
 use Rattle.promises.specs.RuledOut.{As}
@@ -71,7 +71,7 @@ pub record ProfileRules : Type 0 where
   pub passes : readProfiled Field50A (bytes "/1\nDEUTDEFF") ≡ gives Field50A true (bytes "1") (bytes "DEUTDEFF") []
 
 pub profile-rules : ProfileRules
-unfolding padded textOf letter small digit alphanumeric signs legal narrowSigns narrow parseSwiftChars parseAccount bicLength parseBic upto onto starts lines white trimmedStart keep trimmedEnd trimmed isNumbered secondSlash identifierReply parsePartyIdentifier parseLine parseLines parseNameAndAddress fourTexts partyOf accountHead shortAccountHead afterHead read anyNumbered firstLine lastLine bicLike firstThat pickOf testLine parse parseWithVariant isSame holdsBic isInside linesReply profileReply profiled
+unfolding padded textOf letter small digit alphanumeric signs legal narrowSigns narrow parseSwiftChars parseAccount bicLength parseBic upto onto starts lines white trimmedStart keep trimmedEnd trimmed isNumbered secondSlash identifierReply parsePartyIdentifier parseLine parseLines parseNameAndAddress four partyOf accountHead shortAccountHead afterHead read anyNumbered firstLine lastLine bicLike firstThat pickOf testLine parse parseWithVariant isSame holdsBic isInside linesReply profileReply profiled
 profile-rules = record {
   set-first = refl;
   set-later = refl;
@@ -135,11 +135,11 @@ pub record ProfileRuledOut : Type 0 where
   pub by-form : As (readProfiled Field50K (bytes "johndoes\nSTREETAB")) Field50K
 
 pub profile-trimmed : ProfileTrimmed
-unfolding padded textOf letter small digit alphanumeric signs legal narrowSigns narrow parseSwiftChars parseAccount bicLength parseBic upto onto starts lines white trimmedStart keep trimmedEnd trimmed isNumbered parseLine parseLines parseNameAndAddress fourTexts partyOf read anyNumbered firstLine lastLine bicLike firstThat pickOf testLine parse parseWithVariant isSame holdsBic isInside linesReply profileReply profiled
+unfolding padded textOf letter small digit alphanumeric signs legal narrowSigns narrow parseSwiftChars parseAccount bicLength parseBic upto onto starts lines white trimmedStart keep trimmedEnd trimmed isNumbered parseLine parseLines parseNameAndAddress four partyOf read anyNumbered firstLine lastLine bicLike firstThat pickOf testLine parse parseWithVariant isSame holdsBic isInside linesReply profileReply profiled
 profile-trimmed = record { before = (refl, refl); after = refl; tab = refl; cr = refl; empty = refl; last = (refl, refl); capitals = refl }
 
 pub profile-ruled-out : ProfileRuledOut
-unfolding padded textOf letter small digit alphanumeric signs legal narrowSigns narrow parseSwiftChars parseAccount bicLength parseBic upto onto starts lines white trimmedStart keep trimmedEnd trimmed isNumbered secondSlash identifierReply parsePartyIdentifier parseLine parseLines parseNameAndAddress fourTexts partyOf accountHead shortAccountHead afterHead read anyNumbered firstLine lastLine bicLike firstThat pickOf testLine parse parseWithVariant isSame holdsBic isInside linesReply profileReply profiled
+unfolding padded textOf letter small digit alphanumeric signs legal narrowSigns narrow parseSwiftChars parseAccount bicLength parseBic upto onto starts lines white trimmedStart keep trimmedEnd trimmed isNumbered secondSlash identifierReply parsePartyIdentifier parseLine parseLines parseNameAndAddress four partyOf accountHead shortAccountHead afterHead read anyNumbered firstLine lastLine bicLike firstThat pickOf testLine parse parseWithVariant isSame holdsBic isInside linesReply profileReply profiled
 profile-ruled-out = record {
   trimmed-body = refl;
   trimmed-passes = refl;
@@ -171,13 +171,13 @@ pub record ProfileNeeded : Type 0 where
   pub hyphen : filed (read Field50K (bytes "A\n-")) ≡ refused 23 0
 
 pub profile-needed : ProfileNeeded
-unfolding padded textOf said letter small digit alphanumeric signs legal narrowSigns narrow parseSwiftChars parseAccount upto onto starts lines withoutCr isNumbered secondSlash identifierReply parsePartyIdentifier parseLine parseLines parseNameAndAddress fourTexts partyOf accountHead afterHead read holdsBic isInside linesReply profileReply profiled nameLines writtenLines joined writtenBody writtenField pieces isLine areNames isGiven endsCr lastEmpty isEnd endsPage anyCr anyBoundary laterBoundary isCarried asked recordReply tagOf
+unfolding padded textOf said letter small digit alphanumeric signs legal narrowSigns narrow parseSwiftChars parseAccount upto onto starts lines withoutCr isNumbered secondSlash identifierReply parsePartyIdentifier parseLine parseLines parseNameAndAddress four partyOf accountHead afterHead read holdsBic isInside linesReply profileReply profiled nameLines writtenLines joined writtenBody writtenField pieces isLine areNames isGiven endsCr lastEmpty isEnd endsPage anyCr anyBoundary laterBoundary isCarried asked recordReply tagOf
 profile-needed = record { taken-59F = (refl, refl); filed-59F = refl; bare-59F = refl; cr = refl; empty = refl; colon = refl; hyphen = refl }
 
 -- ---- for C
 -- a lent record
 abbrev lent : List ℕ
-lent = replicate 237 7
+lent = replicate recordSize 7
 
 pub record ProfileCalls : Type 0 where
   -- gives 32 without its line
@@ -194,7 +194,7 @@ pub record ProfileCalls : Type 0 where
   pub variant-detects : getD (profileParseWithVariant 2 (bytes "JOHNDOES\nSTREETAB") 75 lent .bytes) 0 0 ≡ placeOf Field50K
 
 pub profile-calls : ProfileCalls
-unfolding padded textOf letter small digit alphanumeric signs legal narrowSigns narrow parseSwiftChars parseAccount bicLength parseBic upto onto starts lines white trimmedStart keep trimmedEnd trimmed isNumbered secondSlash identifierReply parsePartyIdentifier parseLine parseLines parseNameAndAddress fourTexts partyOf accountHead shortAccountHead afterHead read anyNumbered firstLine lastLine bicLike firstThat pickOf testLine parse parseWithVariant isSame holdsBic isInside linesReply profileReply profiled optionAt flatTexts flatten stored
+unfolding padded textOf letter small digit alphanumeric signs legal narrowSigns narrow parseSwiftChars parseAccount bicLength parseBic upto onto starts lines white trimmedStart keep trimmedEnd trimmed isNumbered secondSlash identifierReply parsePartyIdentifier parseLine parseLines parseNameAndAddress four partyOf accountHead shortAccountHead afterHead read anyNumbered firstLine lastLine bicLike firstThat pickOf testLine parse parseWithVariant isSame holdsBic isInside linesReply profileReply profiled optionAt flatTexts flatten stored
 profile-calls = record {
   read-drops-the-line = refl;
   read-stores = refl;

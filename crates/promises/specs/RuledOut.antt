@@ -8,7 +8,7 @@ use lib.ListN.{getD, replicate}
 use Rattle.errors.specs.Refusals.{accepted, refused}
 use Rattle.party.specs.declared.PartyOption.{PartyOption}
 use Rattle.party.specs.declared.PartyOption.the-variants.{Field50NoOption, Field50A, Field50F, Field50K, Field50C, Field50L, Field50G, Field50H, Field59NoOption, Field59A, Field59F}
-use Rattle.party.specs.Text.{padded, textOf, fourTexts, Used}
+use Rattle.party.specs.Text.{padded, textOf, four, Used}
 use Rattle.party.specs.Party.{Said, said, Same}
 use Rattle.swift_utils.specs.Bytes.{bytes, letter, digit, alphanumeric, signs, legal}
 use Rattle.swift_utils.specs.Checks.{parseSwiftChars, parseAccount, bicLength, parseBic}
@@ -62,7 +62,7 @@ shown o i a b x y = record {
 }
 
 pub reads : (o : PartyOption) → Reads o
-unfolding padded textOf said letter digit alphanumeric signs legal parseSwiftChars parseAccount bicLength parseBic upto onto starts lines white trimmedStart keep trimmedEnd trimmed isNumbered secondSlash identifierReply parsePartyIdentifier parseLine parseLines parseNameAndAddress fourTexts partyOf accountHead shortAccountHead afterHead read
+unfolding padded textOf said letter digit alphanumeric signs legal parseSwiftChars parseAccount bicLength parseBic upto onto starts lines white trimmedStart keep trimmedEnd trimmed isNumbered secondSlash identifierReply parsePartyIdentifier parseLine parseLines parseNameAndAddress four partyOf accountHead shortAccountHead afterHead read
 reads Field50NoOption = shown Field50NoOption 0 refl refl refl refl
 reads Field50A = shown Field50A 0 refl refl refl refl
 reads Field50F = shown Field50F 0 refl refl refl refl
@@ -99,7 +99,7 @@ pub record RuledOut : Type 0 where
   pub no-letter : As (parseWithVariant Field59 (bytes "ABCDEFGH") 0) Field59NoOption
 
 pub ruled-out : RuledOut
-unfolding padded textOf said letter digit alphanumeric signs legal parseSwiftChars parseAccount bicLength parseBic upto onto starts lines white trimmedStart keep trimmedEnd trimmed isNumbered secondSlash identifierReply parsePartyIdentifier parseLine parseLines parseNameAndAddress fourTexts partyOf accountHead shortAccountHead afterHead read anyNumbered firstLine lastLine bicLike firstThat pickOf testLine parse parseWithVariant
+unfolding padded textOf said letter digit alphanumeric signs legal parseSwiftChars parseAccount bicLength parseBic upto onto starts lines white trimmedStart keep trimmedEnd trimmed isNumbered secondSlash identifierReply parsePartyIdentifier parseLine parseLines parseNameAndAddress four partyOf accountHead shortAccountHead afterHead read anyNumbered firstLine lastLine bicLike firstThat pickOf testLine parse parseWithVariant
 ruled-out = record {
   tested-first = refl;
   one-cr = refl;

@@ -7,7 +7,7 @@ use lib.ListN.{drop}
 use Rattle.errors.specs.Refusals.{Reply, accepted, refused}
 use Rattle.party.specs.declared.PartyOption.{PartyOption}
 use Rattle.party.specs.declared.PartyOption.the-variants.{Field50NoOption, Field50A, Field50F, Field50K, Field50C, Field50G, Field50H, Field59F}
-use Rattle.party.specs.Text.{padded, textOf, fourTexts}
+use Rattle.party.specs.Text.{padded, textOf, four}
 use Rattle.party.specs.Party.{said}
 use Rattle.swift_utils.specs.Bytes.{bytes, letter, digit, alphanumeric, signs, legal}
 use Rattle.swift_utils.specs.Checks.{parseSwiftChars, parseAccount, bicLength, parseBic}
@@ -41,12 +41,19 @@ fieldOf r = writtenField (said (r .party))
 abbrev pub filingOf : Reading → Reply
 filingOf r = recordReply 100 0 true (said (r .party))
 
--- accepted, with the record of these texts
-abbrev pub gives : PartyOption → Bool → List ℕ → List ℕ → List (List ℕ) → Reading
-gives o present account bic names = record {
+-- accepted, with the record of these texts and digits
+abbrev givesWith : List ℕ → PartyOption → Bool → List ℕ → List ℕ → List (List ℕ) → Reading
+givesWith digits o present account bic names = record {
   reply = accepted;
-  party = partyOf o (record { reply = accepted; present = present; account = account; bic = bic; names = names });
+  party = partyOf o (record { reply = accepted; present = present; account = account; bic = bic; names = names; digits = digits });
 }
+
+-- of an option without digits, and of 50F
+abbrev pub gives : PartyOption → Bool → List ℕ → List ℕ → List (List ℕ) → Reading
+gives = givesWith []
+
+abbrev pub gives50F : List ℕ → List (List ℕ) → List ℕ → Reading
+gives50F account names digits = givesWith digits Field50F true account [] names
 
 abbrev pub starred : List Case
 starred =
@@ -60,9 +67,11 @@ starred =
     ∷ reads (read Field59F (drop 5 (fieldOf (read Field59F (bytes "/1\n1/A"))))) (read Field59F (bytes "/1\n1/A"))
     ∷ files (filingOf (read Field59F (bytes "/1\n1/A"))) accepted
     ∷ reads (read Field59F (bytes "/1\n\n1/A")) (refusing 5 2)
-    -- 50F `X⏎7/A⏎7/B`: its digits are not kept; writes `:50F:X⏎1/A⏎2/B`
-    ∷ reads (read Field50F (bytes "X\n7/A\n7/B")) (gives Field50F true (bytes "X") [] (bytes "A" ∷ bytes "B" ∷ []))
-    ∷ writes (fieldOf (read Field50F (bytes "X\n7/A\n7/B"))) (bytes ":50F:X\n1/A\n2/B")
+    -- 50F `X⏎7/A⏎7/B`: its digits are kept; writes its two sevens (document 02, Seven), reads back, and a page takes it
+    ∷ reads (read Field50F (bytes "X\n7/A\n7/B")) (gives50F (bytes "X") (bytes "A" ∷ bytes "B" ∷ []) (bytes "77"))
+    ∷ writes (fieldOf (read Field50F (bytes "X\n7/A\n7/B"))) (bytes ":50F:X\n7/A\n7/B")
+    ∷ reads (read Field50F (drop 5 (fieldOf (read Field50F (bytes "X\n7/A\n7/B"))))) (read Field50F (bytes "X\n7/A\n7/B"))
+    ∷ files (filingOf (read Field50F (bytes "X\n7/A\n7/B"))) accepted
     -- 59F `2/A`: 6, line 1
     ∷ reads (read Field59F (bytes "2/A")) (refusing 6 1)
     -- AFK detected, `JOHNDOES⏎STREETAB`: 50A, BIC JOHNDOES
@@ -90,5 +99,5 @@ Hold [] = Unit {0}
 Hold (c ∷ cs) = Holds c × Hold cs
 
 pub starred-hold : Hold starred
-unfolding padded textOf letter digit alphanumeric signs legal parseSwiftChars parseAccount bicLength parseBic upto onto starts lines white trimmedStart keep trimmedEnd trimmed isNumbered secondSlash identifierReply parsePartyIdentifier parseLine parseLines parseNameAndAddress fourTexts partyOf accountHead shortAccountHead afterHead read anyNumbered firstLine lastLine bicLike firstThat said nameLines writtenLines joined writtenBody writtenField isLine areNames isGiven pieces endsCr lastEmpty withoutCr isEnd endsPage isCarried asked recordReply parse anyCr anyBoundary laterBoundary tagOf
-starred-hold = (refl, (refl, (refl, (refl, (refl, (refl, (refl, (refl, (refl, (refl, (refl, (refl, (refl, (refl, (refl, (refl, (refl, (refl, tt))))))))))))))))))
+unfolding padded textOf letter digit alphanumeric signs legal parseSwiftChars parseAccount bicLength parseBic upto onto starts lines white trimmedStart keep trimmedEnd trimmed isNumbered secondSlash identifierReply parsePartyIdentifier parseLine parseLines parseNameAndAddress four partyOf accountHead shortAccountHead afterHead read anyNumbered firstLine lastLine bicLike firstThat said nameLines writtenLines joined writtenBody writtenField isLine areNames isGiven pieces endsCr lastEmpty withoutCr isEnd endsPage isCarried asked recordReply parse anyCr anyBoundary laterBoundary tagOf
+starred-hold = (refl, (refl, (refl, (refl, (refl, (refl, (refl, (refl, (refl, (refl, (refl, (refl, (refl, (refl, (refl, (refl, (refl, (refl, (refl, (refl, tt))))))))))))))))))))

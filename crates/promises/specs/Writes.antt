@@ -80,6 +80,7 @@ named first fourth = record {
   bic = textOf [];
   count = 1;
   «name_and_address» = first ∷ textOf [] ∷ textOf [] ∷ fourth ∷ [];
+  digits = 0 ∷ 0 ∷ 0 ∷ 0 ∷ [];
 }
 
 pub record Edges : Type 0 where

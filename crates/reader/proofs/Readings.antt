@@ -12,10 +12,10 @@ use Rattle.party.specs.declared.Limits.{Limits}
 use Rattle.party.specs.declared.Text.{Text}
 use Rattle.party.specs.declared.Party.{Party}
 use Rattle.party.specs.Limits.{limitsOf}
-use Rattle.party.specs.Text.{textOf, fourTexts}
+use Rattle.party.specs.Text.{textOf, four}
 use Rattle.party.specs.Party.{blank}
 use Rattle.swift_utils.specs.Bytes.{among}
-use Rattle.field_utils.specs.Names.{parseNameAndAddress, kept, NamesRead, namesOr, readNames}
+use Rattle.field_utils.specs.Names.{parseNameAndAddress, kept, digitOf, NamesRead, namesOr, readNames}
 use Rattle.reader.specs.declared.Answer.{Answer}
 use Rattle.reader.specs.Reading.{Reading, giving, toldAnswer, Found, partyOf}
 use Rattle.reader.specs.Options.{Head, accountReply, withNames, withBic, afterHead, textOnly}
@@ -34,31 +34,31 @@ module _ (o : PartyOption) (f : Found) {r : Answer} where
 -- a record without names
 pub party-nameless : (o : PartyOption) (present : Bool) (account bic : List ℕ) {t u : Text} {p : Party} → t ≡ textOf account → u ≡ textOf bic → p ≡ blank
     → _≡_ {A = Party}
-    (record { option = o; present = present; account = t; bic = u; count = 0; «name_and_address» = p .«name_and_address» })
+    (record { option = o; present = present; account = t; bic = u; count = 0; «name_and_address» = p .«name_and_address»; digits = p .digits })
     (partyOf o (nameless present account bic))
-unfolding partyOf fourTexts
+unfolding partyOf four
 party-nameless o present account bic e f g =
-    λ i. record { option = o; present = present; account = e i; bic = f i; count = 0; «name_and_address» = g i .«name_and_address» }
+    λ i. record { option = o; present = present; account = e i; bic = f i; count = 0; «name_and_address» = g i .«name_and_address»; digits = g i .digits }
 
 -- what the names give, by their reply
-names-or : (r : Reply) (ns : List (List ℕ)) → namesOr r ns .reply ≡ r
-names-or accepted ns = refl
-names-or (refused k n) ns = refl
+names-or : (r : Reply) (ns : List (List ℕ)) (ds : List ℕ) → namesOr r ns ds .reply ≡ r
+names-or accepted ns ds = refl
+names-or (refused k n) ns ds = refl
 
 pub names-reply : (o : PartyOption) (n : ℕ) (ls : List (List ℕ)) → readNames o n ls .reply ≡ parseNameAndAddress o n ls
 unfolding readNames
-names-reply o n ls = names-or (parseNameAndAddress o n ls) (map (kept (limitsOf o .numbering)) ls)
+names-reply o n ls = names-or (parseNameAndAddress o n ls) (map (kept (limitsOf o .numbering)) ls) (map (digitOf (limitsOf o .numbering)) ls)
 
 -- a record with names
 pub party-named : (o : PartyOption) (n : ℕ) (h : Head) (ls : List (List ℕ)) {t u : Text} {w : NamesRead} → parseNameAndAddress o n ls ≡ accepted
     → t ≡ textOf (h .text) → u ≡ textOf [] → w ≡ readNames o n ls
     → _≡_ {A = Party}
-    (record { option = o; present = h .present; account = t; bic = u; count = w .count; «name_and_address» = w .texts })
+    (record { option = o; present = h .present; account = t; bic = u; count = w .count; «name_and_address» = w .texts; digits = w .digits })
     (partyOf o (withNames o n h ls))
 unfolding partyOf readNames
 party-named o n h ls passed e f d =
-    let all = d ∙ ap (λ (r : Reply). namesOr r (map (kept (limitsOf o .numbering)) ls)) passed in
-    λ i. record { option = o; present = h .present; account = e i; bic = f i; count = all i .count; «name_and_address» = all i .texts }
+    let all = d ∙ ap (λ (r : Reply). namesOr r (map (kept (limitsOf o .numbering)) ls) (map (digitOf (limitsOf o .numbering)) ls)) passed in
+    λ i. record { option = o; present = h .present; account = e i; bic = f i; count = all i .count; «name_and_address» = all i .texts; digits = all i .digits }
 
 -- a body that is a text, with and without an LF
 pub text-lf : (o : PartyOption) (body : List ℕ) → among body 10 ≡ true → textOnly o body .reply ≡ refused 1 0

@@ -42,7 +42,7 @@ accountBy f o l = elim (hasAccount f o l) [ true ↦ head (drop 1 l) (accountRep
 
 -- what is found where there are no names and the checks passed
 abbrev pub nameless : Bool → List ℕ → List ℕ → Found
-nameless present account bic = record { reply = accepted; present = present; account = account; bic = bic; names = [] }
+nameless present account bic = record { reply = accepted; present = present; account = account; bic = bic; names = []; digits = [] }
 
 -- the reading of what an option finds
 abbrev pub readingOf : PartyOption → Found → Reading

@@ -15,7 +15,7 @@ use Rattle.swift_utils.specs.Bytes.{all, among}
 use Rattle.swift_utils.specs.Checks.{parseLength, parseAccount, parseBic}
 use Rattle.field_utils.specs.Lines.{lines, starts}
 use Rattle.field_utils.specs.Identifier.{Identifier, absent, given, parsePartyIdentifier}
-use Rattle.field_utils.specs.Names.{kept, parseNameAndAddress}
+use Rattle.field_utils.specs.Names.{kept, digitOf, parseNameAndAddress}
 use Rattle.reader.specs.Reading.{Reading, giving, Found, partyOf}
 
 -- what is found of an account or identifier in the first line: whether it is there, its text, and what the checks say of it
@@ -79,12 +79,13 @@ withNames o n h ls = record {
   account = h .text;
   bic = [];
   names = map (kept (limitsOf o .numbering)) ls;
+  digits = map (digitOf (limitsOf o .numbering)) ls;
 }
 
 -- or a BIC; later lines are ignored, and 8 where it is missing
 abbrev pub withBic : ℕ → Head → List (List ℕ) → Found
-withBic n h [] = record { reply = refused 8 0; present = h .present; account = h .text; bic = []; names = [] }
-withBic n h (l ∷ ls) = record { reply = parseBic n l; present = h .present; account = h .text; bic = l; names = [] }
+withBic n h [] = record { reply = refused 8 0; present = h .present; account = h .text; bic = []; names = []; digits = [] }
+withBic n h (l ∷ ls) = record { reply = parseBic n l; present = h .present; account = h .text; bic = l; names = []; digits = [] }
 
 -- the one or the other, by whether the option has names
 unfoldable pub afterHead : PartyOption → ℕ → Head → List (List ℕ) → Found
@@ -92,7 +93,7 @@ afterHead o n h ls = elim (eqb (limitsOf o .names) 0) [ true ↦ withBic n h ls 
 
 -- a check before those of what is found
 abbrev pub after : Reply → Found → Found
-after r f = record { reply = r then f .reply; present = f .present; account = f .account; bic = f .bic; names = f .names }
+after r f = record { reply = r then f .reply; present = f .present; account = f .account; bic = f .bic; names = f .names; digits = f .digits }
 
 -- the head and the lines after it
 abbrev pub fromHead : PartyOption → Head → List (List ℕ) → List (List ℕ) → Found
@@ -111,11 +112,11 @@ byLines o (l ∷ ls) =
 
 -- 50C: the whole body is a BIC
 abbrev pub bicOnly : List ℕ → Found
-bicOnly body = record { reply = parseBic 1 body; present = false; account = []; bic = body; names = [] }
+bicOnly body = record { reply = parseBic 1 body; present = false; account = []; bic = body; names = []; digits = [] }
 
 -- 50L: no LF (1), 1 to 35 bytes, legal
 abbrev pub textOnly : PartyOption → List ℕ → Found
-textOnly o body = record { reply = must (not (among body 10)) 1 0 then accountReply o body; present = true; account = body; bic = []; names = [] }
+textOnly o body = record { reply = must (not (among body 10)) 1 0 then accountReply o body; present = true; account = body; bic = []; names = []; digits = [] }
 
 -- what an option finds in a body
 abbrev pub foundBy : Layout → PartyOption → List ℕ → Found

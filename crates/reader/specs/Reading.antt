@@ -6,7 +6,7 @@ use lib.ListN.{length}
 use Rattle.errors.specs.Refusals.{Reply, accepted, refused, told}
 use Rattle.party.specs.declared.PartyOption.{PartyOption}
 use Rattle.party.specs.declared.Party.{Party}
-use Rattle.party.specs.Text.{textOf, fourTexts}
+use Rattle.party.specs.Text.{textOf, four, fourTexts}
 use Rattle.party.specs.Party.{blank}
 use Rattle.reader.specs.declared.Answer.{Answer}
 
@@ -25,13 +25,14 @@ abbrev pub toldAnswer : Answer → Reading
 toldAnswer a = record { reply = told (a .outcome); party = a .party }
 
 -- what an option finds in a body: what its checks say in their order, whether the body gave an account or identifier, that text, the
--- BIC, and the names; a text that the option has not is empty
+-- BIC, and the names, each with its digit, 0 but in 50F; a text that the option has not is empty
 pub record Found : Type 0 where
   pub reply : Reply
   pub present : Bool
   pub account : List ℕ
   pub bic : List ℕ
   pub names : List (List ℕ)
+  pub digits : List ℕ
 
 -- the record of what an option found
 unfoldable pub partyOf : PartyOption → Found → Party
@@ -42,4 +43,5 @@ partyOf o f = record {
   bic = textOf (f .bic);
   count = length (f .names);
   «name_and_address» = fourTexts (f .names);
+  digits = four 0 (f .digits);
 }

@@ -188,6 +188,7 @@ fn nameless_party(option: PartyOption, present: bool, account: &[u8], bic: &[u8]
         bic: text_of(bic),
         count: 0,
         name_and_address: [NOTHING; 4],
+        digits: [0u8; 4],
     }
 }
 
@@ -208,6 +209,7 @@ fn read_names(
         return refuse(e);
     }
     let texts = names.texts;
+    let digits = names.digits;
     accept(Party {
         option,
         present,
@@ -215,6 +217,7 @@ fn read_names(
         bic: text_of(&body[..0]),
         count: names.count,
         name_and_address: texts,
+        digits,
     })
 }
 

@@ -1,6 +1,7 @@
 // Answers in one form: the Rust's, as the list has them, and ours.
 use crate::asked::NamedOption;
 use crate::asked::option_named;
+use crate::digits::rust_digits;
 use crate::list::Number;
 use crate::list::count_tabs;
 use crate::list::decimal;
@@ -128,6 +129,7 @@ fn given_party(line: &[u8]) -> Given {
                 bic: bic_text,
                 count: count.value,
                 name_and_address: name_texts,
+                digits: rust_digits(option),
             },
         },
     }

@@ -1,4 +1,4 @@
-// What differs between two replies. Of a record every byte counts: those that no text uses are zero.
+// What differs between two replies. Of a record every byte counts: those that no text and no line uses are zero.
 use crate::answer::Reply;
 use crate::answer::Said;
 use errors::Refusal;
@@ -18,6 +18,7 @@ pub enum Difference {
     Account,
     Bic,
     Names,
+    Digits,
     Written,
 }
 
@@ -77,6 +78,11 @@ fn compare_parties(a: Party, b: Party) -> Difference {
     if a.count != b.count || !same_names(names, other_names) {
         return Difference::Names;
     }
+    let digits = a.digits;
+    let other_digits = b.digits;
+    if !same_digits(digits, other_digits) {
+        return Difference::Digits;
+    }
     Difference::Nothing
 }
 
@@ -112,4 +118,8 @@ fn same_names(a: [Text; 4], b: [Text; 4]) -> bool {
         i += 1;
     }
     true
+}
+
+fn same_digits(a: [u8; 4], b: [u8; 4]) -> bool {
+    a[0] == b[0] && a[1] == b[1] && a[2] == b[2] && a[3] == b[3]
 }

@@ -4,6 +4,7 @@
 mod answer;
 mod asked;
 mod compare;
+mod digits;
 mod list;
 mod rules;
 mod tally;
@@ -18,6 +19,8 @@ use asked::ask;
 use asked::question_named;
 use compare::Difference;
 use compare::compare;
+use digits::digits_of;
+use digits::with_digits;
 use libc::STDIN_FILENO;
 use libc::STDOUT_FILENO;
 use list::field;
@@ -58,8 +61,8 @@ fn weigh(question: Question, body: &[u8], rust: Reply, text: &[u8]) -> Verdict {
     let ours = reply_of(ask(question, body));
     let rule = wanted.rule;
     let reply = wanted.reply;
-    match compare(reply, ours) {
-        Difference::Nothing => settle(rule, write(rust, text)),
+    match compare(with_digits(reply, body), ours) {
+        Difference::Nothing => settle(rule, write(rust, digits_of(body), text)),
         found => Verdict::Differs(found),
     }
 }

@@ -214,6 +214,7 @@ fn party_50h(body: &[u8]) -> Party {
         bic,
         count,
         name_and_address: names,
+        digits: [0u8; 4],
     }
 }
 

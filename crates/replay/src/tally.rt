@@ -24,8 +24,9 @@ pub struct Tally {
     letter: u64,
     account: u64,
     differ: u64,
-    // records written as the Rust, so but for 59F's LF, and refused by rule 22
+    // records written as the Rust, so after 50F's digits are set, so but for 59F's LF, and refused by rule 22
     written: u64,
+    renumbered: u64,
     less: u64,
     refused: u64,
 }
@@ -51,6 +52,7 @@ impl Tally {
             account: 0,
             differ: 0,
             written: 0,
+            renumbered: 0,
             less: 0,
             refused: 0,
         }
@@ -91,6 +93,7 @@ impl Tally {
     fn wrote(mut self, writing: Writing) -> Self {
         match writing {
             Writing::AsRust => self.written = more(self.written),
+            Writing::Renumbered => self.renumbered = more(self.renumbered),
             Writing::LessLf => self.less = more(self.less),
             Writing::ByRule => self.refused = more(self.refused),
             _ => {}
@@ -115,10 +118,14 @@ impl Tally {
         print_number(b"), ", self.differ);
         print_number(
             b" differ; ",
-            sum(sum(self.written, self.less), self.refused),
+            sum(
+                sum(self.written, self.renumbered),
+                sum(self.less, self.refused),
+            ),
         );
         print_number(b" records: ", self.written);
-        print_number(b" written as the Rust, ", self.less);
+        print_number(b" written as the Rust, ", self.renumbered);
+        print_number(b" so after 50F's digits are set to 1, 2, 3, 4, ", self.less);
         print_number(b" so without the LF of 59F's empty line, ", self.refused);
         print(b" by rule (22), 3 buffers each\n");
     }
@@ -144,6 +151,7 @@ fn print_difference(difference: Difference) {
         Difference::Account => print(b": account\n"),
         Difference::Bic => print(b": BIC\n"),
         Difference::Names => print(b": names\n"),
+        Difference::Digits => print(b": digits\n"),
         Difference::Written => print(b": written\n"),
     }
 }

@@ -1,6 +1,10 @@
 // The record of a case, measured and placed by our writer and compared with the text that the Rust writes of it.
 use crate::answer::Reply;
+use crate::digits::is_50f;
+use crate::digits::numbered;
+use crate::digits::renumber;
 use crate::list::past_line;
+use crate::list::same;
 use crate::rules::is_accepted;
 use crate::rules::is_ascii;
 use party::Party;
@@ -12,11 +16,12 @@ use writer::put_text;
 ghost use Prim.Native.Nat.{_≤_};
 ghost use lib.ListN.{length};
 
-// What came of writing: the answer has no record; it is written as the Rust writes it; so, but for the LF of 59F's empty line; it is
-// refused by rule; or something differs.
+// What came of writing: the answer has no record; it is written as the Rust writes it; so, after 50F's digits are set to 1, 2, 3, 4, and
+// else with the sender's; so, but for the LF of 59F's empty line; it is refused by rule; or something differs.
 pub enum Writing {
     NoRecord,
     AsRust,
+    Renumbered,
     LessLf,
     ByRule,
     Differs,
@@ -25,8 +30,9 @@ pub enum Writing {
 // The longest text that is compared: the room has 8 bytes before it, and some after it.
 pub const LONGEST: usize = 240;
 
-// Writes the record that the Rust reads. One with a byte above 127 no reader of ours gives (13), so it is refused with 22.
-pub(crate) fn write(rust: Reply, text: &[u8]) -> Writing {
+// Writes the record that the Rust reads, a 50F with the sender's digits too. One with a byte above 127 no reader of ours gives (13), so it
+// is refused with 22.
+pub(crate) fn write(rust: Reply, digits: [u8; 4], text: &[u8]) -> Writing {
     let said = rust.said;
     let party = rust.party;
     if !is_accepted(said) {
@@ -41,11 +47,38 @@ pub(crate) fn write(rust: Reply, text: &[u8]) -> Writing {
     if is_identified_59f(party) {
         return write_less(party, text);
     }
+    if is_50f(party) {
+        return write_numbered(party, digits, text);
+    }
     settled(is_written(party, text), Writing::AsRust)
 }
 
 fn settled(good: bool, writing: Writing) -> Writing {
     if good { writing } else { Writing::Differs }
+}
+
+// The text with other digits, at the start of the room for it.
+fn renumbered(text: &[u8], digits: [u8; 4]) -> [u8; LONGEST] {
+    let mut room = [0u8; LONGEST];
+    put_text(text, &mut room, 0);
+    renumber(&mut room, digits);
+    room
+}
+
+// Writes a 50F with the Rust's digits, which gives its text, and with the sender's, which gives that text with those.
+fn write_numbered(party: Party, digits: [u8; 4], text: &[u8]) -> Writing
+    requires { ⌜ (1 ≤ length (now text)) × (length (now text) ≤ 240) ⌝ }
+{
+    let room = renumbered(text, digits);
+    let len = text.len();
+    let own = &room[..len];
+    if !is_written(party, text) || !is_written(numbered(party, digits), own) {
+        return Writing::Differs;
+    }
+    if same(text, own) {
+        return Writing::AsRust;
+    }
+    Writing::Renumbered
 }
 
 // The Rust writes an empty line after the identifier of 59F, and ours does not.

@@ -25,7 +25,7 @@ use Rattle.reader.proofs.Bodies.{body-passed}
 use Rattle.choices.specs.Detection.{firstLine}
 use Rattle.swift_mt_message.specs.Std.{Str, slash}
 use Rattle.swift_mt_message.specs.Equal.{asParty, illegalAccount}
-use Rattle.swift_mt_message.proofs.Bodies.{kept-whole}
+use Rattle.swift_mt_message.proofs.Bodies.{names-party, kept-whole}
 
 -- what such lines are
 pub record Illegal (ls : List Str) : Type 0 where
@@ -90,7 +90,7 @@ unfolding firstLine starts partyOf afterHead
 reads-names [] i = absurd (false≢true (i .slashed))
 reads-names (l ∷ ls) i =
     rw (i .two, i .slashed, i .fits)
-    (ap (λ (names : List Str). giving (parseNameAndAddress Field50H 2 ls) (asParty Field50H (some (drop 1 l)) [] names)) (kept-whole ls))
+    (ap (giving (parseNameAndAddress Field50H 2 ls)) (sym (names-party Field50H true (drop 1 l) ls) ∙ ap (asParty Field50H (some (drop 1 l)) []) (kept-whole ls)))
 
 -- a refusal of names is of their count, of a length or of a later line
 step : (a b : Bool) (n : ℕ) (r : Reply) → 2 ≤ n → (r ≡ refused 3 1 → ⊥) → ((must a 4 n then must b 3 n) then r) ≡ refused 3 1 → ⊥

@@ -1,5 +1,5 @@
--- Each choice detects and reads by a letter as the Rust does, but for the bytes of 50H's account. Assumes nothing.
-use mathlib.Core.Path.{_≡_, refl, sym, _∙_, ap, subst}
+-- Each choice detects and reads by a letter as the Rust does, but for the bytes of 50H's account and the digits of 50F. Assumes nothing.
+use mathlib.Core.Path.{_≡_, refl, sym, _∙_, ap}
 use mathlib.Core.Bool.{Bool, true, false, _&&_, _||_, and-false, false≢true}
 use mathlib.Core.List.{List, [], _∷_, _++_}
 use mathlib.Core.Option.{Option, some, Option·none-ne-some, Option·some-injective}
@@ -33,7 +33,7 @@ use Rattle.swift_mt_message.specs.Field59 as rust59
 use Rattle.swift_mt_message.specs.Structs.{Struct}
 use Rattle.swift_mt_message.specs.Structs as structs
 use Rattle.swift_mt_message.specs.Enums.{Enum}
-use Rattle.swift_mt_message.specs.Equal.{told, recordOf, recordBy, rustRead, rustParse, rustParseWithVariant, illegalAccount, FGH}
+use Rattle.swift_mt_message.specs.Equal.{told, recordOf, recordBy, renumber, rustRead, rustParse, rustParseWithVariant, illegalAccount, FGH}
 use Rattle.swift_mt_message.proofs.Results.{by-test}
 use Rattle.swift_mt_message.proofs.Lines.{collected}
 use Rattle.swift_mt_message.proofs.Std.{started, trims, trimmed-part}
@@ -42,16 +42,16 @@ use Rattle.swift_mt_message.proofs.Field50.{at-50, at-50A, at-50F, at-5
 use Rattle.swift_mt_message.proofs.Field59.{at-59, at-59A, at-59F}
 use Rattle.swift_mt_message.proofs.Accounts.{illegal, F-refuses, G-refuses}
 
--- what the Rust reads by an option: what we do, but for 50H
+-- what the Rust reads by an option, but for 50F's digits: what we do, but for 50H
 abbrev pub is-H : PartyOption → Bool
 is-H o = eqb (placeOf o) (placeOf Field50H)
 
 abbrev pub reading : Str → PartyOption → Reading
 reading body o = elim (is-H o && illegalAccount (lines body)) [ true ↦ refusing 3 1 | false ↦ read o body ]
 
-pub at-option : (o : PartyOption) (body : Str) → bodyReply body ≡ accepted → rustRead o body ≡ some (reading body o)
+pub at-option : (o : PartyOption) (body : Str) → bodyReply body ≡ accepted → rustRead o body ≡ some (renumber (reading body o))
 at-option =
-    by-option (λ o. (body : Str) → bodyReply body ≡ accepted → rustRead o body ≡ some (reading body o))
+    by-option (λ o. (body : Str) → bodyReply body ≡ accepted → rustRead o body ≡ some (renumber (reading body o)))
     at-50 at-50A at-50F at-50K at-50C at-50L at-50G at-50H at-59 at-59A at-59F
 
 pub not-H : (o : PartyOption) (body : Str) → (o ≡ Field50H → ⊥) → reading body o ≡ read o body
@@ -120,27 +120,30 @@ Within c o make = (v : Struct o) → recordBy c (make v) ≡ recordOf o v
 made : (c : Choice) (o : PartyOption) (make : Struct o → Enum c) → Within c o make → (v : Struct o) → told (recordBy c) (Ok (make v)) ≡ told (recordOf o) (Ok v)
 made c o make same v = ap {B = Option Reading} (λ (p : Party). some (record { reply = accepted; party = p })) (same v)
 
+-- readings that are told alike have one reply
+replied : {r s : Reading} → some r ≡ some s → r .reply ≡ s .reply
+replied e = ap (λ (r : Reading). r .reply) (Option·some-injective _ _ e)
+
 -- it is tried before others
 tried : (c : Choice) (f : PartyOption → Reading) (o : PartyOption) (make : Struct o → Enum c) → Within c o make
-    → (t : Bool) (os : List PartyOption) (x : Result (Struct o)) (y : Result (Enum c)) → told (recordOf o) x ≡ some (f o)
-    → told (recordBy c) y ≡ some (first f os) → told (recordBy c) (if-ok t x make y) ≡ some (first f (when t o ++ os))
+    → (t : Bool) (os : List PartyOption) (x : Result (Struct o)) (y : Result (Enum c)) → told (recordOf o) x ≡ some (renumber (f o))
+    → told (recordBy c) y ≡ some (renumber (first f os)) → told (recordBy c) (if-ok t x make y) ≡ some (renumber (first f (when t o ++ os)))
 unfolding if-ok
-tried c f o make same true os (Ok v) y e g =
-    subst (λ (r : Reading). told (recordBy c) (Ok (make v)) ≡ some (orElse r (first f os))) (Option·some-injective _ _ e) (made c o make same v)
-tried c f o make same true os (Err k n) y e g =
-    subst (λ (r : Reading). told (recordBy c) y ≡ some (orElse r (first f os))) (Option·some-injective _ _ e) g
+tried c f o make same true os (Ok v) y e g = rw (sym (replied e), orElse) (made c o make same v ∙ e)
+tried c f o make same true os (Err k n) y e g = rw (sym (replied e), orElse) g
 tried c f o make same true os Panic y e g = absurd (Option·none-ne-some _ e)
 tried c f o make same false os x y e g = g
 
 -- its letter is tested before others
 picked : (c : Choice) (body : Str) → bodyReply body ≡ accepted → (letter : ℕ) (o : PartyOption) (make : Struct o → Enum c) → Within c o make
-    → (t : Bool) (y : Result (Enum c)) (s : Reading) → t ≡ eqb letter (limitsOf o .letter) → told (recordBy c) y ≡ some s
-    → told (recordBy c) (arm t (structs.parse o body) make y) ≡ some (either (reading body) (eqb letter (limitsOf o .letter)) o s)
+    → (t : Bool) (y : Result (Enum c)) (s : Reading) → t ≡ eqb letter (limitsOf o .letter) → told (recordBy c) y ≡ some (renumber s)
+    → told (recordBy c) (arm t (structs.parse o body) make y) ≡ some (renumber (either (reading body) (eqb letter (limitsOf o .letter)) o s))
 unfolding arm
 picked c body q letter o make same t y s h g =
-    go t (structs.parse o body) (at-option o body q) ∙ ap (λ (b : Bool). some (either (reading body) b o s)) h
+    go t (structs.parse o body) (at-option o body q) ∙ ap (λ (b : Bool). some (renumber (either (reading body) b o s))) h
   where
-    go : (t : Bool) (x : Result (Struct o)) → told (recordOf o) x ≡ some (reading body o) → told (recordBy c) (arm t x make y) ≡ some (either (reading body) t o s)
+    go : (t : Bool) (x : Result (Struct o)) → told (recordOf o) x ≡ some (renumber (reading body o))
+        → told (recordBy c) (arm t x make y) ≡ some (renumber (either (reading body) t o s))
     go true (Ok v) e = made c o make same v ∙ e
     go true (Err k n) e = e
     go true Panic e = e
@@ -152,7 +155,7 @@ has-H [] = false
 has-H (o ∷ os) = is-H o || has-H os
 
 module _ (body : Str) (q : bodyReply body ≡ accepted) where
-  -- whether the Rust differs from ours in a choice; what it detects; what it reads by an option
+  -- but for 50F's digits: whether the Rust differs from ours in a choice; what it detects; what it reads by an option
   abbrev pub differing : Choice → Bool
   differing c = has-H (optionsOf c) && illegalAccount (lines body)
 
@@ -165,7 +168,7 @@ module _ (body : Str) (q : bodyReply body ≡ accepted) where
   abbrev tries : Choice → (PartyOption → Reading) → Reading
   tries c f = first f (wanted (lines body) (trialsOf c))
 
-  detect : (c : Choice) → rustParse c body ≡ some (tries c (reader c))
+  detect : (c : Choice) → rustParse c body ≡ some (renumber (tries c (reader c)))
   unfolding rust50.Field50InstructingParty·parse rust50.Field50OrderingCustomerFGH·parse rust50.Field50OrderingCustomerAFK·parse rust50.Field50OrderingCustomerNCF·parse rust50.Field50Creditor·parse rust59.Field59·parse rust59.Field59Debtor·parse
   detect Field50InstructingParty =
       let t = tried Field50InstructingParty (reader Field50InstructingParty) in
@@ -234,8 +237,8 @@ module _ (body : Str) (q : bodyReply body ≡ accepted) where
     unfolding firstThat
     fgh-reads = sym (parsed FGH) ∙ only-H (λ o. read o body) refl refl
 
-  pub detected : (c : Choice) → rustParse c body ≡ some (expected c)
-  detected c = detect c ∙ ap some (by-test (differing c) (there c) elsewhere)
+  pub detected : (c : Choice) → rustParse c body ≡ some (renumber (expected c))
+  detected c = detect c ∙ ap (λ (r : Reading). some (renumber r)) (by-test (differing c) (there c) elsewhere)
     where
       there : (c : Choice) → differing c ≡ true → tries c (reader c) ≡ expected c
       there =
@@ -253,7 +256,7 @@ module _ (body : Str) (q : bodyReply body ≡ accepted) where
     abbrev pub picks : Choice → (PartyOption → Reading) → Reading → Reading
     picks c f s = pick f letter s (optionsOf c)
 
-    pub by-variant : (c : Choice) → rustParseWithVariant c body letter ≡ some (picks c (reading body) (expected c))
+    pub by-variant : (c : Choice) → rustParseWithVariant c body letter ≡ some (renumber (picks c (reading body) (expected c)))
     unfolding rust50.Field50InstructingParty·parse-with-variant rust50.Field50OrderingCustomerFGH·parse-with-variant rust50.Field50OrderingCustomerAFK·parse-with-variant rust50.Field50OrderingCustomerNCF·parse-with-variant rust50.Field50Creditor·parse-with-variant rust59.Field59·parse-with-variant rust59.Field59Debtor·parse-with-variant
     by-variant Field50InstructingParty =
         let p = picked Field50InstructingParty body q letter in
@@ -268,13 +271,13 @@ module _ (body : Str) (q : bodyReply body ≡ accepted) where
         p Field50A rust50.AFK·A (λ v. refl) _ _ _ (letters letter 65 refl)
         (p Field50F rust50.AFK·F (λ v. refl) _ _ _ (letters letter 70 refl)
         (p Field50K rust50.AFK·K (λ v. refl) _ _ _ (letters letter 75 refl) (detected Field50OrderingCustomerAFK)))
-        ∙ ap some (swap (reading body) letter _ Field50A Field50F (Field50K ∷ []) refl)
+        ∙ ap (λ (r : Reading). some (renumber r)) (swap (reading body) letter _ Field50A Field50F (Field50K ∷ []) refl)
     by-variant Field50OrderingCustomerNCF =
         let p = picked Field50OrderingCustomerNCF body q letter in
         p Field50NoOption rust50.NCF·NoOption (λ v. refl) _ _ _ (no-letter letter)
         (p Field50C rust50.NCF·C (λ v. refl) _ _ _ (letters letter 67 refl)
         (p Field50F rust50.NCF·F (λ v. refl) _ _ _ (letters letter 70 refl) (detected Field50OrderingCustomerNCF)))
-        ∙ ap some (turn (reading body) letter _ Field50NoOption Field50C Field50F refl refl)
+        ∙ ap (λ (r : Reading). some (renumber r)) (turn (reading body) letter _ Field50NoOption Field50C Field50F refl refl)
     by-variant Field50Creditor =
         let p = picked Field50Creditor body q letter in
         p Field50A rust50.Creditor·A (λ v. refl) _ _ _ (letters letter 65 refl)
@@ -284,12 +287,12 @@ module _ (body : Str) (q : bodyReply body ≡ accepted) where
         p Field59NoOption rust59.Field59·NoOption (λ v. refl) _ _ _ (no-letter letter)
         (p Field59A rust59.Field59·A (λ v. refl) _ _ _ (letters letter 65 refl)
         (p Field59F rust59.Field59·F (λ v. refl) _ _ _ (letters letter 70 refl) (detected Field59)))
-        ∙ ap some (turn (reading body) letter _ Field59NoOption Field59A Field59F refl refl)
+        ∙ ap (λ (r : Reading). some (renumber r)) (turn (reading body) letter _ Field59NoOption Field59A Field59F refl refl)
     by-variant Field59Debtor =
         let p = picked Field59Debtor body q letter in
         p Field59NoOption rust59.Debtor·NoOption (λ v. refl) _ _ _ (no-letter letter)
         (p Field59A rust59.Debtor·A (λ v. refl) _ _ _ (letters letter 65 refl) (detected Field59Debtor))
-        ∙ ap some (swap (reading body) letter _ Field59NoOption Field59A [] refl)
+        ∙ ap (λ (r : Reading). some (renumber r)) (swap (reading body) letter _ Field59NoOption Field59A [] refl)
 
     -- document 01's of its own
     pub parsed-by : letterReply letter ≡ accepted → (c : Choice) → picks c (λ o. read o body) (parse c body) ≡ parseWithVariant c body letter

@@ -1,7 +1,7 @@
 -- Each option of field 59 reads as the Rust does. Assumes nothing.
 use mathlib.Core.Path.{_≡_, refl, _∙_, ap}
 use mathlib.Core.Bool.{true, false}
-use mathlib.Core.List.{List, _∷_, map}
+use mathlib.Core.List.{List, [], _∷_, map}
 use mathlib.Core.Option.{Option, none, some}
 use Prim.Native.Nat.{ℕ, suc}
 use lib.Dec.{leb}
@@ -23,12 +23,12 @@ use Rattle.swift_mt_message.specs.FieldUtils.{name-line, parse-name-and-
 use Rattle.swift_mt_message.specs.Field50.{Field50K·line}
 use Rattle.swift_mt_message.specs.Field59 as rust
 use Rattle.swift_mt_message.specs.Structs.{Struct}
-use Rattle.swift_mt_message.specs.Equal.{told, recordOf, rustRead}
+use Rattle.swift_mt_message.specs.Equal.{told, recordOf, renumber, rustRead}
 use Rattle.swift_mt_message.proofs.Results.{by-test, Is, ok, and-is, last-and}
 use Rattle.swift_mt_message.proofs.Std.{started, from-is}
 use Rattle.swift_mt_message.proofs.FieldUtils.{no-identifier, identifier}
 use Rattle.swift_mt_message.proofs.Names.{named, line-50K, line-59F}
-use Rattle.swift_mt_message.proofs.Bodies.{by-lines, headed, short-is, first-bic, second-bic, bic-party}
+use Rattle.swift_mt_message.proofs.Bodies.{by-lines, headed, short-is, first-bic, second-bic, bic-party, names-party}
 
 -- an account of at most 34 bytes, or none: there are two ways to read on
 module _ (o : PartyOption) (e : 34 ≡ limitsOf o .longest) (l : Str) where
@@ -72,16 +72,16 @@ names-59 account lines start =
 
 module _ (body : Str) (q : bodyReply body ≡ accepted) where
   -- 59: account or none, then names
-  pub at-59 : rustRead Field59NoOption body ≡ some (read Field59NoOption body)
+  pub at-59 : rustRead Field59NoOption body ≡ some (renumber (read Field59NoOption body))
   unfolding rust.Field59NoOption·parse partyOf afterHead
   at-59 =
       by-lines Field59NoOption _ body q refl refl (λ l ls.
       by-account Field59NoOption refl l _ _
-      (λ e t. headed Field59NoOption refl refl l ls e (short-is (drop 1 l) t (names-59 (some (drop 1 l)) (l ∷ ls) 1)) refl)
-      (λ e. headed Field59NoOption refl refl l ls e (names-59 none (l ∷ ls) 0) refl))
+      (λ e t. headed Field59NoOption refl refl l ls e (short-is (drop 1 l) t (names-59 (some (drop 1 l)) (l ∷ ls) 1)) (names-party Field59NoOption true (drop 1 l) ls))
+      (λ e. headed Field59NoOption refl refl l ls e (names-59 none (l ∷ ls) 0) (names-party Field59NoOption false [] (l ∷ ls))))
 
   -- 59A: account or none, then BIC
-  pub at-59A : rustRead Field59A body ≡ some (read Field59A body)
+  pub at-59A : rustRead Field59A body ≡ some (renumber (read Field59A body))
   unfolding rust.Field59A·parse rust.Field59A·bic partyOf afterHead
   at-59A =
       by-lines Field59A _ body q refl refl (λ l ls.
@@ -93,7 +93,7 @@ module _ (body : Str) (q : bodyReply body ≡ accepted) where
       (λ e. headed Field59A refl refl l ls e (first-bic (λ bic. record { account = none; bic = bic }) noHead l ls) (bic-party Field59A 1 noHead (l ∷ ls))))
 
   -- 59F: identifier or none, then lines numbered in order
-  pub at-59F : rustRead Field59F body ≡ some (read Field59F body)
+  pub at-59F : rustRead Field59F body ≡ some (renumber (read Field59F body))
   unfolding rust.Field59F·parse rust.Field59F·names partyOf afterHead
   at-59F =
       by-lines Field59F _ body q refl refl (λ l ls.
@@ -102,9 +102,9 @@ module _ (body : Str) (q : bodyReply body ≡ accepted) where
       headed Field59F refl refl l ls (ap identifierHead (identifier-given Field59F 1 l s))
       (and-is _ (identifier l s) (λ g.
       named Field59F refl (λ names. record { party-identifier = some (drop 1 l); name-and-address = names }) 1 (rust.Field59F·line 1) (line-59F 1) ls))
-      refl)
+      (names-party Field59F true (drop 1 l) ls))
       (λ s.
       headed Field59F refl refl l ls (ap identifierHead (identifier-absent Field59F 1 l s))
       (and-is _ (no-identifier l s) (λ g.
       named Field59F refl (λ names. record { party-identifier = none; name-and-address = names }) 0 (rust.Field59F·line 0) (line-59F 0) (l ∷ ls)))
-      refl))
+      (names-party Field59F false [] (l ∷ ls))))

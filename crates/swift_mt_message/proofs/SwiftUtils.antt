@@ -37,7 +37,7 @@ account-is shortest longest t s {r = r} e f =
 parts : (f : ℕ → Bool) (a b : ℕ) (s : Str) → (all f (take a s) && all f (take b (drop a s))) ≡ all f (take (a + b) s)
 parts f a b s = sym (ap (all f) (take-add a b s) ∙ all-append f (take a s) (take b (drop a s)))
 
-rest : (f : ℕ → Bool) (a : ℕ) (s : Str) → (all f (take a s) && all f (drop a s)) ≡ all f s
+pub rest : (f : ℕ → Bool) (a : ℕ) (s : Str) → (all f (take a s) && all f (drop a s)) ≡ all f s
 rest f a s = sym (all-append f (take a s) (drop a s)) ∙ ap (all f) (take-append-drop a s)
 
 musts : (p q r s : Bool) (k n : ℕ) → (must p k n then must q k n then must r k n then must s k n) ≡ (must (p && q) k n then must (r && s) k n)

@@ -1,5 +1,5 @@
--- The theorem: for every ASCII body of at most 2,048 bytes, what the Rust writes of the value that it reads is what ours writes of our record.
--- Assumes nothing.
+-- The theorem: for every ASCII body of at most 2,048 bytes, what the Rust writes of the value that it reads is what ours writes of our record,
+-- but for 50F's digits and one LF of 59F. Assumes nothing.
 use mathlib.Core.Path.{_≡_, refl, sym, _∙_, ap, subst}
 use mathlib.Core.Bool.{Bool, true, false, _&&_}
 use mathlib.Core.List.{List, [], _∷_, _++_, map}
@@ -7,7 +7,7 @@ use mathlib.Core.Option.{Option, none, some, Option·getD, Option·some-injectiv
 use Prim.Native.Nat.{ℕ, suc, _+_, _-_, _≤_, _<_}
 use native.Mathlib.Omega.{arith}
 use lib.Dec.{ltb, leb, eqb}
-use lib.ListN.{length, take, replicate, length-drop, length-append, length-map}
+use lib.ListN.{length, getD, take, drop, replicate, length-drop, length-append, length-map}
 use lib.Seq.{take-take, take-append-seam, length-take-le}
 use borrow.Author.Tests.{leb-true, leb-false, ltb-true, ne-eqb}
 use Rattle.errors.specs.Refusals.{Reply, accepted, refused, _then_}
@@ -16,7 +16,7 @@ use Rattle.party.specs.declared.PartyOption.{PartyOption}
 use Rattle.party.specs.declared.PartyOption.the-variants.{Field50NoOption, Field50A, Field50F, Field50K, Field50C, Field50L, Field50G, Field50H, Field59NoOption, Field59A, Field59F}
 use Rattle.party.specs.declared.Party.{Party}
 use Rattle.party.specs.Limits.{limitsOf}
-use Rattle.party.specs.Text.{textMost, padded, textOf, fourTexts, Used, used}
+use Rattle.party.specs.Text.{textMost, padded, textOf, four, fourTexts, Used, used}
 use Rattle.party.specs.Party.{where-limit, said}
 use Rattle.party.specs.declared.Numbering.{Numbering}
 use Rattle.party.specs.declared.Numbering.the-variants.{Unnumbered, Numbered, InTurn}
@@ -47,7 +47,7 @@ use Rattle.swift_mt_message.specs.Field59 as rust59
 use Rattle.swift_mt_message.specs.Structs.{Struct, to-swift-string}
 use Rattle.swift_mt_message.specs.Enums.{Enum}
 use Rattle.swift_mt_message.specs.Enums as enums
-use Rattle.swift_mt_message.specs.Equal.{told, asParty, recordOf, recordBy, illegalAccount}
+use Rattle.swift_mt_message.specs.Equal.{told, asParty, recordOf, recordBy, renumbered, renumber, illegalAccount}
 use Rattle.swift_mt_message.specs.Writing.{optional, structOf, Agrees, ValueWritten, ReadsAndWrites}
 use Rattle.swift_mt_message.proofs.Results.{by-test}
 use Rattle.swift_mt_message.proofs.Choices.{is-H, reading, at-option, either, pick, differing, expected, detected, by-variant, parsed-by}
@@ -77,18 +77,17 @@ skip-most Unnumbered = omega arith
 skip-most Numbered = omega arith
 skip-most InTurn = omega arith
 
-names-most : (f : Numbering) (longest k : ℕ) (us : List Used) → longest ≤ 35 → AllPass f longest k (nameLines f k us)
+names-most : (f : Numbering) (longest k : ℕ) (ds : List ℕ) (us : List Used) → longest ≤ 35 → AllPass f longest k (nameLines f ds us)
     → All (λ (u : Used). length (u .bytes) < textMost) us
 unfolding nameLines
-names-most f longest k [] h p = tt
-names-most f longest k (u ∷ us) h p = (
-  omega (arith, p .0 .long, length-drop (skipOf f) (numberOf f k ++ u .bytes), length-append (numberOf f k) (u .bytes), skip-most f),
-  names-most f longest (suc k) us h (p .1),
-)
+names-most f longest k ds [] h p = tt
+names-most f longest k ds (u ∷ us) h p =
+    let number = numberOf f (getD ds 0 0) in
+    (omega (arith, p .0 .long, length-drop (skipOf f) (number ++ u .bytes), length-append number (u .bytes), skip-most f), names-most f longest (suc k) (drop 1 ds) us h (p .1))
 
-four : (ns : List Str) → length ns ≤ 4 → take (length ns) (fourTexts ns) ≡ map textOf ns
-unfolding fourTexts
-four ns h =
+first-texts : (ns : List Str) → length ns ≤ 4 → take (length ns) (fourTexts ns) ≡ map textOf ns
+unfolding four
+first-texts ns h =
     let all = map textOf ns ++ (textOf [] ∷ textOf [] ∷ textOf [] ∷ textOf [] ∷ []) in
     take-take (length ns) 4 all h ∙ ap (λ (n : ℕ). take n all) (sym (length-map ns textOf)) ∙ take-append-seam (map textOf ns) _
 
@@ -124,17 +123,19 @@ module _ (o : PartyOption) (a : Option Str) (b : Str) (ns : List Str) where
         whole b (omega (arith, bic-most 1 (u .bytes) (bic-passes u (first-text isBic (limitsOf o .bic) u e (h .bic)))));
     names = λ e.
         let us = map used (take (length ns) (fourTexts ns)) in
-        let g : areNames o (length ns) us ≡ true = rw (e, where-limit) at (h .names) in
-        let n = names-are o (length ns) us g in
+        let ds = parts p .digits in
+        let g : areNames o (length ns) ds us ≡ true = rw (e, where-limit) at (h .names) in
+        let n = names-are o (length ns) ds us g in
         let p = n .pass (ne-eqb (limitsOf o .names) 0 (λ z. omega (arith, ltb-true 0 (limitsOf o .names) e))) in
-        let f : take (length ns) (fourTexts ns) ≡ map textOf ns = four ns (omega (arith, n .counted, written-length (limitsOf o .numbering) 1 us, p .most, small o .names)) in
-        rw f (names-whole ns (rw f at (names-most (limitsOf o .numbering) (limitsOf o .name) 1 us (small o .name) (p .each))));
+        let f : take (length ns) (fourTexts ns) ≡ map textOf ns =
+        first-texts ns (omega (arith, n .counted, written-length (limitsOf o .numbering) ds us, p .most, small o .names)) in
+        rw f (names-whole ns (rw f at (names-most (limitsOf o .numbering) (limitsOf o .name) 1 ds us (small o .name) (p .each))));
   }
 
-  -- so the Rust's text of the value is what ours writes of the record, but for an LF
-  text-by : (v : Struct o) → (Back → structOf o (is-some a) text (used (textOf b) .bytes) texts ≡ v) → Given p → Agrees (said p) (to-swift-string o v)
+  -- so the Rust's text of the value is what ours writes of the record, which has the digits 1, 2, 3, 4, but for an LF
+  text-by : (v : Struct o) → (Back → structOf o (is-some a) text (used (textOf b) .bytes) texts ≡ v) → Given p → Agrees (said (renumbered p)) (to-swift-string o v)
   unfolding partyOf
-  text-by v e g = subst (λ (w : Struct o). Agrees (said p) (to-swift-string o w)) (e (back (given-facts p (necessary p g)))) (writes p g .text)
+  text-by v e g = subst (λ (w : Struct o). Agrees (said (renumbered p)) (to-swift-string o w)) (e (back (given-facts p (necessary p g)))) (writes p g .text)
 
 -- where there may be no account
 maybe : (a : Option Str) → (is-some a ≡ true → used (textOf (Option·getD a [])) .bytes ≡ Option·getD a []) → optional (is-some a) (used (textOf (Option·getD a [])) .bytes) ≡ a
@@ -204,13 +205,14 @@ near-if false k n r a = refl
 
 -- ---- a value, its record and our reading
 value : {A : Type 0} (party : A → Party) (text : A → Str) → ((v : A) → Given (party v) → Agrees (said (party v)) (text v))
-    → (x : Result A) {r s : Reading} → told party x ≡ some r → Near r s → Gives s → ValueWritten text x s
+    → (x : Result A) {r s : Reading} → told party x ≡ some (renumber r) → Near r s → Gives s → ValueWritten text x s
 value party text is x {r} {s} e near g v h =
-    let f : _≡_ {A = Reading} (record { reply = accepted; party = party v }) r = Option·some-injective _ _ (ap (told party) (sym h) ∙ e) in
-    let k = f ∙ near (sym (ap (λ (r : Reading). r .reply) f)) in
+    let f : _≡_ {A = Reading} (record { reply = accepted; party = party v }) (renumber r) = Option·some-injective _ _ (ap (told party) (sym h) ∙ e) in
+    let k = f ∙ ap renumber (near (sym (ap (λ (r : Reading). r .reply) f))) in
     let a = sym (ap (λ (r : Reading). r .reply) k) in
     let p = ap (λ (r : Reading). r .party) k in
-    record { accepts = a; given = g a; agrees = subst (λ (q : Party). Agrees (said q) (text v)) p (is v (subst Given (sym p) (g a))) }
+    let w = writes (s .party) (g a) .given in
+    record { accepts = a; given = g a; renumbered-given = w; agrees = subst (λ (q : Party). Agrees (said q) (text v)) p (is v (subst Given (sym p) w)) }
 
 module _ (body : Str) (q : bodyReply body ≡ accepted) where
   near-option : (o : PartyOption) → Near (reading body o) (read o body)

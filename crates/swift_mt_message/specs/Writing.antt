@@ -1,5 +1,6 @@
 -- What the Rust writes: of every record that a reader can give, and of every value that the Rust's readers give for a body, the text that
--- ours writes, with one LF more in 59F with an identifier. proofs/Writing.antt and proofs/Values.antt have the proofs.
+-- ours writes after 50F's digits are set to 1, 2, 3, 4, with one LF more in 59F with an identifier. proofs/Writing.antt and proofs/Values.antt
+-- have the proofs.
 use Prim.Native.Nat.{ℕ, suc}
 use mathlib.Core.Path.{_≡_}
 use mathlib.Core.Bool.{Bool, true, false}
@@ -23,7 +24,7 @@ use Rattle.swift_mt_message.specs.Std.{Str, Result, Ok}
 use Rattle.swift_mt_message.specs.Structs.{Struct, to-swift-string}
 use Rattle.swift_mt_message.specs.Structs as structs
 use Rattle.swift_mt_message.specs.Enums as enums
-use Rattle.swift_mt_message.specs.Equal.{recordOf, variant}
+use Rattle.swift_mt_message.specs.Equal.{recordOf, renumbered, variant}
 
 -- the struct of a record's texts
 abbrev pub optional : Bool → Str → Option Str
@@ -64,19 +65,22 @@ pub record Agrees (s : Said) (text : Str) : Type 0 where
   pub less : identified59F s ≡ true → lessEmpty text ≡ writtenField s
   pub longer : identified59F s ≡ true → length text ≡ suc (length (writtenField s))
 
--- the Rust's struct has the same record, and of it the Rust writes what ours writes, but for that LF
+-- with its digits set to 1, 2, 3, 4 where it is a 50F (document 02, Seven), a reader can give a record too, so that 22 does not refuse it
+-- (`given-exact`); the Rust's struct has the same record, and of it the Rust writes what ours writes, but for that LF
 pub record Writes (p : Party) : Type 0 where
-  pub same : Same (recordOf (p .option) (structIn p)) p
-  pub text : Agrees (said p) (to-swift-string (p .option) (structIn p))
+  pub given : Given (renumbered p)
+  pub same : Same (recordOf (p .option) (structIn p)) (renumbered p)
+  pub text : Agrees (said (renumbered p)) (to-swift-string (p .option) (structIn p))
 
--- our reading and a text of the Rust: ours accepts, a reader can give its record, so that 22 does not refuse it (`given-exact`), and ours
--- writes that text of it, but for that LF
+-- our reading and a text of the Rust: ours accepts, a reader can give its record, as it is and so renumbered, and of the latter ours writes
+-- that text, but for that LF
 pub record WrittenAs (r : Reading) (text : Str) : Type 0 where
   pub accepts : r .reply ≡ accepted
   pub given : Given (r .party)
-  pub agrees : Agrees (said (r .party)) text
+  pub renumbered-given : Given (renumbered (r .party))
+  pub agrees : Agrees (said (renumbered (r .party))) text
 
--- where the Rust gives a value, what it writes of that value is what ours writes of our record, but for that LF
+-- where the Rust gives a value, what it writes of that value is what ours writes of our record, but for those digits and that LF
 abbrev pub ValueWritten : {A : Type 0} → (A → Str) → Result A → Reading → Type 0
 ValueWritten {A} text result r = (v : A) → result ≡ Ok v → WrittenAs r (text v)
 

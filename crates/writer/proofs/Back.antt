@@ -27,6 +27,7 @@ use Rattle.reader.specs.Options.{accountReply, ascii, bodyReply, byLines, found
 use Rattle.writer.specs.Writing.{nameLines, writtenLines, joined, writtenBody, pieces}
 use Rattle.writer.specs.Given.{isAccount, isBic}
 use Rattle.writer.specs.ReadBack.{lastEmpty, earlierCr, isReadBack}
+use Rattle.writer.specs.Sender.{readLines}
 use Rattle.writer.proofs.Relined.{All, weight, relined, lines-joined, relined-same, relined-empty, relined-cr, pieces-joined}
 use Rattle.writer.proofs.Sayings.{saidWith, said-party, saying, line-free}
 use Rattle.writer.proofs.Facts.{Facts, account-line, account-passes, bic-passes}
@@ -34,7 +35,7 @@ use Rattle.writer.proofs.Written.{foundOf, Reads, written-found}
 use Rattle.writer.proofs.Witness.{Plain, written-plain}
 use Rattle.writer.proofs.Sizes.{written-183, joined-most}
 use Rattle.writer.proofs.Sufficient.{lines-of, joined-ascii, body-fits}
-use Rattle.writer.proofs.Necessary.{GoodIn, readLines, letters-free, found-good}
+use Rattle.writer.proofs.Necessary.{GoodIn, letters-free, found-good}
 
 -- ---- what an accepted body gives
 pub record Accepted (o : PartyOption) (body : List ℕ) : Type 0 where
@@ -80,19 +81,19 @@ joined-found BicOnly o s r e = r
 joined-found TextOnly o s r e = r
 joined-found ByLines o s r e = ap (byLines o) e ∙ r
 
-module _ (o : PartyOption) (present : Bool) (count : ℕ) (u v : Used) (us : List Used) (h : Facts (saidWith o present count u v us)) where
+module _ (o : PartyOption) (present : Bool) (count : ℕ) (u v : Used) (us : List Used) (ds : List ℕ) (h : Facts (saidWith o present count u v us ds)) where
   abbrev T : Said
-  T = saidWith o present count u v us
+  T = saidWith o present count u v us ds
 
   abbrev ws : List (List ℕ)
   ws = writtenLines T
 
   plain : All Plain ws
-  plain = written-plain o present count u v us h
+  plain = written-plain o present count u v us ds h
 
   pub back-fits : bodyReply (writtenBody T) ≡ accepted
   unfolding writtenBody
-  back-fits = body-fits (joined ws) (omega (arith, joined-most ws 182 (written-183 o present count u v us h))) (joined-ascii ws plain)
+  back-fits = body-fits (joined ws) (omega (arith, joined-most ws 182 (written-183 o present count u v us ds h))) (joined-ascii ws plain)
 
   pub back-found : isReadBack T ≡ true → foundBy (limitsOf o .layout) o (writtenBody T) ≡ foundOf T
   unfolding isReadBack writtenBody
@@ -101,7 +102,7 @@ module _ (o : PartyOption) (present : Bool) (count : ℕ) (u v : Used) (us : Lis
       let last = not-last (joined ws) e in
       let p : pieces (joined ws) ≡ ws = pieces-joined ws (some ws last) ls in
       let same : lines (joined ws) ≡ ws = lines-joined ws ls ∙ relined-same ws (ap lastEmpty (sym p) ∙ last) (ap earlierCr (sym p) ∙ not-cr (joined ws) e) in
-      joined-found (limitsOf o .layout) o T (written-found count u v us o present h) same
+      joined-found (limitsOf o .layout) o T (written-found count u v us ds o present h) same
 
 -- ---- not read back
 -- the lines of a body that is not read back weigh less than the record's
@@ -114,15 +115,15 @@ lighter ls n h e = rw (lines-joined ls h) (go (lastEmpty ls) (earlierCr ls) refl
     go false false a b f = absurd (true≢false (rw (a, b) at f))
 
 -- a body of lines
-module _ (o : PartyOption) (present : Bool) (count : ℕ) (u v : Used) (us : List Used) (h : Facts (saidWith o present count u v us)) where
+module _ (o : PartyOption) (present : Bool) (count : ℕ) (u v : Used) (us : List Used) (ds : List ℕ) (h : Facts (saidWith o present count u v us ds)) where
   abbrev R : Said
-  R = saidWith o present count u v us
+  R = saidWith o present count u v us ds
 
   -- its lines are read, and weigh no less than the record's
   lines-no : isReadBack R ≡ false → byLines o (lines (writtenBody R)) .reply ≡ accepted → weight (writtenLines R) ≤ weight (lines (writtenBody R)) → ⊥
   unfolding isReadBack writtenBody joined lines
   lines-no e r w =
-      let ls = lines-of (writtenLines R) (written-plain o present count u v us h) in
+      let ls = lines-of (writtenLines R) (written-plain o present count u v us ds h) in
       omega (arith, w, lighter (writtenLines R) (nonempty (writtenLines R) r) ls e)
     where
       nonempty : (xs : List (List ℕ)) → byLines o (lines (joined xs)) .reply ≡ accepted → 0 < length xs
@@ -149,9 +150,9 @@ text-least o x e =
     leb-true _ _ (both-left (leb (limitsOf o .shortest) (length x)) (leb (length x) (limitsOf o .longest)) (must-held (between (limitsOf o .shortest) (limitsOf o .longest) (length x)) 2 1 (then-first _ _ e)))
 
 -- ---- by the option
-module _ (count : ℕ) (u v : Used) (us : List Used) where
+module _ (count : ℕ) (u v : Used) (us : List Used) (ds : List ℕ) where
   abbrev Q : PartyOption → Bool → Said
-  Q o present = saidWith o present count u v us
+  Q o present = saidWith o present count u v us ds
 
   -- what reading its body gives weighs no less than the record's lines
   pub record Again (o : PartyOption) (present : Bool) : Type 0 where
@@ -160,10 +161,10 @@ module _ (count : ℕ) (u v : Used) (us : List Used) where
 
   pub back-no : (o : PartyOption) (present : Bool) → Facts (Q o present) → isReadBack (Q o present) ≡ false → Again o present → ⊥
   unfolding isReadBack writtenBody writtenLines nameLines
-  back-no Field50NoOption present h e a = lines-no Field50NoOption present count u v us h e (a .reply) (a .heavy)
-  back-no Field50A present h e a = lines-no Field50A present count u v us h e (a .reply) (a .heavy)
-  back-no Field50F present h e a = lines-no Field50F present count u v us h e (a .reply) (a .heavy)
-  back-no Field50K present h e a = lines-no Field50K present count u v us h e (a .reply) (a .heavy)
+  back-no Field50NoOption present h e a = lines-no Field50NoOption present count u v us ds h e (a .reply) (a .heavy)
+  back-no Field50A present h e a = lines-no Field50A present count u v us ds h e (a .reply) (a .heavy)
+  back-no Field50F present h e a = lines-no Field50F present count u v us ds h e (a .reply) (a .heavy)
+  back-no Field50K present h e a = lines-no Field50K present count u v us ds h e (a .reply) (a .heavy)
   back-no Field50C true h e a = absurd (false≢true (h .presence))
   back-no Field50C false h e a =
       let x = v .bytes in
@@ -175,8 +176,8 @@ module _ (count : ℕ) (u v : Used) (us : List Used) where
       let i : isAccount Field50L true u ≡ true = both-left (isAccount Field50L true u) true (h .account) in
       let n = text-least Field50L x (account-passes Field50L u i) in
       true≢false (sym (single x (line-free u (account-line Field50L true u i)) (omega (arith, n))) ∙ e)
-  back-no Field50G present h e a = lines-no Field50G present count u v us h e (a .reply) (a .heavy)
-  back-no Field50H present h e a = lines-no Field50H present count u v us h e (a .reply) (a .heavy)
-  back-no Field59NoOption present h e a = lines-no Field59NoOption present count u v us h e (a .reply) (a .heavy)
-  back-no Field59A present h e a = lines-no Field59A present count u v us h e (a .reply) (a .heavy)
-  back-no Field59F present h e a = lines-no Field59F present count u v us h e (a .reply) (a .heavy)
+  back-no Field50G present h e a = lines-no Field50G present count u v us ds h e (a .reply) (a .heavy)
+  back-no Field50H present h e a = lines-no Field50H present count u v us ds h e (a .reply) (a .heavy)
+  back-no Field59NoOption present h e a = lines-no Field59NoOption present count u v us ds h e (a .reply) (a .heavy)
+  back-no Field59A present h e a = lines-no Field59A present count u v us ds h e (a .reply) (a .heavy)
+  back-no Field59F present h e a = lines-no Field59F present count u v us ds h e (a .reply) (a .heavy)

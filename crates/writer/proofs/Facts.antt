@@ -24,7 +24,7 @@ pub record Facts (s : Said) : Type 0 where
   pub presence : isPresence (s .option) (s .present) ≡ true
   pub account : every (isAccount (s .option) (s .present)) (s .account) ≡ true
   pub bic : every isBic (s .bic) ≡ true
-  pub names : areNames (s .option) (s .count) (s .names) ≡ true
+  pub names : areNames (s .option) (s .count) (s .digits) (s .names) ≡ true
   pub free : (not (s .present) && isTaken (limitsOf (s .option) .first) (s .names)) ≡ false
 
 module _ (s : Said) where
@@ -38,7 +38,7 @@ module _ (s : Said) where
   bics = every isBic (s .bic)
 
   abbrev nams : Bool
-  nams = areNames (s .option) (s .count) (s .names)
+  nams = areNames (s .option) (s .count) (s .digits) (s .names)
 
   abbrev taken : Bool
   taken = not (s .present) && isTaken (limitsOf (s .option) .first) (s .names)
@@ -65,16 +65,16 @@ module _ (s : Said) where
       (is-not taken (h .free))
 
 -- the names
-pub record NamesAre (o : PartyOption) (count : ℕ) (us : List Used) : Type 0 where
+pub record NamesAre (o : PartyOption) (count : ℕ) (ds : List ℕ) (us : List Used) : Type 0 where
   pub counted : length us ≡ count
   pub lines : every isLine us ≡ true
-  pub pass : eqb (limitsOf o .names) 0 ≡ false → NamesPass o (nameLines (limitsOf o .numbering) 1 us)
+  pub pass : eqb (limitsOf o .names) 0 ≡ false → NamesPass o (nameLines (limitsOf o .numbering) ds us)
 
-module _ (o : PartyOption) (count : ℕ) (us : List Used) where
+module _ (o : PartyOption) (count : ℕ) (ds : List ℕ) (us : List Used) where
   abbrev named : Bool
-  named = elim (eqb (limitsOf o .names) 0) [ true ↦ true | false ↦ passes (parseNameAndAddress o 1 (nameLines (limitsOf o .numbering) 1 us)) ]
+  named = elim (eqb (limitsOf o .names) 0) [ true ↦ true | false ↦ passes (parseNameAndAddress o 1 (nameLines (limitsOf o .numbering) ds us)) ]
 
-  pub names-are : areNames o count us ≡ true → NamesAre o count us
+  pub names-are : areNames o count ds us ≡ true → NamesAre o count ds us
   unfolding areNames
   names-are e =
       let first = both-left (eqb (length us) count && every isLine us) named e in
@@ -82,11 +82,11 @@ module _ (o : PartyOption) (count : ℕ) (us : List Used) where
         counted = eqb-true _ _ (both-left (eqb (length us) count) (every isLine us) first);
         lines = both-right (eqb (length us) count) (every isLine us) first;
         pass = λ z.
-            let n : named ≡ passes (parseNameAndAddress o 1 (nameLines (limitsOf o .numbering) 1 us)) = rw (z, named) in
+            let n : named ≡ passes (parseNameAndAddress o 1 (nameLines (limitsOf o .numbering) ds us)) = rw (z, named) in
             names-held o 1 _ (passed _ (sym n ∙ both-right (eqb (length us) count && every isLine us) named e));
       }
 
-  pub are-names : NamesAre o count us → areNames o count us ≡ true
+  pub are-names : NamesAre o count ds us → areNames o count ds us ≡ true
   unfolding areNames
   are-names h =
       both (eqb (length us) count && every isLine us) named (both (eqb (length us) count) (every isLine us) (eq-eqb _ _ (h .counted)) (h .lines))
@@ -94,7 +94,7 @@ module _ (o : PartyOption) (count : ℕ) (us : List Used) where
     where
       go : (t : Bool) → eqb (limitsOf o .names) 0 ≡ t → named ≡ true
       go true z = rw (z, named)
-      go false z = let n : named ≡ passes (parseNameAndAddress o 1 (nameLines (limitsOf o .numbering) 1 us)) = rw (z, named) in n ∙ passing _ (names-pass o 1 _ (h .pass z))
+      go false z = let n : named ≡ passes (parseNameAndAddress o 1 (nameLines (limitsOf o .numbering) ds us)) = rw (z, named) in n ∙ passing _ (names-pass o 1 _ (h .pass z))
 
 -- an account or identifier, and a BIC
 pub account-line : (o : PartyOption) (present : Bool) (u : Used) → isAccount o present u ≡ true → isLine u ≡ true

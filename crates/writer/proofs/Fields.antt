@@ -69,7 +69,7 @@ field-parts p =
     let h = headed o (p .present) (used (p .account)) in
     let head = headIn o (p .present) (used (p .account)) in
     let bic = map (λ (u : Used). u .bytes) (said p .bic) in
-    let names = nameLines (limitsOf o .numbering) 1 (said p .names) in
+    let names = nameLines (limitsOf o .numbering) (said p .digits) (said p .names) in
     ap (λ (r : List ℕ). tagOf o ++ r)
     (joined-led ((head ++ bic) ++ names) ∙ ap (led false) (append-assoc head bic names) ∙ led-append false head (bic ++ names)
     ∙ ap (λ (r : List ℕ). r ++ led (after false head) (bic ++ names)) (h .bytes)

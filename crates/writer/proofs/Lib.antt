@@ -16,5 +16,6 @@ pub mod Sizes
 pub mod Sufficient
 pub mod Necessary
 pub mod Back
+pub mod Sender
 pub mod Theorems
 pub mod Longest

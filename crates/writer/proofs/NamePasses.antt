@@ -1,28 +1,28 @@
 -- What lines of names that pass have, whatever body lines they are. Assumes nothing.
-use mathlib.Core.Path.{_≡_, refl, _∙_, ap}
-use mathlib.Core.Bool.{Bool, true, _&&_, false≢true}
+use mathlib.Core.Path.{_≡_, refl, sym, _∙_, ap}
+use mathlib.Core.Bool.{Bool, true, false, _&&_, false≢true, true≢false}
 use mathlib.Core.List.{List, [], _∷_, _++_, map}
-use mathlib.Core.Logic.{_⊎_, inl, inr, ⊎-elim}
 use Prim.Native.Nat.{ℕ, zero, suc, _+_, _≤_}
 use native.Mathlib.Omega.{arith}
 use lib.Dec.{leb, eqb}
 use lib.ListN.{length, drop, getD, length-drop}
-use borrow.Author.Tests.{leb-true, le-leb, ne-eqb}
+use borrow.Author.Tests.{leb-true, le-leb, eqb-true, ne-eqb}
 use Rattle.errors.specs.Refusals.{Reply, accepted, refused, must}
 use Rattle.errors.proofs.Replies.{must-held, then-first, then-second, must-passes, then-passes}
 use Rattle.party.specs.declared.PartyOption.{PartyOption}
 use Rattle.party.specs.Limits.{limitsOf}
 use Rattle.party.specs.Text.{Used}
+use Rattle.party.specs.Party.{where-numbered}
 use Rattle.party.specs.declared.Numbering.{Numbering}
 use Rattle.party.specs.declared.Numbering.the-variants.{Unnumbered, Numbered, InTurn}
 use Rattle.swift_utils.specs.Bytes.{all, between, digit, legal}
 use Rattle.swift_utils.specs.Checks.{parseSwiftChars}
 use Rattle.field_utils.specs.Identifier.{isNumbered}
-use Rattle.field_utils.specs.Names.{skipOf, parseNumber, parseLine, parseLines, parseNameAndAddress, kept}
-use Rattle.field_utils.proofs.Tests.{both-left, both-right, both, none-more, rest-not, numbered-room, Line}
+use Rattle.field_utils.specs.Names.{skipOf, parseNumber, parseLine, parseLines, parseNameAndAddress, kept, digitOf}
+use Rattle.field_utils.proofs.Tests.{both-left, both-right, both, none-more, rest-not, Line}
 use Rattle.writer.specs.Writing.{numberOf, nameLines}
 use Rattle.writer.specs.Given.{passes, every, isLine}
-use Rattle.writer.proofs.Relined.{All, weight}
+use Rattle.writer.proofs.Relined.{All}
 use Rattle.writer.proofs.Sayings.{usedOf, bytesOf, Short, line-free}
 
 -- a reply that passes
@@ -114,84 +114,87 @@ module _ (o : PartyOption) (n : ℕ) (ls : List (List ℕ)) where
 
 -- ---- the lines that are written of names, and the names that are kept of lines
 module _ (f : Numbering) where
-  pub written-length : (k : ℕ) (us : List Used) → length (nameLines f k us) ≡ length us
+  pub written-length : (ds : List ℕ) (us : List Used) → length (nameLines f ds us) ≡ length us
   unfolding nameLines
-  written-length k [] = refl
-  written-length k (u ∷ us) = ap suc (written-length (suc k) us)
+  written-length ds [] = refl
+  written-length ds (u ∷ us) = ap suc (written-length (drop 1 ds) us)
 
-kept-number : (f : Numbering) (k : ℕ) (x : List ℕ) → kept f (numberOf f k ++ x) ≡ x
-kept-number Unnumbered k x = refl
-kept-number Numbered k x = refl
-kept-number InTurn k x = refl
+kept-number : (f : Numbering) (d : ℕ) (x : List ℕ) → kept f (numberOf f d ++ x) ≡ x
+kept-number Unnumbered d x = refl
+kept-number Numbered d x = refl
+kept-number InTurn d x = refl
 
-pub kept-written : (f : Numbering) (k : ℕ) (us : List Used) → map (kept f) (nameLines f k us) ≡ map bytesOf us
+pub kept-written : (f : Numbering) (ds : List ℕ) (us : List Used) → map (kept f) (nameLines f ds us) ≡ map bytesOf us
 unfolding nameLines
-kept-written f k [] = refl
-kept-written f k (u ∷ us) =
-    ap (λ (x : List ℕ). x ∷ map (kept f) (nameLines f (suc k) us)) (kept-number f k (u .bytes)) ∙ ap (_∷_ (u .bytes)) (kept-written f (suc k) us)
+kept-written f ds [] = refl
+kept-written f ds (u ∷ us) =
+    ap (λ (x : List ℕ). x ∷ map (kept f) (nameLines f (drop 1 ds) us)) (kept-number f (getD ds 0 0) (u .bytes)) ∙ ap (_∷_ (u .bytes)) (kept-written f (drop 1 ds) us)
 
-number-line : (f : Numbering) (k : ℕ) (x : List ℕ) → Line x → Line (numberOf f k ++ x)
-number-line Unnumbered k x h = h
-number-line Numbered k x h = none-more (48 + k) (47 ∷ x) (ne-eqb (48 + k) 10 (λ e. omega arith)) (none-more 47 x refl h)
-number-line InTurn k x h = h
-
-pub written-lines : (f : Numbering) (k : ℕ) (us : List Used) → every isLine us ≡ true → All Line (nameLines f k us)
-unfolding nameLines
-written-lines f k [] h = tt
-written-lines f k (u ∷ us) h =
-    (number-line f k (u .bytes) (line-free u (both-left (isLine u) (every isLine us) h)), written-lines f (suc k) us (both-right (isLine u) (every isLine us) h))
-
--- ---- lines that pass, written again of what is kept of them
-digit-of : (k : ℕ) → k ≤ 9 → digit (48 + k) ≡ true
+-- a digit is no LF, and there is none where there is no digit
+digit-line : (d : ℕ) → digit d ≡ true → eqb d 10 ≡ false
 unfolding digit
-digit-of k h = both (leb 48 (48 + k)) (leb (48 + k) 57) (le-leb 48 (48 + k) (omega arith)) (le-leb (48 + k) 57 (omega arith))
+digit-line d e = ne-eqb d 10 (λ h. true≢false (sym e ∙ ap digit h))
 
-again-one : (f : Numbering) (longest k : ℕ) (l : List ℕ) → k ≤ 9 → Passes f longest k l → Passes f longest k (numberOf f k ++ kept f l)
+no-digit : (x : List ℕ) → isNumbered (0 ∷ x) ≡ true → ⊥
+unfolding isNumbered digit
+no-digit [] e = false≢true e
+no-digit (b ∷ x) e = false≢true e
+
+number-line : (f : Numbering) (k d : ℕ) (x : List ℕ) → isNumber f k (numberOf f d ++ x) ≡ true → Line x → Line (numberOf f d ++ x)
 unfolding isNumbered
-again-one Unnumbered longest k l h p = p
-again-one Numbered longest k l h p = record { number = rw (digit-of k h); long = p .long; chars = p .chars }
-again-one InTurn longest k l h p = p
+number-line Unnumbered k d x e h = h
+number-line Numbered k d x e h = none-more d (47 ∷ x) (digit-line d (both-left (digit d) true e)) (none-more 47 x refl h)
+number-line InTurn k d x e h = h
 
--- a line written of one that was read: the same, or numbered as it is, with the same text
-abbrev pub Rewritten : List ℕ → List ℕ → Type 0
-Rewritten w l = (w ≡ l) ⊎ ((isNumbered w ≡ true) × (isNumbered l ≡ true) × (drop 2 w ≡ drop 2 l))
+pub written-lines : (f : Numbering) (longest k : ℕ) (ds : List ℕ) (us : List Used) → every isLine us ≡ true → AllPass f longest k (nameLines f ds us)
+    → All Line (nameLines f ds us)
+unfolding nameLines
+written-lines f longest k ds [] h p = tt
+written-lines f longest k ds (u ∷ us) h p = (
+  number-line f k (getD ds 0 0) (u .bytes) (p .0 .number) (line-free u (both-left (isLine u) (every isLine us) h)),
+  written-lines f longest (suc k) (drop 1 ds) us (both-right (isLine u) (every isLine us) h) (p .1),
+)
 
-again-written : (f : Numbering) (k : ℕ) (l : List ℕ) → k ≤ 9 → isNumber f k l ≡ true → Rewritten (numberOf f k ++ kept f l) l
+-- the digits of written lines that pass are those that were written
+pub digits-back : (f : Numbering) (longest k : ℕ) (ds : List ℕ) (us : List Used) → length ds ≤ length us → AllPass f longest k (nameLines f (where-numbered f ds) us)
+    → where-numbered f (map (digitOf f) (nameLines f (where-numbered f ds) us)) ≡ where-numbered f ds
+unfolding nameLines
+digits-back Unnumbered longest k ds us h p = refl
+digits-back InTurn longest k ds us h p = refl
+digits-back Numbered longest k [] [] h p = refl
+digits-back Numbered longest k (d ∷ ds) [] h p = absurd (omega arith)
+digits-back Numbered longest k [] (u ∷ us) h p = absurd (no-digit (47 ∷ u .bytes) (p .0 .number))
+digits-back Numbered longest k (d ∷ ds) (u ∷ us) h p = ap (_∷_ d) (digits-back Numbered longest (suc k) ds us (omega arith) (p .1))
+
+-- ---- lines that pass are written again of what is kept of them and of their digits
+abbrev pub again : Numbering → List (List ℕ) → List (List ℕ)
+again f ls = nameLines f (where-numbered f (map (digitOf f) ls)) (map usedOf (map (kept f) ls))
+
+numbered-again : (l : List ℕ) → isNumbered l ≡ true → (getD l 0 0 ∷ 47 ∷ drop 2 l) ≡ l
 unfolding isNumbered
-again-written Unnumbered k l h e = inl refl
-again-written Numbered k l h e = inr (rw (digit-of k h), e, refl)
-again-written InTurn k l h e = inl refl
+numbered-again [] e = absurd (false≢true e)
+numbered-again (d ∷ []) e = absurd (false≢true e)
+numbered-again (d ∷ s ∷ l) e = ap (λ (b : ℕ). d ∷ b ∷ l) (sym (eqb-true s 47 (both-right (digit d) (eqb s 47) e)))
 
--- lines written of the first ones of a body, each of the line in its place
-abbrev pub AllRewritten : List (List ℕ) → List (List ℕ) → Type 0
-AllRewritten [] ls = Unit {0}
-AllRewritten (w ∷ ws) [] = ⊥
-AllRewritten (w ∷ ws) (l ∷ ls) = Rewritten w l × AllRewritten ws ls
+line-again : (f : Numbering) (longest k : ℕ) (l : List ℕ) (ds : List ℕ) → Passes f longest k l
+    → numberOf f (getD (where-numbered f (digitOf f l ∷ ds)) 0 0) ++ kept f l ≡ l
+line-again Unnumbered longest k l ds p = refl
+line-again Numbered longest k l ds p = numbered-again l (p .number)
+line-again InTurn longest k l ds p = refl
 
-rewritten-length : (w l : List ℕ) → Rewritten w l → length w ≡ length l
-rewritten-length w l =
-    ⊎-elim (ap length) (λ h. omega (arith, numbered-room w (h .0), numbered-room l (h .1), length-drop 2 w, length-drop 2 l, ap length (h .2)))
+later-digits : (f : Numbering) (d : ℕ) (ds : List ℕ) → drop 1 (where-numbered f (d ∷ ds)) ≡ where-numbered f ds
+later-digits Unnumbered d ds = refl
+later-digits Numbered d ds = refl
+later-digits InTurn d ds = refl
 
--- they weigh no more
-pub rewritten-weight : (ws ls : List (List ℕ)) → AllRewritten ws ls → weight ws ≤ weight ls
-rewritten-weight [] ls h = omega arith
-rewritten-weight (w ∷ ws) [] h = absurd h
-rewritten-weight (w ∷ ws) (l ∷ ls) h = omega (arith, rewritten-length w l (h .0), rewritten-weight ws ls (h .1))
-
--- the lines that are written of what is kept of lines
-abbrev pub again : Numbering → ℕ → List (List ℕ) → List (List ℕ)
-again f k ls = nameLines f k (map usedOf (map (kept f) ls))
-
-module _ (f : Numbering) (longest : ℕ) where
-  pub again-pass : (k : ℕ) (ls : List (List ℕ)) → k + length ls ≤ 10 → AllPass f longest k ls → AllPass f longest k (again f k ls)
-  unfolding nameLines
-  again-pass k [] h p = tt
-  again-pass k (l ∷ ls) h p = (again-one f longest k l (omega arith) (p .0), again-pass (suc k) ls (omega arith) (p .1))
-
-  pub again-lines : (k : ℕ) (ls : List (List ℕ)) → k + length ls ≤ 10 → AllPass f longest k ls → AllRewritten (again f k ls) ls
-  unfolding nameLines
-  again-lines k [] h p = tt
-  again-lines k (l ∷ ls) h p = (again-written f k l (omega arith) (p .0 .number), again-lines (suc k) ls (omega arith) (p .1))
+pub again-same : (f : Numbering) (longest k : ℕ) (ls : List (List ℕ)) → AllPass f longest k ls → again f ls ≡ ls
+unfolding nameLines
+again-same f longest k [] p = refl
+again-same f longest k (l ∷ ls) p =
+    let us = map usedOf (map (kept f) ls) in
+    ap (λ (w : List ℕ). w ∷ nameLines f (drop 1 (where-numbered f (digitOf f l ∷ map (digitOf f) ls))) us) (line-again f longest k l (map (digitOf f) ls) (p .0))
+    ∙ ap (λ (ds : List ℕ). l ∷ nameLines f ds us) (later-digits f (digitOf f l) (map (digitOf f) ls))
+    ∙ ap (_∷_ l) (again-same f longest (suc k) ls (p .1))
 
 -- what is kept of lines fits a text, and is a line
 kept-most : (f : Numbering) (l : List ℕ) → length (kept f l) ≤ length (drop (skipOf f) l) + 2

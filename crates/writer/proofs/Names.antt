@@ -3,17 +3,19 @@ use Prim.Native.Nat.{ℕ, suc, _≤_, _<_, _+_, min}
 use mathlib.Core.Path.{_≡_, refl, _∙_, sym, ap}
 use mathlib.Core.Bool.{Bool, true, false, _&&_}
 use mathlib.Core.List.{List, [], _∷_, _++_, map}
+use native.Mathlib.Nat.{add-zero}
+use native.Mathlib.Numerals.{add-one}
 use native.Mathlib.Omega.{arith}
 use lib.Dec.{ltb}
 use borrow.Author.Tests.{lt-ltb}
 use lib.ListN.{length, take, drop, getD, length-map, length-append, length-take, drop-of-length-le, List·getD-map}
-use lib.Seq.{drop-cons, getD-take}
+use lib.Seq.{drop-cons, drop-drop, getD-drop, getD-take}
 use Rattle.party.specs.declared.PartyOption.{PartyOption}
 use Rattle.party.specs.declared.Text.{Text}
 use Rattle.party.specs.declared.Party.{Party}
 use Rattle.party.specs.Limits.{limitsOf}
 use Rattle.party.specs.Text.{Used, used}
-use Rattle.party.specs.Party.{said, IsParty, namesOf}
+use Rattle.party.specs.Party.{said, IsParty, namesOf, where-numbered}
 use Rattle.party.specs.declared.Numbering.{Numbering}
 use Rattle.party.specs.declared.Numbering.the-variants.{Unnumbered, Numbered, InTurn}
 use Rattle.party.proofs.Laws.{map-take, take-min}
@@ -30,10 +32,10 @@ abbrev pub namesIn : ℕ → Party → List Used
 namesIn n p = take n (map used (p .«name_and_address»))
 
 -- how long a name's number is
-pub number-length : (f : Numbering) (k : ℕ) → length (numberOf f k) ≡ keptFrom f
-number-length Unnumbered k = refl
-number-length Numbered k = refl
-number-length InTurn k = refl
+pub number-length : (f : Numbering) (d : ℕ) → length (numberOf f d) ≡ keptFrom f
+number-length Unnumbered d = refl
+number-length Numbered d = refl
+number-length InTurn d = refl
 
 pub marks-most : (f : Numbering) → keptFrom f ≤ 2
 marks-most Unnumbered = omega arith
@@ -41,10 +43,30 @@ marks-most Numbered = omega arith
 marks-most InTurn = omega arith
 
 -- a name's number as a part of an array
-pub number-part : (f : Numbering) (i : ℕ) → take (keptFrom f) ((49 + i) ∷ 47 ∷ []) ≡ numberOf f (suc i)
-number-part Unnumbered i = refl
-number-part Numbered i = let e : 49 + i ≡ 48 + suc i = omega arith in rw e
-number-part InTurn i = refl
+pub number-part : (f : Numbering) (d : ℕ) → take (keptFrom f) (d ∷ 47 ∷ []) ≡ numberOf f d
+number-part Unnumbered d = refl
+number-part Numbered d = refl
+number-part InTurn d = refl
+
+-- the lines of names have as many digits as there are names, and none where the option has none beside its texts
+number-used : (f : Numbering) (n : ℕ) (ds : List ℕ) (i : ℕ) → i < n → numberOf f (getD (where-numbered f (take n ds)) i 0) ≡ numberOf f (getD ds i 0)
+number-used Unnumbered n ds i h = refl
+number-used Numbered n ds i h = ap (numberOf Numbered) (getD-take n ds i 0 h)
+number-used InTurn n ds i h = refl
+
+lines-agree : (f : Numbering) (ds es : List ℕ) (us : List Used) → ((i : ℕ) → i < length us → numberOf f (getD ds i 0) ≡ numberOf f (getD es i 0)) → nameLines f ds us ≡ nameLines f es us
+unfolding nameLines
+lines-agree f ds es [] h = refl
+lines-agree f ds es (u ∷ us) h =
+    ap (λ (m : List ℕ). (m ++ u .bytes) ∷ nameLines f (drop 1 ds) us) (h 0 (omega arith))
+    ∙ ap (_∷_ (numberOf f (getD es 0 0) ++ u .bytes))
+    (lines-agree f (drop 1 ds) (drop 1 es) us (λ i k. rw (getD-drop 1 ds i 0, getD-drop 1 es i 0, one-add i) (h (suc i) (omega arith))))
+  where
+    one-add : (i : ℕ) → 1 + i ≡ suc i
+    one-add i = omega arith
+
+pub used-digits : (f : Numbering) (n : ℕ) (ds : List ℕ) (us : List Used) → length us ≤ n → nameLines f (where-numbered f (take n ds)) us ≡ nameLines f ds us
+used-digits f n ds us h = lines-agree f (where-numbered f (take n ds)) ds us (λ i k. number-used f n ds i (omega arith))
 
 -- ---- the names that are used
 pub count-none : (o : PartyOption) (count : ℕ) → limitsOf o .names ≡ 0 → nameCount o count ≡ 0
@@ -53,12 +75,19 @@ count-none o count e = rw (e, nameCount)
 pub count-some : (o : PartyOption) (count : ℕ) → (limitsOf o .names ≡ 0 → ⊥) → nameCount o count ≡ min count 4
 count-some o count h = rw (lt-ltb 0 (limitsOf o .names) (omega arith), nameCount)
 
-four : (o : PartyOption) (count : ℕ) → nameCount o count ≤ 4
-four o count = go (ltb 0 (limitsOf o .names))
+counted : (o : PartyOption) (count : ℕ) → nameCount o count ≤ min count 4
+counted o count = go (ltb 0 (limitsOf o .names))
   where
-    go : (t : Bool) → elim t [ true ↦ min count 4 | false ↦ 0 ] ≤ 4
+    go : (t : Bool) → elim t [ true ↦ min count 4 | false ↦ 0 ] ≤ min count 4
     go true = omega arith
     go false = omega arith
+
+-- the digit at a place, and those after it
+digit-here : (ds : List ℕ) (i : ℕ) → getD (drop i ds) 0 0 ≡ getD ds i 0
+digit-here ds i = getD-drop i ds 0 0 ∙ ap (λ (k : ℕ). getD ds k 0) (add-zero i)
+
+digits-next : (ds : List ℕ) (i : ℕ) → drop 1 (drop i ds) ≡ drop (suc i) ds
+digits-next ds i = drop-drop 1 i ds ∙ ap (λ (k : ℕ). drop k ds) (add-one i)
 
 module _ (p : Party) (sizes : IsParty p) where
   names-size : length (map used (p .«name_and_address»)) ≡ 4
@@ -76,7 +105,7 @@ module _ (p : Party) (sizes : IsParty p) where
 
   module _ {n : ℕ} (count : n ≡ nameCount (p .option) (p .count)) where
     pub few : n ≤ 4
-    few = omega (arith, four (p .option) (p .count))
+    few = omega (arith, counted (p .option) (p .count))
 
     pub said-names : said p .names ≡ namesIn n p
     said-names = said-first ∙ ap (λ (m : ℕ). namesIn m p) (sym count)
@@ -93,34 +122,42 @@ module _ (p : Party) (sizes : IsParty p) where
         ∙ ap (λ (u : Used). u ∷ drop (suc i) (namesIn n p))
         (getD-take n (map used (p .«name_and_address»)) i (used none) h ∙ List·getD-map used (p .«name_and_address») i none)
 
+    -- the lines of the names, by the record's digits
+    pub said-lines : let f = limitsOf (p .option) .numbering in nameLines f (said p .digits) (said p .names) ≡ nameLines f (p .digits) (namesIn n p)
+    unfolding said
+    said-lines =
+        let f = limitsOf (p .option) .numbering in
+        ap (nameLines f (said p .digits)) said-names
+        ∙ used-digits f (p .count) (p .digits) (namesIn n p) (omega (arith, names-length, count, counted (p .option) (p .count)))
+
     -- what is left of the names' text, from the i-th on
     pub left-next :
         (f : Numbering) (later : Bool) (i : ℕ) → i < n →
-        led later (nameLines f (suc i) (drop i (namesIn n p)))
-        ≡ (lead later ++ (numberOf f (suc i) ++ used (getD (p .«name_and_address») i none) .bytes))
-        ++ led true (nameLines f (suc (suc i)) (drop (suc i) (namesIn n p)))
+        led later (nameLines f (drop i (p .digits)) (drop i (namesIn n p)))
+        ≡ (lead later ++ (numberOf f (getD (p .digits) i 0) ++ used (getD (p .«name_and_address») i none) .bytes))
+        ++ led true (nameLines f (drop (suc i) (p .digits)) (drop (suc i) (namesIn n p)))
     unfolding led nameLines
-    left-next f later i h = rw (names-next i h)
+    left-next f later i h = rw (names-next i h, digit-here (p .digits) i, digits-next (p .digits) i)
 
     pub left-length :
         (f : Numbering) (later : Bool) (i : ℕ) → i < n →
-        length (led later (nameLines f (suc i) (drop i (namesIn n p))))
+        length (led later (nameLines f (drop i (p .digits)) (drop i (namesIn n p))))
         ≡ length (lead later) + keptFrom f + length (used (getD (p .«name_and_address») i none) .bytes)
-        + length (led true (nameLines f (suc (suc i)) (drop (suc i) (namesIn n p))))
+        + length (led true (nameLines f (drop (suc i) (p .digits)) (drop (suc i) (namesIn n p))))
     left-length f later i h = rw (left-next f later i h) (simp (length-append, number-length) (omega arith))
 
-    pub left-end : (f : Numbering) (later : Bool) (i : ℕ) → n ≤ i → led later (nameLines f (suc i) (drop i (namesIn n p))) ≡ []
+    pub left-end : (f : Numbering) (later : Bool) (i : ℕ) → n ≤ i → led later (nameLines f (drop i (p .digits)) (drop i (namesIn n p))) ≡ []
     unfolding led nameLines
     left-end f later i h = rw (names-end i h)
 
     -- what is left of the names' test
     pub all-next :
         (f : Numbering) (longest i : ℕ) → i < n →
-        allNames f longest (suc i) (drop i (namesIn n p))
-        ≡ (isName f longest (suc i) (used (getD (p .«name_and_address») i none)) && allNames f longest (suc (suc i)) (drop (suc i) (namesIn n p)))
+        allNames f longest (suc i) (drop i (p .digits)) (drop i (namesIn n p))
+        ≡ (isName f longest (suc i) (getD (p .digits) i 0) (used (getD (p .«name_and_address») i none)) && allNames f longest (suc (suc i)) (drop (suc i) (p .digits)) (drop (suc i) (namesIn n p)))
     unfolding allNames
-    all-next f longest i h = rw (names-next i h)
+    all-next f longest i h = rw (names-next i h, digit-here (p .digits) i, digits-next (p .digits) i)
 
-    pub all-end : (f : Numbering) (longest i : ℕ) → n ≤ i → allNames f longest (suc i) (drop i (namesIn n p)) ≡ true
+    pub all-end : (f : Numbering) (longest i : ℕ) → n ≤ i → allNames f longest (suc i) (drop i (p .digits)) (drop i (namesIn n p)) ≡ true
     unfolding allNames
     all-end f longest i h = rw (names-end i h)

@@ -1,8 +1,7 @@
--- A record that an accepted body gives passes the test for 22, and its lines are written of the body's. Assumes nothing.
+-- A record that an accepted body gives passes the test for 22, and its written lines are the body's first ones. Assumes nothing.
 use mathlib.Core.Path.{_≡_, refl, sym, _∙_, ap, subst}
 use mathlib.Core.Bool.{Bool, true, false, not, _&&_, and-false, true≢false}
-use mathlib.Core.List.{List, [], _∷_, _++_, map}
-use mathlib.Core.Logic.{inl}
+use mathlib.Core.List.{List, [], _∷_, _++_, map, append-nil}
 use Prim.Native.Nat.{ℕ, zero, suc, _+_, _≤_, _<_}
 use native.Mathlib.Omega.{arith}
 use lib.Dec.{eqb}
@@ -14,7 +13,7 @@ use Rattle.party.specs.declared.PartyOption.{PartyOption}
 use Rattle.party.specs.declared.PartyOption.the-variants.{Field50NoOption, Field50A, Field50F, Field50K, Field50C, Field50L, Field50G, Field50H, Field59NoOption, Field59A, Field59F}
 use Rattle.party.specs.Limits.{limitsOf}
 use Rattle.party.specs.Text.{Used}
-use Rattle.party.specs.Party.{Said}
+use Rattle.party.specs.Party.{where-numbered, Said}
 use Rattle.party.specs.declared.First.{First}
 use Rattle.party.specs.declared.First.the-variants.{NoAccount, Identified, Account, ShortAccount, SlashAccount, AnyAccount, WholeLine}
 use Rattle.party.specs.declared.Layout.{Layout}
@@ -23,7 +22,7 @@ use Rattle.party.proofs.Options.{by-option}
 use Rattle.swift_utils.specs.Bytes.{all, among, letter, digit, alphanumeric}
 use Rattle.swift_utils.specs.Checks.{bicLength, parseBic}
 use Rattle.field_utils.specs.Lines.{onto, starts, lines}
-use Rattle.field_utils.specs.Names.{parseNameAndAddress, kept}
+use Rattle.field_utils.specs.Names.{parseNameAndAddress, kept, digitOf}
 use Rattle.field_utils.proofs.Tests.{both-left, both-right, both, rest-not, none-more, first-not, Line}
 use Rattle.reader.specs.Reading.{Found}
 use Rattle.reader.specs.Options.{isCounted, Head, noHead, headBy, accountReply, withNames, withBic, afterHead, fromHead, byLines, bicOnly, textOnly, foundBy, ascii}
@@ -32,13 +31,15 @@ use Rattle.reader.proofs.Bodies.{head-there, head-none}
 use Rattle.reader.proofs.Readings.{rest-bic, rest-names}
 use Rattle.writer.specs.Writing.{slashOf, nameLines, writtenLines}
 use Rattle.writer.specs.Given.{passes, every, isLine, textReply, isAccount, isPresence, isBic, areNames, isTaken}
-use Rattle.writer.proofs.NamePasses.{passing, NamesPass, names-held, names-pass, written-length, again, again-pass, AllRewritten, rewritten-weight, again-lines, kept-short, kept-lines}
+use Rattle.writer.proofs.NamePasses.{passing, NamesPass, names-held, names-pass, again, again-same, kept-short, kept-lines}
+use Rattle.writer.specs.Sender.{readLines, Leads}
 use Rattle.writer.proofs.Relined.{All, weight, lines-are}
 use Rattle.writer.proofs.Sayings.{usedOf, Short, Fitting, saying, line-is, lines-is}
 use Rattle.writer.proofs.HeadPasses.{slashBy, extra-most, text-length, There, None, first-there, first-none}
 use Rattle.writer.proofs.Facts.{Facts, are-names, small}
 use Rattle.writer.proofs.Written.{bic-any}
 use Rattle.writer.proofs.Witness.{bic-most}
+use Rattle.writer.proofs.Sizes.{weight-append}
 
 -- ---- a test that every byte of a body passes is passed by every byte of its lines
 module _ (f : ℕ → Bool) where
@@ -87,16 +88,23 @@ module _ (o : PartyOption) (l : List ℕ) (ls : List (List ℕ)) (e : byLines o 
       let t = first-none (limitsOf o .first) o l p in
       record { none = t; found = head-none o l ls (sym (t .head)) counted refl refl refl }
 
--- ---- what is found is good: it fits a record, that passes the test, and its lines, of which there are some, are written of the body's
+-- ---- what is found is good: it fits a record, that passes the test, and its written lines, of which there are some, are the body's
 pub record Good (f : Found) (s : Said) (ls : List (List ℕ)) : Type 0 where
   pub reply : f .reply ≡ accepted
   pub fits : Fitting f
   pub facts : Facts s
   pub some : 0 < length (writtenLines s)
-  pub lines : AllRewritten (writtenLines s) ls
+  pub lines : Leads (s .option) (writtenLines s) ls
 
 pub light : {f : Found} {s : Said} {ls : List (List ℕ)} → Good f s ls → weight (writtenLines s) ≤ weight ls
-light {s = s} {ls = ls} g = rewritten-weight (writtenLines s) ls (g .lines)
+light {s = s} {ls = ls} g = omega (arith, ap weight (g .lines .are), weight-append (writtenLines s) (g .lines .rest))
+
+-- all of the lines, or those up to the BIC
+all-lines : (o : PartyOption) {ws ls : List (List ℕ)} → ls ≡ ws → Leads o ws ls
+all-lines o {ws} e = record { rest = []; are = e ∙ sym (append-nil ws); all = λ z. refl }
+
+to-bic : (o : PartyOption) {ws ls : List (List ℕ)} (rest : List (List ℕ)) → limitsOf o .names ≡ 0 → ls ≡ ws ++ rest → Leads o ws ls
+to-bic o rest z e = record { rest = rest; are = e; all = λ n. absurd (n z) }
 
 -- the parts
 slash-line : (o : PartyOption) (x l : List ℕ) → l ≡ slashBy (limitsOf o .first) ++ x → Line l → Line x
@@ -124,28 +132,31 @@ account-none o = both (isAccount o false (usedOf [])) true (line-is [] refl) ref
 bic-there : (n : ℕ) (b : List ℕ) → Line b → parseBic n b ≡ accepted → every isBic (usedOf b ∷ []) ≡ true
 bic-there n b h e = both (isBic (usedOf b)) true (both (isLine (usedOf b)) (passes (parseBic 1 b)) (line-is b h) (passing _ (bic-any n 1 b e))) refl
 
-no-names : (o : PartyOption) → limitsOf o .names ≡ 0 → areNames o 0 [] ≡ true
-no-names o z = are-names o 0 [] (record { counted = refl; lines = refl; pass = λ n. absurd (true≢false (sym (eq-eqb (limitsOf o .names) 0 z) ∙ n)) })
+no-names : (o : PartyOption) → limitsOf o .names ≡ 0 → areNames o 0 [] [] ≡ true
+no-names o z = are-names o 0 [] [] (record { counted = refl; lines = refl; pass = λ n. absurd (true≢false (sym (eq-eqb (limitsOf o .names) 0 z) ∙ n)) })
 
 module _ (o : PartyOption) (ls : List (List ℕ)) (h : All Line ls) (p : NamesPass o ls) where
   abbrev names : List (List ℕ)
   names = map (kept (limitsOf o .numbering)) ls
 
-  names-there : areNames o (length names) (map usedOf names) ≡ true
+  abbrev digits : List ℕ
+  digits = map (digitOf (limitsOf o .numbering)) ls
+
+  -- the lines themselves
+  written : again (limitsOf o .numbering) ls ≡ ls
+  written = again-same (limitsOf o .numbering) (limitsOf o .name) 1 ls (p .each)
+
+  names-there : areNames o (length names) (where-numbered (limitsOf o .numbering) digits) (map usedOf names) ≡ true
   names-there =
-      are-names o (length names) (map usedOf names)
+      are-names o (length names) (where-numbered (limitsOf o .numbering) digits) (map usedOf names)
       (record {
         counted = length-map names usedOf;
         lines = lines-is names (kept-lines (limitsOf o .numbering) ls h);
-        pass = λ z. record {
-          each = again-pass (limitsOf o .numbering) (limitsOf o .name) 1 ls (omega (arith, p .most, small o .names)) (p .each);
-          least = rw (again-count) (p .least);
-          most = rw (again-count) (p .most);
-        };
+        pass = λ z. subst (NamesPass o) (sym written) p;
       })
-    where
-      again-count : length (again (limitsOf o .numbering) 1 ls) ≡ length ls
-      again-count = written-length (limitsOf o .numbering) 1 (map usedOf names) ∙ length-map names usedOf ∙ length-map ls (kept (limitsOf o .numbering))
+
+  digits-fit : length digits ≡ length names
+  digits-fit = length-map ls (digitOf (limitsOf o .numbering)) ∙ sym (length-map ls (kept (limitsOf o .numbering)))
 
   names-fit : All Short names
   names-fit = kept-short (limitsOf o .numbering) (limitsOf o .name) 1 ls (omega (arith, small o .name)) (p .each)
@@ -162,18 +173,22 @@ names-of o n h ls z e = names-held o n ls (ap (λ (f : Found). f .reply) (sym (r
 
 -- what is said where there is a BIC, and where there are names
 abbrev withOne : PartyOption → Bool → List ℕ → List ℕ → Said
-withOne o present x b = record { option = o; present = present; count = 0; account = usedOf x ∷ []; bic = usedOf b ∷ []; names = [] }
+withOne o present x b = record { option = o; present = present; count = 0; account = usedOf x ∷ []; bic = usedOf b ∷ []; names = []; digits = [] }
 
-abbrev withSome : PartyOption → Bool → List Used → List (List ℕ) → Said
-withSome o present us ns = record { option = o; present = present; count = length ns; account = us; bic = []; names = map usedOf ns }
+abbrev withSome : PartyOption → Bool → List Used → List (List ℕ) → List ℕ → Said
+withSome o present us ns ds = record {
+  option = o;
+  present = present;
+  count = length ns;
+  account = us;
+  bic = [];
+  names = map usedOf ns;
+  digits = where-numbered (limitsOf o .numbering) ds;
+}
 
 module _ (o : PartyOption) where
   slash-is : (x l : List ℕ) → slashOf o ≡ slashBy (limitsOf o .first) → l ≡ slashBy (limitsOf o .first) ++ x → slashOf o ++ x ≡ l
   slash-is x l s e = ap (λ (w : List ℕ). w ++ x) s ∙ sym e
-
-  -- names are few enough to be numbered by one digit
-  few : (ls : List (List ℕ)) → NamesPass o ls → 1 + length ls ≤ 10
-  few ls p = omega (arith, p .most, small o .names)
 
   bic-heading : (z : limitsOf o .names ≡ 0) → isPresence o true ≡ true → slashOf o ≡ slashBy (limitsOf o .first) → (l : List ℕ) (ls : List (List ℕ)) (d : Heading o l ls)
       → All Line (l ∷ ls) → byLines o (l ∷ ls) .reply ≡ accepted → (b : List ℕ) (rest : List (List ℕ)) → ls ≡ b ∷ rest
@@ -186,7 +201,7 @@ module _ (o : PartyOption) where
       let k : All Line (b ∷ rest) = subst (All Line) q (h .1) in
       record {
         reply = a;
-        fits = record { account = text-short o x (d .there .passes); bic = omega (arith, bic-most 2 b a); names = tt; few = omega arith };
+        fits = record { account = text-short o x (d .there .passes); bic = omega (arith, bic-most 2 b a); names = tt; few = omega arith; digits = refl };
         facts = record {
           presence = i;
           account = account-there o x (slash-line o x l (d .there .is) (h .0)) (d .there .passes);
@@ -195,7 +210,7 @@ module _ (o : PartyOption) where
           free = refl;
         };
         some = omega arith;
-        lines = (inl (slash-is x l s (d .there .is)), subst (AllRewritten (b ∷ [])) (sym q) (inl refl, tt));
+        lines = to-bic o rest z (ap (λ (w : List ℕ). w ∷ ls) (sym (slash-is x l s (d .there .is))) ∙ ap (_∷_ (slashOf o ++ x)) q);
       }
 
   bic-headless : (z : limitsOf o .names ≡ 0) → isPresence o false ≡ true → (l : List ℕ) (ls : List (List ℕ)) → All Line (l ∷ ls) → Headless o l ls → byLines o (l ∷ ls) .reply ≡ accepted
@@ -205,15 +220,15 @@ module _ (o : PartyOption) where
       let a : parseBic 1 l ≡ accepted = bic-of o 1 noHead (l ∷ ls) z (ap (λ (f : Found). f .reply) (sym (d .found)) ∙ e) in
       record {
         reply = a;
-        fits = record { account = omega arith; bic = omega (arith, bic-most 1 l a); names = tt; few = omega arith };
+        fits = record { account = omega arith; bic = omega (arith, bic-most 1 l a); names = tt; few = omega arith; digits = refl };
         facts = record { presence = i; account = account-none o; bic = bic-there 1 l (h .0) a; names = no-names o z; free = t };
         some = omega arith;
-        lines = (inl refl, tt);
+        lines = to-bic o ls z refl;
       }
 
   names-heading : (z : limitsOf o .names ≡ 0 → ⊥) → isPresence o true ≡ true → slashOf o ≡ slashBy (limitsOf o .first) → (l : List ℕ) (ls : List (List ℕ)) (d : Heading o l ls)
       → All Line (l ∷ ls) → byLines o (l ∷ ls) .reply ≡ accepted
-      → Good (withNames o 2 (passedHead true (d .there .text)) ls) (withSome o true (usedOf (d .there .text) ∷ []) (map (kept (limitsOf o .numbering)) ls)) (l ∷ ls)
+      → Good (withNames o 2 (passedHead true (d .there .text)) ls) (withSome o true (usedOf (d .there .text) ∷ []) (map (kept (limitsOf o .numbering)) ls) (map (digitOf (limitsOf o .numbering)) ls)) (l ∷ ls)
   unfolding writtenLines
   names-heading z i s l ls d h e =
       let x = d .there .text in
@@ -221,7 +236,7 @@ module _ (o : PartyOption) where
       let p = names-of o 2 (passedHead true x) ls z r in
       record {
         reply = names-pass o 2 ls p;
-        fits = record { account = text-short o x (d .there .passes); bic = omega arith; names = names-fit o ls (h .1) p; few = names-few o ls (h .1) p };
+        fits = record { account = text-short o x (d .there .passes); bic = omega arith; names = names-fit o ls (h .1) p; few = names-few o ls (h .1) p; digits = digits-fit o ls (h .1) p };
         facts = record {
           presence = i;
           account = account-there o x (slash-line o x l (d .there .is) (h .0)) (d .there .passes);
@@ -230,23 +245,23 @@ module _ (o : PartyOption) where
           free = refl;
         };
         some = omega arith;
-        lines = (inl (slash-is x l s (d .there .is)), again-lines (limitsOf o .numbering) (limitsOf o .name) 1 ls (few ls p) (p .each));
+        lines = all-lines o (ap (λ (w : List ℕ). w ∷ ls) (sym (slash-is x l s (d .there .is))) ∙ ap (_∷_ (slashOf o ++ x)) (sym (written o ls (h .1) p)));
       }
 
   names-headless : (z : limitsOf o .names ≡ 0 → ⊥) → isPresence o false ≡ true → (us : List Used) → every (isAccount o false) us ≡ true → (l : List ℕ) (ls : List (List ℕ))
       → All Line (l ∷ ls) → Headless o l ls → byLines o (l ∷ ls) .reply ≡ accepted
       → (NamesPass o (l ∷ ls) → isTaken (limitsOf o .first) (map usedOf (map (kept (limitsOf o .numbering)) (l ∷ ls))) ≡ false)
-      → Good (withNames o 1 noHead (l ∷ ls)) (withSome o false us (map (kept (limitsOf o .numbering)) (l ∷ ls))) (l ∷ ls)
+      → Good (withNames o 1 noHead (l ∷ ls)) (withSome o false us (map (kept (limitsOf o .numbering)) (l ∷ ls)) (map (digitOf (limitsOf o .numbering)) (l ∷ ls))) (l ∷ ls)
   unfolding writtenLines
   names-headless z i us a l ls h d e t =
       let r : afterHead o 1 noHead (l ∷ ls) .reply ≡ accepted = ap (λ (f : Found). f .reply) (sym (d .found)) ∙ e in
       let p = names-of o 1 noHead (l ∷ ls) z r in
       record {
         reply = names-pass o 1 (l ∷ ls) p;
-        fits = record { account = omega arith; bic = omega arith; names = names-fit o (l ∷ ls) h p; few = names-few o (l ∷ ls) h p };
+        fits = record { account = omega arith; bic = omega arith; names = names-fit o (l ∷ ls) h p; few = names-few o (l ∷ ls) h p; digits = digits-fit o (l ∷ ls) h p };
         facts = record { presence = i; account = a; bic = refl; names = names-there o (l ∷ ls) h p; free = t p };
-        some = omega (arith, written-length (limitsOf o .numbering) 1 (map usedOf (map (kept (limitsOf o .numbering)) (l ∷ ls))));
-        lines = again-lines (limitsOf o .numbering) (limitsOf o .name) 1 (l ∷ ls) (few (l ∷ ls) p) (p .each);
+        some = omega (arith, ap length (written o (l ∷ ls) h p));
+        lines = all-lines o (sym (written o (l ∷ ls) h p));
       }
 
 -- ---- by the option
@@ -278,7 +293,7 @@ short-name l ls p = omega (arith, p .each .0 .long, length-drop 1 l)
 
 module _ (l : List ℕ) (ls : List (List ℕ)) (h : All Line (l ∷ ls)) where
   bic-there-good : (o : PartyOption) (z : limitsOf o .names ≡ 0) → isPresence o true ≡ true → slashOf o ≡ slashBy (limitsOf o .first)
-      → ((r : Reply) (x b : List ℕ) → saying o (record { reply = r; present = true; account = x; bic = b; names = [] }) ≡ withOne o true x b)
+      → ((r : Reply) (x b : List ℕ) → saying o (record { reply = r; present = true; account = x; bic = b; names = []; digits = [] }) ≡ withOne o true x b)
       → byLines o (l ∷ ls) .reply ≡ accepted → Heading o l ls → GoodIn o (l ∷ ls) (byLines o (l ∷ ls))
   bic-there-good o z i s same e d =
       let x = d .there .text in
@@ -289,7 +304,7 @@ module _ (l : List ℕ) (ls : List (List ℕ)) (h : All Line (l ∷ ls)) where
       (subst (λ (w : Said). Good (withBic 2 (passedHead true x) (b ∷ rest)) w (l ∷ ls)) (sym (same (parseBic 2 b) x b)) (bic-heading o z i s l ls d h e b rest r)))
 
   bic-none-good : (o : PartyOption) (z : limitsOf o .names ≡ 0) → isPresence o false ≡ true → isTaken (limitsOf o .first) [] ≡ false
-      → ((r : Reply) (b : List ℕ) → saying o (record { reply = r; present = false; account = []; bic = b; names = [] }) ≡ withOne o false [] b)
+      → ((r : Reply) (b : List ℕ) → saying o (record { reply = r; present = false; account = []; bic = b; names = []; digits = [] }) ≡ withOne o false [] b)
       → byLines o (l ∷ ls) .reply ≡ accepted → Headless o l ls → GoodIn o (l ∷ ls) (byLines o (l ∷ ls))
   bic-none-good o z i t same e d =
       let q : byLines o (l ∷ ls) ≡ withBic 1 noHead (l ∷ ls) = d .found ∙ rest-bic o refl 1 noHead (l ∷ ls) z in
@@ -297,23 +312,23 @@ module _ (l : List ℕ) (ls : List (List ℕ)) (h : All Line (l ∷ ls)) where
       (subst (λ (w : Said). Good (withBic 1 noHead (l ∷ ls)) w (l ∷ ls)) (sym (same (parseBic 1 l) l)) (bic-headless o z i l ls h d e t))
 
   names-there-good : (o : PartyOption) (z : limitsOf o .names ≡ 0 → ⊥) → isPresence o true ≡ true → slashOf o ≡ slashBy (limitsOf o .first)
-      → ((r : Reply) (x : List ℕ) (ns : List (List ℕ)) → saying o (record { reply = r; present = true; account = x; bic = []; names = ns }) ≡ withSome o true (usedOf x ∷ []) ns)
+      → ((r : Reply) (x : List ℕ) (ns : List (List ℕ)) (ds : List ℕ) → saying o (record { reply = r; present = true; account = x; bic = []; names = ns; digits = ds }) ≡ withSome o true (usedOf x ∷ []) ns ds)
       → byLines o (l ∷ ls) .reply ≡ accepted → Heading o l ls → GoodIn o (l ∷ ls) (byLines o (l ∷ ls))
   names-there-good o z i s same e d =
       let x = d .there .text in
       let q : byLines o (l ∷ ls) ≡ withNames o 2 (passedHead true x) ls = d .found ∙ rest-names o refl 2 (passedHead true x) ls z in
       subst (GoodIn o (l ∷ ls)) (sym q)
-      (subst (λ (w : Said). Good (withNames o 2 (passedHead true x) ls) w (l ∷ ls)) (sym (same (parseNameAndAddress o 2 ls) x (map (kept (limitsOf o .numbering)) ls)))
+      (subst (λ (w : Said). Good (withNames o 2 (passedHead true x) ls) w (l ∷ ls)) (sym (same (parseNameAndAddress o 2 ls) x (map (kept (limitsOf o .numbering)) ls) (map (digitOf (limitsOf o .numbering)) ls)))
       (names-heading o z i s l ls d h e))
 
   names-none-good : (o : PartyOption) (z : limitsOf o .names ≡ 0 → ⊥) → isPresence o false ≡ true → (us : List Used) → every (isAccount o false) us ≡ true
-      → ((r : Reply) (ns : List (List ℕ)) → saying o (record { reply = r; present = false; account = []; bic = []; names = ns }) ≡ withSome o false us ns)
+      → ((r : Reply) (ns : List (List ℕ)) (ds : List ℕ) → saying o (record { reply = r; present = false; account = []; bic = []; names = ns; digits = ds }) ≡ withSome o false us ns ds)
       → (None (limitsOf o .first) o l → NamesPass o (l ∷ ls) → isTaken (limitsOf o .first) (map usedOf (map (kept (limitsOf o .numbering)) (l ∷ ls))) ≡ false)
       → byLines o (l ∷ ls) .reply ≡ accepted → Headless o l ls → GoodIn o (l ∷ ls) (byLines o (l ∷ ls))
   names-none-good o z i us a same t e d =
       let q : byLines o (l ∷ ls) ≡ withNames o 1 noHead (l ∷ ls) = d .found ∙ rest-names o refl 1 noHead (l ∷ ls) z in
       subst (GoodIn o (l ∷ ls)) (sym q)
-      (subst (λ (w : Said). Good (withNames o 1 noHead (l ∷ ls)) w (l ∷ ls)) (sym (same (parseNameAndAddress o 1 (l ∷ ls)) (map (kept (limitsOf o .numbering)) (l ∷ ls))))
+      (subst (λ (w : Said). Good (withNames o 1 noHead (l ∷ ls)) w (l ∷ ls)) (sym (same (parseNameAndAddress o 1 (l ∷ ls)) (map (kept (limitsOf o .numbering)) (l ∷ ls)) (map (digitOf (limitsOf o .numbering)) (l ∷ ls))))
       (names-headless o z i us a l ls h d e (t (d .none))))
 
   -- the options whose bodies are lines
@@ -325,15 +340,15 @@ module _ (l : List ℕ) (ls : List (List ℕ)) (h : All Line (l ∷ ls)) where
   pub lines-good : (o : PartyOption) → Lined (limitsOf o .layout) o
   lines-good =
       by-option (λ (o : PartyOption). Lined (limitsOf o .layout) o)
-      (λ a e. by-head Field50NoOption l ls a e (λ d. absurd (named-not Field50NoOption l ls refl d)) (names-none-good Field50NoOption (λ z. omega arith) refl [] refl (λ r ns. refl) (λ n p. refl) e))
+      (λ a e. by-head Field50NoOption l ls a e (λ d. absurd (named-not Field50NoOption l ls refl d)) (names-none-good Field50NoOption (λ z. omega arith) refl [] refl (λ r ns ds. refl) (λ n p. refl) e))
       (λ a e. by-head Field50A l ls a e (bic-there-good Field50A refl refl refl (λ r x b. refl) e) (bic-none-good Field50A refl refl refl (λ r b. refl) e))
-      (λ a e. by-head Field50F l ls a e (names-there-good Field50F (λ z. omega arith) refl refl (λ r x ns. refl) e) (λ d. absurd (d .none .free)))
-      (λ a e. by-head Field50K l ls a e (names-there-good Field50K (λ z. omega arith) refl refl (λ r x ns. refl) e) (names-none-good Field50K (λ z. omega arith) refl (usedOf [] ∷ []) (account-none Field50K) (λ r ns. refl) (λ n p. n .free) e))
+      (λ a e. by-head Field50F l ls a e (names-there-good Field50F (λ z. omega arith) refl refl (λ r x ns ds. refl) e) (λ d. absurd (d .none .free)))
+      (λ a e. by-head Field50K l ls a e (names-there-good Field50K (λ z. omega arith) refl refl (λ r x ns ds. refl) e) (names-none-good Field50K (λ z. omega arith) refl (usedOf [] ∷ []) (account-none Field50K) (λ r ns ds. refl) (λ n p. n .free) e))
       tt tt (λ a e. by-head Field50G l ls a e (bic-there-good Field50G refl refl refl (λ r x b. refl) e) (λ d. absurd (d .none .free)))
-      (λ a e. by-head Field50H l ls a e (names-there-good Field50H (λ z. omega arith) refl refl (λ r x ns. refl) e) (λ d. absurd (d .none .free)))
-      (λ a e. by-head Field59NoOption l ls a e (names-there-good Field59NoOption (λ z. omega arith) refl refl (λ r x ns. refl) e) (names-none-good Field59NoOption (λ z. omega arith) refl (usedOf [] ∷ []) (account-none Field59NoOption) (λ r ns. refl) (λ n p. n .free (short-name l ls p)) e))
+      (λ a e. by-head Field50H l ls a e (names-there-good Field50H (λ z. omega arith) refl refl (λ r x ns ds. refl) e) (λ d. absurd (d .none .free)))
+      (λ a e. by-head Field59NoOption l ls a e (names-there-good Field59NoOption (λ z. omega arith) refl refl (λ r x ns ds. refl) e) (names-none-good Field59NoOption (λ z. omega arith) refl (usedOf [] ∷ []) (account-none Field59NoOption) (λ r ns ds. refl) (λ n p. n .free (short-name l ls p)) e))
       (λ a e. by-head Field59A l ls a e (bic-there-good Field59A refl refl refl (λ r x b. refl) e) (bic-none-good Field59A refl refl refl (λ r b. refl) e))
-      (λ a e. by-head Field59F l ls a e (names-there-good Field59F (λ z. omega arith) refl refl (λ r x ns. refl) e) (names-none-good Field59F (λ z. omega arith) refl (usedOf [] ∷ []) (account-none Field59F) (λ r ns. refl) (λ n p. refl) e))
+      (λ a e. by-head Field59F l ls a e (names-there-good Field59F (λ z. omega arith) refl refl (λ r x ns ds. refl) e) (names-none-good Field59F (λ z. omega arith) refl (usedOf [] ∷ []) (account-none Field59F) (λ r ns ds. refl) (λ n p. refl) e))
 
 -- ---- bodies that are a BIC, or a text
 all-free : (f : ℕ → Bool) (x : List ℕ) → f 10 ≡ false → all f x ≡ true → Line x
@@ -366,10 +381,10 @@ unfolding writtenLines nameLines
 bic-only-good body e =
     record {
       reply = e;
-      fits = record { account = omega arith; bic = omega (arith, bic-most 1 body e); names = tt; few = omega arith };
+      fits = record { account = omega arith; bic = omega (arith, bic-most 1 body e); names = tt; few = omega arith; digits = refl };
       facts = record { presence = refl; account = refl; bic = bic-there 1 body (letters-free 1 body e) e; names = no-names Field50C refl; free = refl };
       some = omega arith;
-      lines = (inl refl, tt);
+      lines = all-lines Field50C refl;
     }
 
 text-only-good : (body : List ℕ) → textOnly Field50L body .reply ≡ accepted → GoodIn Field50L (body ∷ []) (textOnly Field50L body)
@@ -379,19 +394,13 @@ text-only-good body e =
     let a : accountReply Field50L body ≡ accepted = then-second (must (not (among body 10)) 1 0) _ e in
     record {
       reply = e;
-      fits = record { account = text-short Field50L body a; bic = omega arith; names = tt; few = omega arith };
+      fits = record { account = text-short Field50L body a; bic = omega arith; names = tt; few = omega arith; digits = refl };
       facts = record { presence = refl; account = account-there Field50L body line a; bic = refl; names = no-names Field50L refl; free = refl };
       some = omega arith;
-      lines = (inl refl, tt);
+      lines = all-lines Field50L refl;
     }
 
 -- ---- any body
--- the lines that an option reads
-abbrev pub readLines : Layout → List ℕ → List (List ℕ)
-readLines BicOnly body = body ∷ []
-readLines TextOnly body = body ∷ []
-readLines ByLines body = lines body
-
 abbrev Goal : Layout → PartyOption → List ℕ → Type 0
 Goal layout o body = foundBy layout o body .reply ≡ accepted → GoodIn o (readLines layout body) (foundBy layout o body)
 

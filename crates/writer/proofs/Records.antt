@@ -70,64 +70,64 @@ plain-account o x {t} e =
 pub any-account : (o : PartyOption) (x : List ℕ) {t : Bool} → passes (lengthReply o x) ≡ t → (t && all ascii x) ≡ passes (textReply AnyAccount o x)
 any-account o x e = rw (passes-then (lengthReply o x) (must (all ascii x) 13 0), e, passes-must (all ascii x) 13 0)
 
--- ---- the number of the k-th name x
-abbrev pub inTurn : Numbering → ℕ → List ℕ → Bool
-inTurn f k x = passes (parseNumber f k k (numberOf f k ++ x))
+-- ---- the number of the k-th name x, with the digit d
+abbrev pub inTurn : Numbering → ℕ → ℕ → List ℕ → Bool
+inTurn f k d x = passes (parseNumber f k k (numberOf f d ++ x))
 
-pub turn-kept : (k : ℕ) (x : List ℕ) → inTurn InTurn k x ≡ (isNumbered x && eqb (getD x 0 0) (48 + k))
-turn-kept k x =
+pub turn-kept : (k d : ℕ) (x : List ℕ) → inTurn InTurn k d x ≡ (isNumbered x && eqb (getD x 0 0) (48 + k))
+turn-kept k d x =
     passes-then (must (isNumbered x) 5 k) (must (eqb (getD x 0 0) (48 + k)) 6 k)
     ∙ rw (passes-must (isNumbered x) 5 k, passes-must (eqb (getD x 0 0) (48 + k)) 6 k)
 
-pub turn-written : (k : ℕ) (x : List ℕ) → k ≤ 4 → inTurn Numbered k x ≡ true
-unfolding isNumbered digit
-turn-written k x h = rw (le-leb 48 (48 + k) (omega arith), le-leb (48 + k) 57 (omega arith))
+pub turn-written : (k d : ℕ) (x : List ℕ) → inTurn Numbered k d x ≡ digit d
+unfolding isNumbered
+turn-written k d x = passes-must (digit d && true) 5 k ∙ and-true (digit d)
 
-pub turn-room : (f : Numbering) (k : ℕ) (x : List ℕ) → inTurn f k x ≡ true → numberIn f ≤ length x
-turn-room Unnumbered k x e = omega arith
-turn-room Numbered k x e = omega arith
-turn-room InTurn k x e = number-room InTurn k k x (passed (parseNumber InTurn k k x) e)
+pub turn-room : (f : Numbering) (k d : ℕ) (x : List ℕ) → inTurn f k d x ≡ true → numberIn f ≤ length x
+turn-room Unnumbered k d x e = omega arith
+turn-room Numbered k d x e = omega arith
+turn-room InTurn k d x e = number-room InTurn k k x (passed (parseNumber InTurn k k x) e)
 
 -- ---- the k-th name
-kept-legal : (f : Numbering) (k : ℕ) (x : List ℕ) → inTurn f k x ≡ true → all legal (drop (numberIn f) x) ≡ all legal x
-kept-legal Unnumbered k x e = refl
-kept-legal Numbered k x e = refl
-kept-legal InTurn k x e = number-legal x (and-first (isNumbered x) (eqb (getD x 0 0) (48 + k)) (sym (turn-kept k x) ∙ e))
+kept-legal : (f : Numbering) (k d : ℕ) (x : List ℕ) → inTurn f k d x ≡ true → all legal (drop (numberIn f) x) ≡ all legal x
+kept-legal Unnumbered k d x e = refl
+kept-legal Numbered k d x e = refl
+kept-legal InTurn k d x e = number-legal x (and-first (isNumbered x) (eqb (getD x 0 0) (48 + k)) (sym (turn-kept k d x) ∙ e))
 
-kept-text : (f : Numbering) (k : ℕ) (x : List ℕ) → drop (skipOf f) (numberOf f k ++ x) ≡ drop (numberIn f) x
-kept-text Unnumbered k x = refl
-kept-text Numbered k x = refl
-kept-text InTurn k x = refl
+kept-text : (f : Numbering) (d : ℕ) (x : List ℕ) → drop (skipOf f) (numberOf f d ++ x) ≡ drop (numberIn f) x
+kept-text Unnumbered d x = refl
+kept-text Numbered d x = refl
+kept-text InTurn d x = refl
 
-module _ (f : Numbering) (longest k : ℕ) (u : Used) where
+module _ (f : Numbering) (longest k d : ℕ) (u : Used) where
   abbrev text : List ℕ
   text = drop (numberIn f) (u .bytes)
 
-  name-parts : isName f longest k u ≡ (isLine u && (inTurn f k (u .bytes) && (leb (length text) longest && all legal text)))
+  name-parts : isName f longest k d u ≡ (isLine u && (inTurn f k d (u .bytes) && (leb (length text) longest && all legal text)))
   unfolding isName parseLine parseSwiftChars
   name-parts =
       rw (
-        passes-then (parseNumber f k k (numberOf f k ++ u .bytes)),
-        kept-text f k (u .bytes),
+        passes-then (parseNumber f k k (numberOf f d ++ u .bytes)),
+        kept-text f d (u .bytes),
         passes-then (must (leb (length text) longest) 4 k),
         passes-must (leb (length text) longest) 4 k,
         passes-must (all legal text) 3 k,
       )
 
-  pub name-not-line : isLine u ≡ false → isName f longest k u ≡ false
+  pub name-not-line : isLine u ≡ false → isName f longest k d u ≡ false
   name-not-line e = name-parts ∙ rw e
 
-  pub name-not-turn : inTurn f k (u .bytes) ≡ false → isName f longest k u ≡ false
+  pub name-not-turn : inTurn f k d (u .bytes) ≡ false → isName f longest k d u ≡ false
   name-not-turn e = name-parts ∙ rw e (and-false (isLine u))
 
-  module _ (turn : inTurn f k (u .bytes) ≡ true) where
-    pub name-long : longest < length text → isName f longest k u ≡ false
+  module _ (turn : inTurn f k d (u .bytes) ≡ true) where
+    pub name-long : longest < length text → isName f longest k d u ≡ false
     name-long h = name-parts ∙ rw (turn, lt-leb (length text) longest h) (and-false (isLine u))
 
-    pub name-bytes : length text ≤ longest → isLine u ≡ not (among (u .bytes) 10) → isName f longest k u ≡ all plain (u .bytes)
+    pub name-bytes : length text ≤ longest → isLine u ≡ not (among (u .bytes) 10) → isName f longest k d u ≡ all plain (u .bytes)
     name-bytes h line =
         name-parts
-        ∙ rw (turn, le-leb (length text) longest h, kept-legal f k (u .bytes) turn, line)
+        ∙ rw (turn, le-leb (length text) longest h, kept-legal f k d (u .bytes) turn, line)
         (and-comm (not (among (u .bytes) 10)) (all legal (u .bytes)) ∙ sym (all-plain (u .bytes)))
 
 -- ---- the names
@@ -137,39 +137,48 @@ and-pairs true b true d = refl
 and-pairs true b false d = and-false b
 
 lines-all :
-    (f : Numbering) (longest k : ℕ) (us : List Used) →
-    (every isLine us && passes (parseLines f longest k k (nameLines f k us))) ≡ allNames f longest k us
+    (f : Numbering) (longest k : ℕ) (ds : List ℕ) (us : List Used) →
+    (every isLine us && passes (parseLines f longest k k (nameLines f ds us))) ≡ allNames f longest k ds us
 unfolding nameLines parseLines isName allNames
-lines-all f longest k [] = refl
-lines-all f longest k (u ∷ us) =
-    let line = parseLine f longest k k (numberOf f k ++ u .bytes) in
-    let lines = parseLines f longest (suc k) (suc k) (nameLines f (suc k) us) in
+lines-all f longest k ds [] = refl
+lines-all f longest k ds (u ∷ us) =
+    let line = parseLine f longest k k (numberOf f (getD ds 0 0) ++ u .bytes) in
+    let lines = parseLines f longest (suc k) (suc k) (nameLines f (drop 1 ds) us) in
     ap (λ (b : Bool). (isLine u && every isLine us) && b) (passes-then line lines)
     ∙ and-pairs (isLine u) (every isLine us) (passes line) (passes lines)
-    ∙ ap (λ (b : Bool). (isLine u && passes line) && b) (lines-all f longest (suc k) us)
+    ∙ ap (λ (b : Bool). (isLine u && passes line) && b) (lines-all f longest (suc k) (drop 1 ds) us)
 
-module _ (o : PartyOption) (count : ℕ) (us : List Used) where
-  pub names-other : (length us ≡ count → ⊥) → areNames o count us ≡ false
+-- digits that are written alike pass alike
+pub names-alike : (o : PartyOption) (count : ℕ) (ds es : List ℕ) (us : List Used) → nameLines (limitsOf o .numbering) ds us ≡ nameLines (limitsOf o .numbering) es us
+    → areNames o count ds us ≡ areNames o count es us
+unfolding areNames
+names-alike o count ds es us e =
+    ap
+    (λ (ls : List (List ℕ)). eqb (length us) count && every isLine us && elim (eqb (limitsOf o .names) 0) [ true ↦ true | false ↦ passes (parseNameAndAddress o 1 ls) ])
+    e
+
+module _ (o : PartyOption) (count : ℕ) (ds : List ℕ) (us : List Used) where
+  pub names-other : (length us ≡ count → ⊥) → areNames o count ds us ≡ false
   unfolding areNames
   names-other h = rw (ne-eqb (length us) count h)
 
   module _ (e : length us ≡ count) where
-    pub names-unused : limitsOf o .names ≡ 0 → us ≡ [] → areNames o count us ≡ true
+    pub names-unused : limitsOf o .names ≡ 0 → us ≡ [] → areNames o count ds us ≡ true
     unfolding areNames
     names-unused z none = rw (eq-eqb (length us) count e, eq-eqb (limitsOf o .names) 0 z, areNames) (rw none)
 
     pub names-used :
         (limitsOf o .names ≡ 0 → ⊥) →
-        areNames o count us ≡ (allNames (limitsOf o .numbering) (limitsOf o .name) 1 us && passes (parseCount (limitsOf o .names) (length us)))
+        areNames o count ds us ≡ (allNames (limitsOf o .numbering) (limitsOf o .name) 1 ds us && passes (parseCount (limitsOf o .names) (length us)))
     unfolding areNames parseNameAndAddress
     names-used h =
         let f = limitsOf o .numbering in
-        let ls = nameLines f 1 us in
+        let ls = nameLines f ds us in
         let lines = parseLines f (limitsOf o .name) 1 1 ls in
         rw (eq-eqb (length us) count e, ne-eqb (limitsOf o .names) 0 h, areNames)
         (ap (λ (b : Bool). every isLine us && b) (passes-then lines (parseCount (limitsOf o .names) (length ls)))
         ∙ sym (and-assoc (every isLine us) (passes lines) (passes (parseCount (limitsOf o .names) (length ls))))
-        ∙ rw (lines-all f (limitsOf o .name) 1 us, written-length f 1 us))
+        ∙ rw (lines-all f (limitsOf o .name) 1 ds us, written-length f ds us))
 
 pub taken-account : (us : List Used) → isTaken Account us ≡ slashName us
 taken-account [] = refl
@@ -188,7 +197,7 @@ module _ (p : Party) where
   bicTest = every isBic (where-limit (limitsOf (p .option) .bic) (used (p .bic) ∷ []))
 
   abbrev pub namesTest : Bool
-  namesTest = areNames (p .option) (p .count) (said p .names)
+  namesTest = areNames (p .option) (p .count) (said p .digits) (said p .names)
 
   -- by what its parts' tests say
   pub given-by :

@@ -1,17 +1,17 @@
 -- What a record says that was made of lists, and what its texts hold. Assumes nothing.
 use mathlib.Core.Path.{_≡_, refl, sym, _∙_, ap}
 use mathlib.Core.Bool.{Bool, true, not}
-use mathlib.Core.List.{List, [], _∷_, map}
+use mathlib.Core.List.{List, [], _∷_, _++_, map}
 use Prim.Native.Nat.{ℕ, _≤_}
-use native.Mathlib.Omega.{arith}
 use lib.Dec.{eqb}
-use lib.ListN.{length, take}
+use lib.ListN.{length, take, length-map}
+use lib.Seq.{take-take, take-append-seam}
 use borrow.Author.Tests.{eqb-true, eq-eqb, not-true}
 use Rattle.party.specs.declared.PartyOption.{PartyOption}
 use Rattle.party.specs.declared.Party.{Party}
 use Rattle.party.specs.Limits.{limitsOf}
-use Rattle.party.specs.Text.{textOf, fourTexts, Used, used, textMost}
-use Rattle.party.specs.Party.{where-limit, namesOf, Said, said}
+use Rattle.party.specs.Text.{textOf, four, fourTexts, Used, used, textMost}
+use Rattle.party.specs.Party.{where-limit, namesOf, where-numbered, Said, said}
 use Rattle.party.proofs.Theorems.{used-text}
 use Rattle.swift_utils.specs.Bytes.{among}
 use Rattle.field_utils.proofs.Tests.{both-left, both-right, both, is-not, Line}
@@ -20,17 +20,18 @@ use Rattle.writer.specs.Given.{every, isLine}
 use Rattle.writer.proofs.Relined.{All}
 
 -- what a record says, by its parts
-abbrev pub saidWith : PartyOption → Bool → ℕ → Used → Used → List Used → Said
-saidWith o present count u v us = record {
+abbrev pub saidWith : PartyOption → Bool → ℕ → Used → Used → List Used → List ℕ → Said
+saidWith o present count u v us ds = record {
   option = o;
   present = present;
   count = count;
   account = where-limit (limitsOf o .longest) (u ∷ []);
   bic = where-limit (limitsOf o .bic) (v ∷ []);
   names = where-limit (limitsOf o .names) us;
+  digits = where-numbered (limitsOf o .numbering) ds;
 }
 
-pub said-with : (p : Party) → said p ≡ saidWith (p .option) (p .present) (p .count) (used (p .account)) (used (p .bic)) (namesOf (p .count) p)
+pub said-with : (p : Party) → said p ≡ saidWith (p .option) (p .present) (p .count) (used (p .account)) (used (p .bic)) (namesOf (p .count) p) (take (p .count) (p .digits))
 unfolding said
 said-with p = refl
 
@@ -50,27 +51,33 @@ pub record Fitting (f : Found) : Type 0 where
   pub bic : Short (f .bic)
   pub names : All Short (f .names)
   pub few : length (f .names) ≤ 4
+  pub digits : length (f .digits) ≡ length (f .names)
 
-names-used : (ns : List (List ℕ)) → All Short ns → length ns ≤ 4 → map used (take (length ns) (fourTexts ns)) ≡ map usedOf ns
-unfolding fourTexts
-names-used [] h n = refl
-names-used (a ∷ []) h n = rw (used-text a (h .0))
-names-used (a ∷ b ∷ []) h n = rw (used-text a (h .0), used-text b (h .1 .0))
-names-used (a ∷ b ∷ c ∷ []) h n = rw (used-text a (h .0), used-text b (h .1 .0), used-text c (h .1 .1 .0))
-names-used (a ∷ b ∷ c ∷ d ∷ []) h n = rw (used-text a (h .0), used-text b (h .1 .0), used-text c (h .1 .1 .0), used-text d (h .1 .1 .1 .0))
-names-used (a ∷ b ∷ c ∷ d ∷ e ∷ ns) h n = absurd (omega arith)
+-- the first of an array of four are those that it was made of
+four-all : {A : Type 0} (none : A) (xs : List A) (n : ℕ) → length xs ≡ n → n ≤ 4 → take n (four none xs) ≡ xs
+unfolding four
+four-all none xs n e h =
+    let filled = xs ++ (none ∷ none ∷ none ∷ none ∷ []) in
+    take-take n 4 filled h ∙ ap (λ (m : ℕ). take m filled) (sym e) ∙ take-append-seam xs (none ∷ none ∷ none ∷ none ∷ [])
+
+texts-used : (ns : List (List ℕ)) → All Short ns → map used (map textOf ns) ≡ map usedOf ns
+texts-used [] h = refl
+texts-used (n ∷ ns) h = ap (λ (u : Used). u ∷ map used (map textOf ns)) (used-text n (h .0)) ∙ ap (_∷_ (usedOf n)) (texts-used ns (h .1))
 
 -- what the record of what an option found says
 abbrev pub saying : PartyOption → Found → Said
-saying o f = saidWith o (f .present) (length (f .names)) (usedOf (f .account)) (usedOf (f .bic)) (map usedOf (f .names))
+saying o f = saidWith o (f .present) (length (f .names)) (usedOf (f .account)) (usedOf (f .bic)) (map usedOf (f .names)) (f .digits)
 
 pub said-party : (o : PartyOption) (f : Found) → Fitting f → said (partyOf o f) ≡ saying o f
 unfolding said partyOf
 said-party o f h =
+    let count = length (f .names) in
     let a : used (textOf (f .account)) ≡ usedOf (f .account) = used-text (f .account) (h .account) in
     let b : used (textOf (f .bic)) ≡ usedOf (f .bic) = used-text (f .bic) (h .bic) in
-    let n : map used (take (length (f .names)) (fourTexts (f .names))) ≡ map usedOf (f .names) = names-used (f .names) (h .names) (h .few) in
-    λ i. saidWith o (f .present) (length (f .names)) (a i) (b i) (n i)
+    let n : map used (take count (fourTexts (f .names))) ≡ map usedOf (f .names) =
+    ap (map used) (four-all (textOf []) (map textOf (f .names)) count (length-map (f .names) textOf) (h .few)) ∙ texts-used (f .names) (h .names) in
+    let d : take count (four 0 (f .digits)) ≡ f .digits = four-all 0 (f .digits) count (h .digits) (h .few) in
+    λ i. saidWith o (f .present) count (a i) (b i) (n i) (d i)
 
 -- ---- texts that are lines
 module _ (u : Used) (h : isLine u ≡ true) where

@@ -75,17 +75,17 @@ lines-weight f longest k zero (l ∷ ls) h p = absurd (omega arith)
 lines-weight f longest k (suc n) (l ∷ ls) h p =
     omega (arith, lines-weight f longest (suc k) n ls (omega arith) (p .1), p .0 .long, length-drop (skipOf f) l)
 
-names-weight : (o : PartyOption) (count : ℕ) (us : List Used) → areNames o count (where-limit (limitsOf o .names) us) ≡ true
-    → weight (nameLines (limitsOf o .numbering) 1 (where-limit (limitsOf o .names) us)) ≤ namesMost o
+names-weight : (o : PartyOption) (count : ℕ) (ds : List ℕ) (us : List Used) → areNames o count ds (where-limit (limitsOf o .names) us) ≡ true
+    → weight (nameLines (limitsOf o .numbering) ds (where-limit (limitsOf o .names) us)) ≤ namesMost o
 unfolding nameLines
-names-weight o count us h = go (eqb (limitsOf o .names) 0) refl
+names-weight o count ds us h = go (eqb (limitsOf o .names) 0) refl
   where
-    go : (t : Bool) → eqb (limitsOf o .names) 0 ≡ t → weight (nameLines (limitsOf o .numbering) 1 (where-limit (limitsOf o .names) us)) ≤ namesMost o
+    go : (t : Bool) → eqb (limitsOf o .names) 0 ≡ t → weight (nameLines (limitsOf o .numbering) ds (where-limit (limitsOf o .names) us)) ≤ namesMost o
     go true e = rw (names-none o us e) (omega arith)
     go false e =
         let w = where-limit (limitsOf o .names) us in
-        let p = names-are o count w h .pass e in
-        lines-weight (limitsOf o .numbering) (limitsOf o .name) 1 (limitsOf o .names) (nameLines (limitsOf o .numbering) 1 w) (p .most) (p .each)
+        let p = names-are o count ds w h .pass e in
+        lines-weight (limitsOf o .numbering) (limitsOf o .name) 1 (limitsOf o .names) (nameLines (limitsOf o .numbering) ds w) (p .most) (p .each)
 
 -- ---- together: by the table, 183, and 180 but for 59F
 table-183 : (o : PartyOption) → leb (headMost o + bicMost o + namesMost o) 183 ≡ true
@@ -115,17 +115,17 @@ unfolding joined
 joined-most [] n k = omega arith
 joined-most (l ∷ ls) n k = omega (arith, joined-length (l ∷ ls) (omega arith))
 
-module _ (o : PartyOption) (present : Bool) (count : ℕ) (u v : Used) (us : List Used) (h : Facts (saidWith o present count u v us)) where
+module _ (o : PartyOption) (present : Bool) (count : ℕ) (u v : Used) (us : List Used) (ds : List ℕ) (h : Facts (saidWith o present count u v us ds)) where
   abbrev S : Said
-  S = saidWith o present count u v us
+  S = saidWith o present count u v us ds
 
   parts : weight (writtenLines S) ≤ weight (headLines o present (S .account)) + bicMost o + namesMost o
   unfolding writtenLines
   parts =
       let b = bic-weight o v (h .bic) in
-      let n = names-weight o count us (h .names) in
+      let n = names-weight o count (S .digits) us (h .names) in
       let x = weight-append (headLines o present (S .account)) (map bytesOf (S .bic)) in
-      let y = weight-append (headLines o present (S .account) ++ map bytesOf (S .bic)) (nameLines (limitsOf o .numbering) 1 (S .names)) in
+      let y = weight-append (headLines o present (S .account) ++ map bytesOf (S .bic)) (nameLines (limitsOf o .numbering) (S .digits) (S .names)) in
       omega (arith, b, n, x, y)
 
   head-part : weight (headLines o present (S .account)) ≤ headMost o

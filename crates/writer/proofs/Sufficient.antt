@@ -5,7 +5,7 @@ use mathlib.Core.List.{List, [], _∷_, _++_}
 use Prim.Native.Nat.{ℕ, _≤_}
 use native.Mathlib.Omega.{arith}
 use lib.Dec.{leb}
-use lib.ListN.{length}
+use lib.ListN.{length, take, length-take}
 use borrow.Author.Tests.{le-leb}
 use Rattle.errors.specs.Refusals.{Reply, accepted}
 use Rattle.errors.proofs.Replies.{must-passes, then-passes}
@@ -75,7 +75,7 @@ read-found o body f b e r =
 
 -- what a record says, by its parts
 abbrev pub parts : Party → Said
-parts p = saidWith (p .option) (p .present) (p .count) (used (p .account)) (used (p .bic)) (namesOf (p .count) p)
+parts p = saidWith (p .option) (p .present) (p .count) (used (p .account)) (used (p .bic)) (namesOf (p .count) p) (take (p .count) (p .digits))
 
 pub given-facts : (p : Party) → isGiven (said p) ≡ true → Facts (parts p)
 given-facts p e = facts (parts p) (ap isGiven (sym (said-with p)) ∙ e)
@@ -87,7 +87,7 @@ same-found p body h b e =
     let o = p .option in
     let r : read o body ≡ (record { reply = accepted; party = partyOf o (foundOf (parts p)) }) = read-found o body (foundOf (parts p)) b e refl in (
       ap (λ (w : Reading). w .reply) r,
-      ap (λ (w : Reading). said (w .party)) r ∙ said-party o (foundOf (parts p)) (fitting o _ _ _ _ _ h) ∙ saying-back o _ _ _ _ _ h ∙ sym (said-with p),
+      ap (λ (w : Reading). said (w .party)) r ∙ said-party o (foundOf (parts p)) (fitting o _ _ _ _ _ _ h) ∙ saying-back o _ _ _ _ _ _ (omega (arith, length-take (p .count) (p .digits))) h ∙ sym (said-with p),
     )
 
 pub sufficient : (p : Party) → isGiven (said p) ≡ true → Given p
@@ -95,7 +95,7 @@ sufficient p e =
     let o = p .option in
     let s = parts p in
     let h = given-facts p e in
-    let plain = written-plain o _ _ _ _ _ h in
+    let plain = written-plain o _ _ _ _ _ _ h in
     let layout = limitsOf o .layout in
-    let f = same-found p (bodyFor layout (writtenLines s)) h (bodyFor-fits layout (writtenLines s) (written-183 o _ _ _ _ _ h) plain) (bodyFor-found layout o s (written-found _ _ _ _ o (p .present) h) plain) in
+    let f = same-found p (bodyFor layout (writtenLines s)) h (bodyFor-fits layout (writtenLines s) (written-183 o _ _ _ _ _ _ h) plain) (bodyFor-found layout o s (written-found _ _ _ _ _ o (p .present) h) plain) in
     record { body = bodyFor layout (writtenLines s); accepts = f .0; same = f .1 }

@@ -15,13 +15,14 @@ use Rattle.writer.specs.Writing.{writtenLines, writtenBody, writtenField
 use Rattle.writer.specs.Given.{Given, isGiven}
 use Rattle.writer.specs.Placing.{Pair}
 use Rattle.writer.specs.ReadBack.{isReadBack, ReadsBack}
+use Rattle.writer.specs.Sender.{readLines}
 use Rattle.writer.proofs.Relined.{weight}
 use Rattle.writer.proofs.Sayings.{said-with, saying}
 use Rattle.writer.proofs.Facts.{Facts, is-given}
 use Rattle.writer.proofs.Pairs.{pair}
 use Rattle.writer.proofs.Sizes.{field-most, field-less}
 use Rattle.writer.proofs.Sufficient.{parts, given-facts, same-found, sufficient}
-use Rattle.writer.proofs.Necessary.{light, readLines}
+use Rattle.writer.proofs.Necessary.{light}
 use Rattle.writer.proofs.Back.{accepted-is, back-fits, back-found, back-no}
 
 pub necessary : (p : Party) → Given p → isGiven (said p) ≡ true
@@ -48,7 +49,7 @@ module _ (p : Party) (g : Given p) where
   read-back e =
       let e' : isReadBack (parts p) ≡ true = ap isReadBack (sym (said-with p)) ∙ e in
       let f : Read (writtenBody (parts p)) =
-      same-found p (writtenBody (parts p)) h (back-fits _ _ _ _ _ _ h) (back-found _ _ _ _ _ _ h e') in
+      same-found p (writtenBody (parts p)) h (back-fits _ _ _ _ _ _ _ h) (back-found _ _ _ _ _ _ _ h e') in
       let r : Read (writtenBody (said p)) = subst Read (sym body) f in
       record { accepts = r .0; same = r .1 }
 
@@ -59,7 +60,7 @@ module _ (p : Party) (g : Given p) where
       let q : Read (writtenBody (parts p)) = subst Read body (r .accepts, r .same) in
       let a = accepted-is o (writtenBody (parts p)) (q .0) in
       let same : saying o (foundBy (limitsOf o .layout) o (writtenBody (parts p))) ≡ parts p = sym (a .says) ∙ q .1 ∙ said-with p in
-      back-no _ _ _ _ o (p .present) h e'
+      back-no _ _ _ _ _ o (p .present) h e'
       (record { reply = a .good .reply; heavy = subst (λ (s : Said). weight (writtenLines s) ≤ weight (readLines (limitsOf o .layout) (writtenBody (parts p)))) same (light (a .good)) })
 
   -- a record that a reader can give is read back from its written body if and only if its last written line is not empty and no earlier one
@@ -69,11 +70,11 @@ module _ (p : Party) (g : Given p) where
 
   -- its written field has at most 187 bytes, and at most 184 but for 59F with an identifier
   pub written-most : length (writtenField (said p)) ≤ fieldMost
-  written-most = subst (λ (s : Said). length (writtenField s) ≤ fieldMost) (sym (said-with p)) (field-most _ _ _ _ _ _ h)
+  written-most = subst (λ (s : Said). length (writtenField s) ≤ fieldMost) (sym (said-with p)) (field-most _ _ _ _ _ _ _ h)
 
   pub written-less : identified59F (said p) ≡ false → length (writtenField (said p)) ≤ 184
   written-less e =
-      subst (λ (s : Said). length (writtenField s) ≤ 184) (sym (said-with p)) (field-less _ _ _ _ _ _ h (ap identified59F (sym (said-with p)) ∙ e))
+      subst (λ (s : Said). length (writtenField s) ≤ 184) (sym (said-with p)) (field-less _ _ _ _ _ _ _ h (ap identified59F (sym (said-with p)) ∙ e))
 
 -- of every record value and every buffer: measuring gives the exact length of the field that placing puts there, or 22; placing needs just
 -- that space

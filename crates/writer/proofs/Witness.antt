@@ -12,20 +12,21 @@ use Rattle.errors.proofs.Replies.{must-held, then-first}
 use Rattle.party.specs.declared.PartyOption.{PartyOption}
 use Rattle.party.specs.Limits.{limitsOf}
 use Rattle.party.specs.Text.{Used}
-use Rattle.party.specs.Party.{where-limit, Said}
+use Rattle.party.specs.Party.{where-limit, where-numbered, Said}
 use Rattle.party.specs.declared.Numbering.{Numbering}
 use Rattle.party.specs.declared.Numbering.the-variants.{Unnumbered, Numbered, InTurn}
+use Rattle.party.proofs.Options.{by-option}
 use Rattle.swift_utils.specs.Bytes.{all, digit, legal}
 use Rattle.swift_utils.specs.Checks.{bicLength, parseBic}
 use Rattle.field_utils.specs.Identifier.{isNumbered}
-use Rattle.field_utils.specs.Names.{kept}
+use Rattle.field_utils.specs.Names.{kept, digitOf}
 use Rattle.field_utils.proofs.Tests.{both-left, both-right, both, none-more, Line}
 use Rattle.reader.specs.Options.{ascii}
 use Rattle.writer.specs.Writing.{slashOf, nameLines, headLines, writtenLines}
 use Rattle.writer.specs.Given.{every, isLine, isAccount, isBic, areNames}
 use Rattle.writer.proofs.Relined.{All}
 use Rattle.writer.proofs.Sayings.{saidWith, usedOf, bytesOf, Short, Fitting, saying, line-used, line-free, lines-used}
-use Rattle.writer.proofs.NamePasses.{Passes, AllPass, kept-short, kept-written, written-length, written-lines}
+use Rattle.writer.proofs.NamePasses.{Passes, AllPass, kept-short, kept-written, written-length, written-lines, digits-back}
 use Rattle.writer.proofs.Ascii.{digit-ascii, all-legal, text-ascii, bic-ascii}
 use Rattle.writer.proofs.HeadPasses.{text-length, extra-most}
 use Rattle.writer.proofs.Facts.{Facts, names-are, account-line, account-passes, bic-passes, bic-lines, small}
@@ -78,19 +79,38 @@ where-twice limit us = go (ltb 0 limit) refl
     go true e = where-yes limit _ e
     go false e = where-no limit _ e ∙ sym (where-no limit _ e)
 
-module _ (o : PartyOption) (present : Bool) (count : ℕ) (u v : Used) (us : List Used) where
-  abbrev S : Said
-  S = saidWith o present count u v us
+-- an option without names has no digits
+nameless-digits : (o : PartyOption) → limitsOf o .names ≡ 0 → (ds es : List ℕ) → where-numbered (limitsOf o .numbering) es ≡ where-numbered (limitsOf o .numbering) ds
+nameless-digits =
+    by-option (λ (o : PartyOption). limitsOf o .names ≡ 0 → (ds es : List ℕ) → where-numbered (limitsOf o .numbering) es ≡ where-numbered (limitsOf o .numbering) ds)
+    (λ z ds es. refl) (λ z ds es. refl) (λ z ds es. absurd (omega arith)) (λ z ds es. refl) (λ z ds es. refl) (λ z ds es. refl) (λ z ds es. refl) (λ z ds es. refl)
+    (λ z ds es. refl) (λ z ds es. refl) (λ z ds es. refl)
 
-  pub saying-back : Facts S → saying o (foundOf S) ≡ S
-  saying-back h =
-      let n = names-are o count (S .names) (h .names) in
+-- the digits of its lines
+digits-found : (o : PartyOption) (count : ℕ) (ds : List ℕ) (us : List Used) → length ds ≤ count → areNames o count (where-numbered (limitsOf o .numbering) ds) us ≡ true
+    → let f = limitsOf o .numbering in where-numbered f (map (digitOf f) (nameLines f (where-numbered f ds) us)) ≡ where-numbered f ds
+digits-found o count ds us few h = go (eqb (limitsOf o .names) 0) refl
+  where
+    go : (t : Bool) → eqb (limitsOf o .names) 0 ≡ t → let f = limitsOf o .numbering in where-numbered f (map (digitOf f) (nameLines f (where-numbered f ds) us)) ≡ where-numbered f ds
+    go true e = nameless-digits o (eqb-true _ _ e) ds _
+    go false e =
+        let n = names-are o count (where-numbered (limitsOf o .numbering) ds) us h in
+        digits-back (limitsOf o .numbering) (limitsOf o .name) 1 ds us (omega (arith, n .counted)) (n .pass e .each)
+
+module _ (o : PartyOption) (present : Bool) (count : ℕ) (u v : Used) (us : List Used) (ds : List ℕ) where
+  abbrev S : Said
+  S = saidWith o present count u v us ds
+
+  pub saying-back : length ds ≤ count → Facts S → saying o (foundOf S) ≡ S
+  saying-back few h =
+      let n = names-are o count (S .digits) (S .names) (h .names) in
       let c : length (map bytesOf (S .names)) ≡ count = length-map (S .names) bytesOf ∙ n .counted in
       let a = account-back o present (limitsOf o .longest) u (h .account) in
       let b = bic-back (limitsOf o .bic) v (bic-lines (S .bic) (h .bic)) in
       let m : where-limit (limitsOf o .names) (map usedOf (map bytesOf (S .names))) ≡ S .names =
       ap (where-limit (limitsOf o .names)) (lines-used (S .names) (n .lines)) ∙ where-twice (limitsOf o .names) us in
-      λ i. record { option = o; present = present; count = c i; account = a i; bic = b i; names = m i }
+      let d = digits-found o count ds (S .names) few (h .names) in
+      λ i. record { option = o; present = present; count = c i; account = a i; bic = b i; names = m i; digits = d i }
 
 -- ---- its texts fit
 account-short : (o : PartyOption) (present : Bool) (us : List Used) → every (isAccount o present) us ≡ true → Short (accountBytes present us)
@@ -116,26 +136,29 @@ bic-short (u ∷ us) h = omega (arith, bic-most 1 (u .bytes) (bic-passes u (both
 pub names-none : (o : PartyOption) (us : List Used) → eqb (limitsOf o .names) 0 ≡ true → where-limit (limitsOf o .names) us ≡ []
 names-none o us e = where-no (limitsOf o .names) us (le-ltb 0 (limitsOf o .names) (omega (arith, eqb-true (limitsOf o .names) 0 e)))
 
-names-short : (o : PartyOption) (count : ℕ) (us : List Used) → areNames o count (where-limit (limitsOf o .names) us) ≡ true
+names-short : (o : PartyOption) (count : ℕ) (ds : List ℕ) (us : List Used) → areNames o count ds (where-limit (limitsOf o .names) us) ≡ true
     → All Short (map bytesOf (where-limit (limitsOf o .names) us)) × (length (map bytesOf (where-limit (limitsOf o .names) us)) ≤ 4)
-names-short o count us h = go (eqb (limitsOf o .names) 0) refl
+names-short o count ds us h = go (eqb (limitsOf o .names) 0) refl
   where
     go : (t : Bool) → eqb (limitsOf o .names) 0 ≡ t → All Short (map bytesOf (where-limit (limitsOf o .names) us)) × (length (map bytesOf (where-limit (limitsOf o .names) us)) ≤ 4)
     go true e = rw (names-none o us e) (tt, omega arith)
     go false e =
         let w = where-limit (limitsOf o .names) us in
-        let p = names-are o count w h .pass e in
-        let k : All Short (map (kept (limitsOf o .numbering)) (nameLines (limitsOf o .numbering) 1 w)) =
-        kept-short (limitsOf o .numbering) (limitsOf o .name) 1 (nameLines (limitsOf o .numbering) 1 w) (omega (arith, small o .name)) (p .each) in (
-          subst (All Short) (kept-written (limitsOf o .numbering) 1 w) k,
-          omega (arith, length-map w bytesOf, written-length (limitsOf o .numbering) 1 w, p .most, small o .names),
+        let p = names-are o count ds w h .pass e in
+        let k : All Short (map (kept (limitsOf o .numbering)) (nameLines (limitsOf o .numbering) ds w)) =
+        kept-short (limitsOf o .numbering) (limitsOf o .name) 1 (nameLines (limitsOf o .numbering) ds w) (omega (arith, small o .name)) (p .each) in (
+          subst (All Short) (kept-written (limitsOf o .numbering) ds w) k,
+          omega (arith, length-map w bytesOf, written-length (limitsOf o .numbering) ds w, p .most, small o .names),
         )
 
-pub fitting : (o : PartyOption) (present : Bool) (count : ℕ) (u v : Used) (us : List Used) → Facts (saidWith o present count u v us) → Fitting (foundOf (saidWith o present count u v us))
-fitting o present count u v us h =
-    let s = saidWith o present count u v us in
-    let n = names-short o count us (h .names) in
-    record { account = account-short o present (s .account) (h .account); bic = bic-short (s .bic) (h .bic); names = n .0; few = n .1 }
+pub fitting : (o : PartyOption) (present : Bool) (count : ℕ) (u v : Used) (us : List Used) (ds : List ℕ) → Facts (saidWith o present count u v us ds)
+    → Fitting (foundOf (saidWith o present count u v us ds))
+fitting o present count u v us ds h =
+    let s = saidWith o present count u v us ds in
+    let f = limitsOf o .numbering in
+    let n = names-short o count (s .digits) us (h .names) in
+    let d = length-map (nameLines f (s .digits) (s .names)) (digitOf f) ∙ written-length f (s .digits) (s .names) ∙ sym (length-map (s .names) bytesOf) in
+    record { account = account-short o present (s .account) (h .account); bic = bic-short (s .bic) (h .bic); names = n .0; few = n .1; digits = d }
 
 -- ---- its lines have no LF and no byte above 127, and few bytes
 pub record Plain (l : List ℕ) : Type 0 where
@@ -189,22 +212,25 @@ names-plain f longest k [] h p = tt
 names-plain f longest k (l ∷ ls) h p = (record { line = h .0; bytes = pass-ascii f longest k l (p .0) }, names-plain f longest (suc k) ls (h .1) (p .1))
 
 -- names of an option, whether it has some or not
-names-all : (o : PartyOption) (count : ℕ) (us : List Used) → areNames o count (where-limit (limitsOf o .names) us) ≡ true
-    → All Plain (nameLines (limitsOf o .numbering) 1 (where-limit (limitsOf o .names) us))
+names-all : (o : PartyOption) (count : ℕ) (ds : List ℕ) (us : List Used) → areNames o count ds (where-limit (limitsOf o .names) us) ≡ true
+    → All Plain (nameLines (limitsOf o .numbering) ds (where-limit (limitsOf o .names) us))
 unfolding nameLines
-names-all o count us h = go (eqb (limitsOf o .names) 0) refl
+names-all o count ds us h = go (eqb (limitsOf o .names) 0) refl
   where
-    go : (t : Bool) → eqb (limitsOf o .names) 0 ≡ t → All Plain (nameLines (limitsOf o .numbering) 1 (where-limit (limitsOf o .names) us))
+    go : (t : Bool) → eqb (limitsOf o .names) 0 ≡ t → All Plain (nameLines (limitsOf o .numbering) ds (where-limit (limitsOf o .names) us))
     go true e = rw (names-none o us e) tt
     go false e =
         let w = where-limit (limitsOf o .names) us in
-        let n = names-are o count w h in
-        names-plain (limitsOf o .numbering) (limitsOf o .name) 1 (nameLines (limitsOf o .numbering) 1 w) (written-lines (limitsOf o .numbering) 1 w (n .lines)) (n .pass e .each)
+        let n = names-are o count ds w h in
+        let each = n .pass e .each in
+        names-plain (limitsOf o .numbering) (limitsOf o .name) 1 (nameLines (limitsOf o .numbering) ds w)
+        (written-lines (limitsOf o .numbering) (limitsOf o .name) 1 ds w (n .lines) each) each
 
-pub written-plain : (o : PartyOption) (present : Bool) (count : ℕ) (u v : Used) (us : List Used) → Facts (saidWith o present count u v us) → All Plain (writtenLines (saidWith o present count u v us))
+pub written-plain : (o : PartyOption) (present : Bool) (count : ℕ) (u v : Used) (us : List Used) (ds : List ℕ) → Facts (saidWith o present count u v us ds)
+    → All Plain (writtenLines (saidWith o present count u v us ds))
 unfolding writtenLines
-written-plain o present count u v us h =
-    let s = saidWith o present count u v us in
+written-plain o present count u v us ds h =
+    let s = saidWith o present count u v us ds in
     all-append Plain (headLines o present (s .account) ++ map bytesOf (s .bic)) _
     (all-append Plain (headLines o present (s .account)) _ (head-plain o present (s .account) (h .account)) (bic-plain (s .bic) (h .bic)))
-    (names-all o count us (h .names))
+    (names-all o count (s .digits) us (h .names))

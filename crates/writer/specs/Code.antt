@@ -4,7 +4,7 @@ use mathlib.Core.Path.{_≡_}
 use mathlib.Core.Bool.{Bool, true, false, not, _&&_}
 use mathlib.Core.List.{List, [], _∷_, _++_, map}
 use lib.Dec.{ltb}
-use lib.ListN.{length}
+use lib.ListN.{length, getD, drop}
 use Rattle.errors.specs.Refusals.{Reply}
 use Rattle.party.specs.declared.PartyOption.{PartyOption}
 use Rattle.party.specs.declared.Party.{Party}
@@ -53,11 +53,11 @@ headOf o false u = []
 
 -- a record's names as they are written
 abbrev pub namesOn : Bool → Party → List ℕ
-namesOn later p = led later (nameLines (limitsOf (p .option) .numbering) 1 (said p .names))
+namesOn later p = led later (nameLines (limitsOf (p .option) .numbering) (said p .digits) (said p .names))
 
 -- its BIC and its names; an option has at most one of the two
 abbrev pub restOn : Bool → Party → List ℕ
-restOn later p = led later (map (λ (u : Used). u .bytes) (said p .bic) ++ nameLines (limitsOf (p .option) .numbering) 1 (said p .names))
+restOn later p = led later (map (λ (u : Used). u .bytes) (said p .bic) ++ nameLines (limitsOf (p .option) .numbering) (said p .digits) (said p .names))
 
 -- whether a text without an LF passes
 abbrev pub lineReply : Reply → List ℕ → Bool
@@ -67,14 +67,14 @@ lineReply r x = not (among x 10) && passes r
 abbrev pub numberIn : Numbering → ℕ
 numberIn f = skipOf f - keptFrom f
 
--- whether a text passes as the k-th name
-unfoldable pub isName : Numbering → ℕ → ℕ → Used → Bool
-isName f longest k u = isLine u && passes (parseLine f longest k k (numberOf f k ++ u .bytes))
+-- whether a text with a digit passes as the k-th name
+unfoldable pub isName : Numbering → ℕ → ℕ → ℕ → Used → Bool
+isName f longest k digit u = isLine u && passes (parseLine f longest k k (numberOf f digit ++ u .bytes))
 
--- whether texts pass as the names from the k-th on
-unfoldable pub allNames : Numbering → ℕ → ℕ → List Used → Bool
-allNames f longest k [] = true
-allNames f longest k (u ∷ us) = isName f longest k u && allNames f longest (suc k) us
+-- whether texts with digits pass as the names from the k-th on
+unfoldable pub allNames : Numbering → ℕ → ℕ → List ℕ → List Used → Bool
+allNames f longest k digits [] = true
+allNames f longest k digits (u ∷ us) = isName f longest k (getD digits 0 0) u && allNames f longest (suc k) (drop 1 digits) us
 
 -- whether there is a first name, and it starts with `/`
 abbrev pub slashName : List Used → Bool

@@ -65,12 +65,13 @@ isPresence o false = eqb (limitsOf o .shortest) 0
 abbrev pub isBic : Used → Bool
 isBic u = isLine u && passes (parseBic 1 (u .bytes))
 
--- as many names as the count says, each a line; where the option has names, they pass as those
-unfoldable pub areNames : PartyOption → ℕ → List Used → Bool
-areNames o count us =
+-- as many names as the count says, each a line; where the option has names, they pass as those, with their digits: a used digit that is
+-- no digit does not (document 02, Seven)
+unfoldable pub areNames : PartyOption → ℕ → List ℕ → List Used → Bool
+areNames o count digits us =
     eqb (length us) count
     && every isLine us
-    && elim (eqb (limitsOf o .names) 0) [ true ↦ true | false ↦ passes (parseNameAndAddress o 1 (nameLines (limitsOf o .numbering) 1 us)) ]
+    && elim (eqb (limitsOf o .names) 0) [ true ↦ true | false ↦ passes (parseNameAndAddress o 1 (nameLines (limitsOf o .numbering) digits us)) ]
 
 -- 50K and 59 without an account: a first name with `/` would be taken for one
 abbrev pub isTaken : First → List Used → Bool
@@ -90,5 +91,5 @@ isGiven s =
     isPresence (s .option) (s .present)
     && every (isAccount (s .option) (s .present)) (s .account)
     && every isBic (s .bic)
-    && areNames (s .option) (s .count) (s .names)
+    && areNames (s .option) (s .count) (s .digits) (s .names)
     && not (not (s .present) && isTaken (limitsOf (s .option) .first) (s .names))

@@ -17,7 +17,7 @@ use Rattle.writer.specs.Given.{Given}
 abbrev pub longest : Party
 longest =
     let names : List (List ℕ) = map (λ (k : ℕ). (48 + k) ∷ bytes "/" ++ replicate 33 65) (1 ∷ 2 ∷ 3 ∷ 4 ∷ []) in
-    partyOf Field59F (record { reply = accepted; present = true; account = bytes "AA/" ++ replicate 34 65; bic = []; names = names })
+    partyOf Field59F (record { reply = accepted; present = true; account = bytes "AA/" ++ replicate 34 65; bic = []; names = names; digits = [] })
 
 -- the longest written field has n bytes: that of a record which is shown has, and that of no record which a reader can give has more
 pub record IsLongest (n : ℕ) : Type 0 where

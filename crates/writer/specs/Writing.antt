@@ -1,9 +1,9 @@
 -- The written field (document 01, field50.rs, field59.rs and 'Rust forms': bytes into a lent buffer).
-use Prim.Native.Nat.{ℕ, suc, _+_}
+use Prim.Native.Nat.{ℕ, _+_}
 use mathlib.Core.Bool.{Bool, true, false, _&&_}
 use mathlib.Core.List.{List, [], _∷_, _++_, map}
 use lib.Dec.{leb, eqb}
-use lib.ListN.{length}
+use lib.ListN.{length, getD, drop}
 use lib.Seq.{paste}
 use Rattle.party.specs.declared.PartyOption.{PartyOption}
 use Rattle.party.specs.declared.PartyOption.the-variants.{Field59F}
@@ -20,16 +20,16 @@ use Rattle.field_utils.specs.Tags.{tagOf}
 abbrev pub slashOf : PartyOption → List ℕ
 slashOf o = elim (limitsOf o .slash) [ true ↦ bytes "/" | false ↦ [] ]
 
--- what is written before the k-th name: 50F's lines are numbered 1, 2, 3, 4; 59F's names have their numbers
+-- what is written before a name: in 50F the digit of its line and `/` (document 02, Seven); 59F's names have their numbers
 abbrev pub numberOf : Numbering → ℕ → List ℕ
-numberOf Unnumbered k = []
-numberOf Numbered k = (48 + k) ∷ bytes "/"
-numberOf InTurn k = []
+numberOf Unnumbered digit = []
+numberOf Numbered digit = digit ∷ bytes "/"
+numberOf InTurn digit = []
 
--- the lines of names, from the k-th on
-unfoldable pub nameLines : Numbering → ℕ → List Used → List (List ℕ)
-nameLines f k [] = []
-nameLines f k (u ∷ us) = (numberOf f k ++ u .bytes) ∷ nameLines f (suc k) us
+-- the lines of names, each with its digit
+unfoldable pub nameLines : Numbering → List ℕ → List Used → List (List ℕ)
+nameLines f digits [] = []
+nameLines f digits (u ∷ us) = (numberOf f (getD digits 0 0) ++ u .bytes) ∷ nameLines f (drop 1 digits) us
 
 -- the line of an account or identifier, where it is there; no empty one follows 59F's (document 02, Six)
 abbrev pub headLines : PartyOption → Bool → List Used → List (List ℕ)
@@ -41,7 +41,7 @@ unfoldable pub writtenLines : Said → List (List ℕ)
 writtenLines s =
     headLines (s .option) (s .present) (s .account)
     ++ map (λ (u : Used). u .bytes) (s .bic)
-    ++ nameLines (limitsOf (s .option) .numbering) 1 (s .names)
+    ++ nameLines (limitsOf (s .option) .numbering) (s .digits) (s .names)
 
 -- lines with an LF between them
 unfoldable pub joined : List (List ℕ) → List ℕ

@@ -20,6 +20,7 @@ use reader::account_length;
 use reader::is_ascii;
 use swift_utils::all_at_least;
 use swift_utils::class_table;
+use swift_utils::is_digit;
 use swift_utils::parse_bic;
 ghost use mathlib.Core.Path.{_≡_};
 ghost use mathlib.Core.Bool.{not};
@@ -239,7 +240,7 @@ fn put_head(buf: &mut [u8], at: usize, option: PartyOption, written: bool, accou
     put_line(buf, at, false, &slash[..n], account)
 }
 
-// Puts the names, each with its number where the option's names are written so.
+// Puts the names, each with the digit of its line where the option has it beside the name.
 fn put_names(buf: &mut [u8], at: usize, later: bool, p: Party) -> usize
     requires { ⌜ at + length (namesOn later p) ≤ length (now buf) ⌝ }
     ensures { λ r. ⌜ Puts (now (buf .entry)) at (namesOn later p) (now (buf .exit)) r ⌝ }
@@ -253,7 +254,7 @@ fn put_names(buf: &mut [u8], at: usize, later: bool, p: Party) -> usize
     let mut end = at;
     let mut i = 0;
     while i < n {
-        let mark = [b'1' + i as u8, b'/'];
+        let mark = [p.digits[i], b'/'];
         let t = p.name_and_address[i];
         end = put_line(buf, end, after, &mark[..marks], t);
         after = true;
@@ -400,14 +401,14 @@ fn is_bic(option: PartyOption, t: Text) -> bool
     is_accepted(parse_bic(&bytes[..n], 1))
 }
 
-// Whether a name has the number of its turn, where it is kept with its number.
-fn is_in_turn(text: &[u8], turn: usize, numbering: Numbering) -> bool
+// Whether a name has the number of its turn, where it is kept with its number, or its digit is one, where that stands beside it.
+fn is_in_turn(text: &[u8], turn: usize, digit: u8, numbering: Numbering) -> bool
     requires { ⌜ turn ≤ 4 ⌝ }
-    ensures { λ r. ⌜ r ≡ passes (parseNumber numbering turn turn (numberOf numbering turn ++ now (text .entry))) ⌝ }
+    ensures { λ r. ⌜ r ≡ passes (parseNumber numbering turn turn (numberOf numbering digit ++ now (text .entry))) ⌝ }
 {
     match numbering {
         Numbering::Unnumbered => true,
-        Numbering::Numbered => true,
+        Numbering::Numbered => is_digit(digit),
         Numbering::InTurn => {
             if !is_numbered_line(text) {
                 return false;
@@ -424,17 +425,24 @@ fn number_length(numbering: Numbering) -> usize
     skip_of(numbering) - kept_from(numbering)
 }
 
-// Whether a text is the turn-th name of an option with such names, as its reader gives them.
-fn is_name(t: Text, turn: usize, numbering: Numbering, longest: usize, classes: &[u8; 256]) -> bool
+// Whether a text with a digit is the turn-th name of an option with such names, as its reader gives them.
+fn is_name(
+    t: Text,
+    turn: usize,
+    digit: u8,
+    numbering: Numbering,
+    longest: usize,
+    classes: &[u8; 256],
+) -> bool
     requires { ⌜ (turn ≤ 4) × (now classes ≡ classTable) ⌝ }
-    ensures { λ r. ⌜ r ≡ isName numbering longest turn (used t) ⌝ }
+    ensures { λ r. ⌜ r ≡ isName numbering longest turn digit (used t) ⌝ }
 {
     let n = used_length(t);
     if n != t.len {
         return false;
     }
     let bytes = t.bytes;
-    if !is_in_turn(&bytes[..n], turn, numbering) {
+    if !is_in_turn(&bytes[..n], turn, digit, numbering) {
         return false;
     }
     if longest < n - number_length(numbering) {
@@ -445,7 +453,7 @@ fn is_name(t: Text, turn: usize, numbering: Numbering, longest: usize, classes: 
 
 // Whether each name is one that the option's reader gives.
 fn all_names(p: Party) -> bool
-    ensures { λ r. ⌜ r ≡ allNames (limitsOf (p .option) .numbering) (limitsOf (p .option) .name) 1 (said p .names) ⌝ }
+    ensures { λ r. ⌜ r ≡ allNames (limitsOf (p .option) .numbering) (limitsOf (p .option) .name) 1 (p .digits) (said p .names) ⌝ }
 {
     let option = p.option;
     let limits = limits_of(option);
@@ -455,7 +463,8 @@ fn all_names(p: Party) -> bool
     let mut i = 0;
     while i < n {
         let t = p.name_and_address[i];
-        if !is_name(t, i + 1, numbering, limits.name, &classes) {
+        let digit = p.digits[i];
+        if !is_name(t, i + 1, digit, numbering, limits.name, &classes) {
             return false;
         }
         i += 1;
@@ -465,7 +474,7 @@ fn all_names(p: Party) -> bool
 
 // Whether the names are as many as the count says, and are names that the option's reader gives.
 fn are_names(p: Party) -> bool
-    ensures { λ r. ⌜ r ≡ areNames (p .option) (p .count) (said p .names) ⌝ }
+    ensures { λ r. ⌜ r ≡ areNames (p .option) (p .count) (said p .digits) (said p .names) ⌝ }
 {
     let option = p.option;
     let limits = limits_of(option);

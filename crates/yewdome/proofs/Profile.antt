@@ -32,13 +32,13 @@ use Rattle.writer.proofs.Sayings.{saying}
 use Rattle.writer.proofs.Facts.{is-given}
 use Rattle.writer.proofs.Witness.{written-plain}
 use Rattle.writer.proofs.Sufficient.{lines-of}
-use Rattle.writer.proofs.Necessary.{readLines}
+use Rattle.writer.specs.Sender.{readLines}
 use Rattle.writer.proofs.Back.{accepted-is, giving-reply, text-least}
 use Rattle.page_writer.specs.Adding.{linesCarried, isCarried, withLf, Call, putting, add}
 use Rattle.page_writer.proofs.Addings.{add-asked, asked-by}
 use Rattle.yewdome.specs.Profile.{OnlyRefuses, PageAccepts, Promise, Profile}
 use Rattle.yewdome.proofs.ProfileBic.{Held, read-held, tried-held, none-held}
-use Rattle.yewdome.proofs.ProfileLines.{Front, Carried, carried-lines, under-carried, carried-written, some-bytes, bic-front, trimmed-cr}
+use Rattle.yewdome.proofs.ProfileLines.{Front, Carried, carried-lines, under-carried, carried-first, some-bytes, bic-front, trimmed-cr}
 
 -- ---- the record of an accepted text, where a page carries the lines that are read of it
 module _ (o : PartyOption) (text : List ℕ) (e : read o text .reply ≡ accepted) where
@@ -59,7 +59,7 @@ module _ (o : PartyOption) (text : List ℕ) (e : read o text .reply ≡ accepte
   read-carried h =
       let g = accepted-is o text e .good in
       let ws = writtenLines s in
-      ap isCarried says ∙ ap linesCarried (pieces-joined ws (g .some) (lines-of ws (written-plain o _ _ _ _ _ (g .facts)))) ∙ carried-lines ws (g .some) (carried-written ws _ (g .lines) h)
+      ap isCarried says ∙ ap linesCarried (pieces-joined ws (g .some) (lines-of ws (written-plain o _ _ _ _ _ _ (g .facts)))) ∙ carried-lines ws (g .some) (carried-first ws (g .lines .rest) (subst Carried (g .lines .are) h))
 
 -- ---- the lines that are read of a body, and of one that is trimmed
 -- 50L

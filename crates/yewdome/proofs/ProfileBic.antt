@@ -17,11 +17,10 @@ use Rattle.party.specs.Limits.{limitsOf}
 use Rattle.party.specs.Text.{Used, used}
 use Rattle.party.specs.Party.{where-limit, Said, said}
 use Rattle.party.proofs.Options.{by-option}
-use Rattle.swift_utils.specs.Bytes.{all, among, letter, digit, alphanumeric}
+use Rattle.swift_utils.specs.Bytes.{all, letter, digit, alphanumeric}
 use Rattle.swift_utils.specs.Checks.{bicLength, parseBic}
 use Rattle.field_utils.specs.Lines.{onto, starts, isEmpty, lines}
 use Rattle.field_utils.specs.Trim.{white, trimmedStart, keep, trimmedEnd, trimmed}
-use Rattle.field_utils.specs.Identifier.{isNumbered}
 use Rattle.field_utils.proofs.Tests.{both-left, both-right, both, first-not, rest-not, Line}
 use Rattle.reader.specs.Reading.{Reading, Found}
 use Rattle.reader.specs.Options.{foundBy, read}
@@ -30,10 +29,10 @@ use Rattle.profile.specs.Profile.{isSame, holdsBic}
 use Rattle.writer.specs.Writing.{headLines, writtenLines}
 use Rattle.writer.specs.Given.{every, isBic}
 use Rattle.writer.proofs.Relined.{lines-rest}
-use Rattle.writer.proofs.NamePasses.{Rewritten, AllRewritten}
 use Rattle.writer.proofs.Sayings.{usedOf, saying}
 use Rattle.writer.proofs.Facts.{bic-passes}
-use Rattle.writer.proofs.Necessary.{readLines, letters-free}
+use Rattle.writer.specs.Sender.{readLines}
+use Rattle.writer.proofs.Necessary.{letters-free}
 use Rattle.writer.proofs.Back.{accepted-is, bic-least}
 use Rattle.yewdome.specs.Profile.{anyHolds}
 use Rattle.yewdome.proofs.ProfileLines.{some-bytes}
@@ -123,23 +122,8 @@ module _ (x : List ℕ) (e : parseBic 1 x ≡ accepted) where
       let rest : all alphanumeric (drop 6 x) ≡ true = must-held _ 10 1 (then-second (must (all letter (take 6 x)) 10 1) _ later) in
       all-split alphanumeric 6 x (all-more letter alphanumeric (λ b h. rw h) (take 6 x) first) rest
 
-  bic-unnumbered : isNumbered x ≡ true → ⊥
-  unfolding isNumbered
-  bic-unnumbered n = go x bic-all n
-    where
-      go : (y : List ℕ) → all alphanumeric y ≡ true → isNumbered y ≡ true → ⊥
-      go [] a h = false≢true h
-      go (d ∷ []) a h = false≢true h
-      go (d ∷ s ∷ l) a h =
-          let k = alphanumeric-least s (both-left (alphanumeric s) (all alphanumeric l) (both-right (alphanumeric d) (alphanumeric s && all alphanumeric l) a)) in
-          omega (arith, k, eqb-true s 47 (both-right (digit d) (eqb s 47) h))
-
   bic-trimmed : trimmed x ≡ x
   bic-trimmed = plain-trimmed x (all-more alphanumeric (λ (b : ℕ). not (white b)) (λ b h. rw (alphanumeric-kept b h)) x bic-all)
-
-  -- so a line that is written of it is it
-  bic-line : (l : List ℕ) → Rewritten x l → x ≡ l
-  bic-line l r = ⊎-elim (λ q. q) (λ h. absurd (bic-unnumbered (h .0))) r
 
 -- ---- among the lines that are written of a record is its BIC
 bic-in : (s : Said) (v : Used) → s .bic ≡ v ∷ [] → Some (λ w. v .bytes ≡ w) (writtenLines s)
@@ -147,12 +131,6 @@ unfolding writtenLines
 bic-in s v e =
     some-left (λ w. v .bytes ≡ w) (headLines (s .option) (s .present) (s .account) ++ map (λ (u : Used). u .bytes) (s .bic)) _
     (some-right (λ w. v .bytes ≡ w) (headLines (s .option) (s .present) (s .account)) (map (λ (u : Used). u .bytes) (s .bic)) (rw e (inl refl)))
-
--- and so among the lines that were read
-rewritten-some : (x : List ℕ) (ws ls : List (List ℕ)) → AllRewritten ws ls → Some (λ w. x ≡ w) ws → Some (λ l. Rewritten x l) ls
-rewritten-some x [] ls r h = absurd h
-rewritten-some x (w ∷ ws) [] r h = absurd r
-rewritten-some x (w ∷ ws) (l ∷ ls) r h = ⊎-elim (λ q. inl (subst (λ (y : List ℕ). Rewritten y l) (sym q) (r .0))) (λ a. inr (rewritten-some x ws ls (r .1) a)) h
 
 -- ---- a text without LF, trimmed of a body, is a line of it, trimmed
 white-start : (b : ℕ) (l : List ℕ) → white b ≡ true → trimmed (b ∷ l) ≡ trimmed l
@@ -304,8 +282,9 @@ module _ (o : PartyOption) (text : List ℕ) (e : read o text .reply ≡ accepte
     pub read-holds : Some (λ l. holdsBic p l ≡ true) (readLines (limitsOf o .layout) text)
     read-holds =
         let ls = readLines (limitsOf o .layout) text in
-        some-as (Rewritten (f .bic)) (λ l. holdsBic p l ≡ true) (λ l r. holds-it l (ap trimmed (sym (bic-line (f .bic) bic-accepted l r)) ∙ bic-trimmed (f .bic) bic-accepted)) ls
-        (rewritten-some (f .bic) (writtenLines (saying o f)) ls (accepted-is o text e .good .lines) (bic-in (saying o f) (usedOf (f .bic)) one))
+        let first = accepted-is o text e .good .lines in
+        some-as (λ l. f .bic ≡ l) (λ l. holdsBic p l ≡ true) (λ l r. holds-it l (ap trimmed (sym r) ∙ bic-trimmed (f .bic) bic-accepted)) ls
+        (subst (Some (λ l. f .bic ≡ l)) (sym (first .are)) (some-left (λ l. f .bic ≡ l) (writtenLines (saying o f)) (first .rest) (bic-in (saying o f) (usedOf (f .bic)) one)))
 
 -- of a body that is one line, that line
 abbrev Holds : Party → List (List ℕ) → Type 0

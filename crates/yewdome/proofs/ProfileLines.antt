@@ -1,30 +1,27 @@
 -- The lines of a body under the network profile are lines that a page carries, and so are those that are written of them. Assumes nothing.
 use mathlib.Core.Path.{_≡_, refl, sym, _∙_, ap}
-use mathlib.Core.Bool.{Bool, true, false, not, _&&_, _||_, true≢false, false≢true}
-use mathlib.Core.List.{List, [], _∷_}
-use mathlib.Core.Logic.{⊎-elim}
+use mathlib.Core.Bool.{Bool, true, false, not, _&&_, _||_, true≢false}
+use mathlib.Core.List.{List, [], _∷_, _++_}
 use Prim.Native.Nat.{ℕ, zero, suc, _<_}
 use native.Mathlib.Omega.{arith}
 use lib.Dec.{eqb}
 use lib.ListN.{length, take, drop}
-use borrow.Author.Tests.{eqb-true, ne-eqb, not-true}
+use borrow.Author.Tests.{ne-eqb, not-true}
 use Rattle.errors.specs.Refusals.{accepted, must}
 use Rattle.errors.proofs.Replies.{must-held, then-second}
 use Rattle.party.specs.declared.Party.{Party}
 use Rattle.swift_utils.specs.Bytes.{all, letter, digit, alphanumeric, narrowSigns, narrow}
 use Rattle.swift_utils.specs.Checks.{bicLength, parseBic}
-use Rattle.field_utils.specs.Lines.{starts, isEmpty, lines, withoutCr}
+use Rattle.field_utils.specs.Lines.{starts, isEmpty, lines}
 use Rattle.field_utils.specs.Trim.{white, trimmedStart, keep, trimmedEnd, trimmed}
-use Rattle.field_utils.specs.Identifier.{isNumbered}
 use Rattle.field_utils.proofs.Tests.{both-left, both-right, both, either-left, either-right, neither, is-not}
 use Rattle.profile.specs.Profile.{holdsBic, isOpening, linesReply, profileReply}
 use Rattle.profile.proofs.Laws.{inside-has, lines-held}
 use Rattle.writer.specs.ReadBack.{endsCr, lastEmpty}
 use Rattle.writer.proofs.Relined.{All}
-use Rattle.writer.proofs.NamePasses.{Rewritten, AllRewritten}
 use Rattle.writer.proofs.Back.{bic-least}
 use Rattle.page_reader.specs.Pages.{opens, endsPage, isBoundary}
-use Rattle.page_reader.proofs.EndLines.{is-first, ends-not}
+use Rattle.page_reader.proofs.EndLines.{ends-not}
 use Rattle.page_writer.specs.Adding.{anyCr, anyBoundary, laterBoundary, linesCarried}
 
 -- ---- lines that a page carries: the first, one after it, and all
@@ -98,46 +95,14 @@ pub under-carried : (p : Party) (body : List ℕ) → profileReply p body ≡ ac
 unfolding profileReply
 under-carried p body e = under-first p (lines body) e
 
--- ---- lines that are written of such
-numbered-cr : (w : List ℕ) → isNumbered w ≡ true → endsCr w ≡ endsCr (drop 2 w)
-unfolding isNumbered endsCr
-numbered-cr [] e = absurd (false≢true e)
-numbered-cr (d ∷ []) e = absurd (false≢true e)
-numbered-cr (d ∷ s ∷ []) e = ne-eqb s 13 (λ q. let k = eqb-true s 47 (both-right (digit d) (eqb s 47) e) in omega (arith, q, k))
-numbered-cr (d ∷ s ∷ a ∷ x) e = refl
+-- ---- the first of such
+all-left : (ws rest : List (List ℕ)) → All Later (ws ++ rest) → All Later ws
+all-left [] rest h = tt
+all-left (w ∷ ws) rest h = (h .0, all-left ws rest (h .1))
 
-numbered-some : (w : List ℕ) → isNumbered w ≡ true → isEmpty w ≡ false
-unfolding isNumbered
-numbered-some [] e = absurd (false≢true e)
-numbered-some (d ∷ w) e = refl
-
-numbered-not : (l : List ℕ) → isNumbered l ≡ true → isBoundary true l ≡ false
-unfolding isNumbered starts withoutCr endsPage digit
-numbered-not [] e = absurd (false≢true e)
-numbered-not (d ∷ []) e = absurd (false≢true e)
-numbered-not (d ∷ s ∷ l) e =
-    let g = both-left (digit d) (eqb s 47) e in
-    let a : eqb d 58 ≡ false = ne-eqb d 58 (λ q. true≢false (sym g ∙ ap digit q)) in
-    rw a (is-first d (withoutCr (s ∷ l)) (ne-eqb d 45 (λ q. true≢false (sym g ∙ ap digit q))))
-
-module _ (w l : List ℕ) (r : Rewritten w l) where
-  front-written : Front l → Front w
-  front-written f =
-      ⊎-elim (λ e. record { cr = ap endsCr e ∙ f .cr; some = ap isEmpty e ∙ f .some })
-      (λ e. record { cr = numbered-cr w (e .0) ∙ ap endsCr (e .2) ∙ sym (numbered-cr l (e .1)) ∙ f .cr; some = numbered-some w (e .0) }) r
-
-  later-written : Later l → Later w
-  later-written h = record { front = front-written (h .front); inner = ⊎-elim (λ e. ap (isBoundary true) e ∙ h .inner) (λ e. numbered-not w (e .0)) r }
-
-all-written : (ws ls : List (List ℕ)) → AllRewritten ws ls → All Later ls → All Later ws
-all-written [] ls r h = tt
-all-written (w ∷ ws) [] r h = absurd r
-all-written (w ∷ ws) (l ∷ ls) r h = (later-written w l (r .0) (h .0), all-written ws ls (r .1) (h .1))
-
-pub carried-written : (ws ls : List (List ℕ)) → AllRewritten ws ls → Carried ls → Carried ws
-carried-written [] ls r h = tt
-carried-written (w ∷ ws) [] r h = absurd r
-carried-written (w ∷ ws) (l ∷ ls) r h = (front-written w l (r .0) (h .0), all-written ws ls (r .1) (h .1))
+pub carried-first : (ws rest : List (List ℕ)) → Carried (ws ++ rest) → Carried ws
+carried-first [] rest h = tt
+carried-first (w ∷ ws) rest h = (h .0, all-left ws rest (h .1))
 
 -- ---- texts that are read as one line
 -- a BIC

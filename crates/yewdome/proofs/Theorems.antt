@@ -15,7 +15,7 @@ use Rattle.party.specs.declared.PartyOption.{PartyOption}
 use Rattle.party.specs.declared.Text.{Text}
 use Rattle.party.specs.declared.Party.{Party}
 use Rattle.party.specs.Limits.{limitsOf, optionAt}
-use Rattle.party.specs.Text.{textMost, padded, textOf, fourTexts, Used}
+use Rattle.party.specs.Text.{textMost, padded, textOf, four, Used}
 use Rattle.party.specs.Party.{blank, where-limit, namesOf, said}
 use Rattle.reader.specs.Reading.{Reading, giving, partyOf, Found}
 use Rattle.reader.specs.Options.{foundBy, bodyReply, read}
@@ -73,10 +73,11 @@ record Made (p : Party) : Type 0 where
   bic : Good (p .bic)
   four : length (p .«name_and_address») ≡ 4
   name : (i : ℕ) → i < 4 → Good (getD (p .«name_and_address») i none)
+  digits : length (p .digits) ≡ 4
 
 made-loads : (p : Party) → Made p → p .count ≤ 4 → Loads p
 made-loads p m h rest =
-    loads-back p rest (m .four) texts
+    loads-back p rest (m .four) (m .digits) texts
     (record { account = omega (arith, m .account .len); bic = omega (arith, m .bic .len); count = omega arith; name = λ i l. omega (arith, m .name i l .len) })
   where
     texts : Sizes (textsOf p)
@@ -85,16 +86,17 @@ made-loads p m h rest =
     texts (suc (suc i)) l = m .name i (omega (arith, m .four)) .size
 
 found-made : (o : PartyOption) (f : Found) → Made (partyOf o f)
-unfolding partyOf fourTexts
+unfolding partyOf four
 found-made o f = record {
   account = good (f .account);
   bic = good (f .bic);
   four = simp (length-take, length-append) (omega arith);
   name = λ i h. rw (getD-take 4 (map textOf (f .names) ++ blanks) i none h) (good-at (f .names) i h);
+  digits = simp (length-take, length-append) (omega arith);
 }
 
 blank-loads : Loads blank
-blank-loads = made-loads blank (record { account = good []; bic = good []; four = refl; name = good-at [] }) (omega arith)
+blank-loads = made-loads blank (record { account = good []; bic = good []; four = refl; name = good-at []; digits = refl }) (omega arith)
 
 -- ---- the count of an accepted body's record
 where-length : (limit : ℕ) (us : List Used) → length (where-limit limit us) ≤ length us
@@ -103,7 +105,7 @@ where-length limit us = by-test (λ (vs : List Used). length vs ≤ length us) u
 given-count : (p : Party) → isGiven (said p) ≡ true → length (p .«name_and_address») ≡ 4 → p .count ≤ 4
 unfolding said
 given-count p e four =
-    let counted = names-are (p .option) (p .count) (said p .names) (facts (said p) e .names) .counted in
+    let counted = names-are (p .option) (p .count) (said p .digits) (said p .names) (facts (said p) e .names) .counted in
     let most = where-length (limitsOf (p .option) .names) (namesOf (p .count) p) in
     let names : length (namesOf (p .count) p) ≤ 4 = simp (length-map, length-take) (omega arith) in
     omega arith

@@ -65,7 +65,7 @@ abbrev pub Gives : Called → ℕ → List ℕ → Field → Type 0
 Gives c at into (kept p) = (isPosition (c .code) ≡ true) × Same (unflatten (c .bytes)) p
 Gives c at into (new bytes) = c ≡ readInto (readNew bytes (at + movedBy c)) at into
 
--- reads from a position on, each into any lent record of at least 237 bytes, and at the position and the bytes that the last moved past:
+-- reads from a position on, each into any lent record of at least 241 bytes, and at the position and the bytes that the last moved past:
 -- read k answers field k, and the read after them gives the end and moves to the page's length
 unfoldable pub Reads : List ℕ → ℕ → List Field → Type 0
 Reads page at [] =
@@ -80,7 +80,7 @@ pub record ExportedIndex (numbers page : List ℕ) (list : List Party) : Type 0 
   -- what reading gives at the reader's k-th step, in number and bytes
   pub step : (before : List Read) (r : Read) (later : List Read) → reads page ≡ before ++ r ∷ later → length before < length list → (into : List ℕ)
       → pageLookUp page numbers (suc (length before)) into ≡ pageRead page (r .at) into
-  -- and so the k-th record, in any lent record of at least 237 bytes
+  -- and so the k-th record, in any lent record of at least 241 bytes
   pub gives : (before : List Party) (p : Party) (later : List Party) → list ≡ before ++ p ∷ later → (into : List ℕ) → recordSize ≤ length into
       → let c = pageLookUp page numbers (suc (length before)) into in (isPosition (c .code) ≡ true) × Same (unflatten (c .bytes)) p
 

@@ -37,7 +37,7 @@ codeOf accepted = 0
 codeOf (refused k n) = k * 65536 + n
 
 -- ---- a lent record
--- the interface's own numbers, which document 01 has not and which are tested before its own: 42 where a lent record has under 237 bytes,
+-- the interface's own numbers, which document 01 has not and which are tested before its own: 42 where a lent record has under 241 bytes,
 -- 41 where there is no such option or choice
 abbrev pub lentReply : ℕ → Bool → Reply
 lentReply len known = must (leb recordSize len) 42 0 then must known 41 0

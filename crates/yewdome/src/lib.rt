@@ -1,4 +1,4 @@
-// Party fields and pages of them for programs in other languages, on numbers and lent bytes. A record is 237 bytes, as crate flat lays it
+// Party fields and pages of them for programs in other languages, on numbers and lent bytes. A record is 241 bytes, as crate flat lays it
 // out. The number that a call gives is the refusal's number × 65,536 and its line, or below 65,536 where it accepts; the reads and
 // the filing of a page give more beside it. A refusal changes no byte and no number that is lent.
 use choices::Choice;
@@ -38,7 +38,7 @@ ghost use Rattle.yewdome.specs.Filing.{openPage};
 ghost use Rattle.yewdome.specs.Interface.{codeOf, lentReply, recordReply, given, partyRead, choiceAt, partyParse, partyParseWithVariant, profileRead, profileParse, profileParseWithVariant, measuredCode, partyMeasure, partyPlace, pageRead, pageLookUp, pageBody, filedCode, pageAdd, pageAddIndex, pageClose, pageAnswers, pageFile};
 ghost use Rattle.yewdome.specs.Code.{Named, Measurable, Within, stepBy, toldStep, Walks};
 
-// The interface's own numbers, × 65,536: 41 no such option or choice, 42 a lent record of under 237 bytes, 43 too few numbers lent for
+// The interface's own numbers, × 65,536: 41 no such option or choice, 42 a lent record of under 241 bytes, 43 too few numbers lent for
 // answers. Document 01 has none of them.
 const NONE_SUCH: u32 = 41 * 65536;
 

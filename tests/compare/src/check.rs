@@ -1,13 +1,13 @@
 //! Both asked, and their answers compared, with every byte that was lent.
 
-use crate::expected;
+use crate::expected::{self, Expected};
 use crate::flat::{self, Flat};
 use crate::generate::Family;
 use crate::tally::Tally;
 use party_answers::format::escaped;
 use party_answers::model::{Answer, Call, Case, Choice, Opt, Reader};
 use party_answers::random::Random;
-use party_answers::rules::LONGEST_BODY;
+use party_answers::rules::{self, LONGEST_BODY};
 use party_compare::ours;
 use std::hint::black_box;
 
@@ -121,12 +121,16 @@ impl Checker {
 
     /// A case that both are asked. Gives the record's bytes where there is one.
     fn case(&mut self, case: &Case) -> Result<Option<Flat>, String> {
-        let (answer, rule) = expected::answer(case)?;
+        let Expected { answer, rule, in_turn } = expected::answer(case)?;
         self.tally.answer(case.reader, case.call, &answer, rule);
         let flat = self.read(case.reader, case.call, case.body.as_bytes(), &answer)?;
         if let (Answer::Read { written, .. }, Some(flat)) = (&answer, &flat) {
             self.tally.records += 1;
             self.write(flat, Ok(written))?;
+            if let Some(text) = in_turn {
+                let set = self.write(&flat::in_turn(flat), Ok(&text));
+                set.map_err(|what| format!("digits set to 1, 2, 3, 4: {what}"))?;
+            }
         }
         Ok(flat)
     }
@@ -139,7 +143,9 @@ impl Checker {
         answer: &Answer,
     ) -> Result<Option<Flat>, String> {
         let (code, flat) = match answer {
-            Answer::Read { record, .. } => (0, Some(flat::of(record))),
+            Answer::Read { record, .. } => {
+                (0, Some(flat::of(record, &rules::digits(record, body))))
+            }
             Answer::Refused { number, line } => (ours::code(*number, *line), None),
             Answer::Panicked => return Err("the Rust panics".to_string()),
         };
@@ -215,7 +221,7 @@ impl Checker {
             damage(&mut flat, random);
         }
         let written = match flat::record(&flat) {
-            Some(record) => expected::written(&record)?,
+            Some(record) => expected::written(&record, &flat[flat::FIRST_DIGIT..])?,
             None => None,
         };
         let written = match (written, flat[0] < OPTIONS) {
@@ -314,9 +320,10 @@ fn other_letter(random: &mut Random) -> u8 {
     if letter.is_ascii_uppercase() { letter.to_ascii_lowercase() } else { letter }
 }
 
-/// One damage to a record: its option, presence, count, a length, a byte used, or any byte.
+/// One damage to a record: its option, presence, count, a length, a byte used, a digit, or any byte.
 fn damage(flat: &mut Flat, random: &mut Random) {
     const SIGNS: &[u8] = b"\r\n\r\n//012Az ~\0:-\x80\xff";
+    const DIGITS: &[u8] = b"0123456789\0\r\n/:A\xff";
     let text = flat::text_at(random.below(6));
     let used = usize::from(flat[text]).clamp(1, flat::LONGEST);
     match random.below(8) {
@@ -325,7 +332,8 @@ fn damage(flat: &mut Flat, random: &mut Random) {
         2 => flat[2] = random.below(7) as u8,
         3 => flat[text] = random.pick(&[0, 1, 8, 11, 33, 34, 35, 36, 37, 38, 39, 255]),
         4 => flat[text] = flat[text].wrapping_add(random.pick(&[1, 255])),
-        5 | 6 => flat[text + 1 + random.below(used)] = random.pick(SIGNS),
+        5 => flat[text + 1 + random.below(used)] = random.pick(SIGNS),
+        6 => flat[flat::FIRST_DIGIT + random.below(flat::MOST_NAMES)] = random.pick(DIGITS),
         _ => flat[random.below(flat::LENGTH)] = random.below(256) as u8,
     }
 }

@@ -20,35 +20,64 @@ pub fn refused(call: Call, body: &[u8]) -> Option<(u8, Class)> {
     (!body.is_ascii()).then_some((13, Class::HighByte))
 }
 
-/// The answer to a case that `refused` lets pass, and the rule where it is not the Rust's.
-pub fn answer(case: &Case) -> Result<(Answer, Option<Class>), String> {
-    let rust = reference::answer(case)?;
-    if let Answer::Read { record, written } = &rust {
-        if record.option == Opt::F59 && record.party.is_some() {
-            let less = without_empty_line(record, written);
-            let written = less.ok_or_else(|| format!("no empty line in the Rust's {rust:?}"))?;
-            let ours = Answer::Read { record: record.clone(), written };
-            return Ok((ours, Some(Class::EmptyLine59F)));
-        }
+/// An answer, and the rule where it is not the Rust's.
+pub struct Expected {
+    pub answer: Answer,
+    pub rule: Option<Class>,
+    /// The Rust's text of 50F, which ours has where its digits are set to 1, 2, 3, 4.
+    pub in_turn: Option<Vec<u8>>,
+}
+
+impl Expected {
+    fn new(answer: Answer, rule: Option<Class>) -> Expected {
+        Expected { answer, rule, in_turn: None }
     }
+}
+
+/// The answer to a case that `refused` lets pass.
+pub fn answer(case: &Case) -> Result<Expected, String> {
+    match reference::answer(case)? {
+        Answer::Read { record, written } if record.option == Opt::F50 => {
+            Ok(as_it_came(record, written, case.body.as_bytes()))
+        }
+        Answer::Read { record, written } if record.option == Opt::F59 && record.party.is_some() => {
+            let less = without_empty_line(&record, &written);
+            let written = less.ok_or_else(|| format!("no empty line in the Rust's {written:?}"))?;
+            let ours = Answer::Read { record, written };
+            Ok(Expected::new(ours, Some(Class::EmptyLine59F)))
+        }
+        rust => of_50h(case, rust),
+    }
+}
+
+/// 50F, which ours writes as the lines of the body came.
+fn as_it_came(record: Record, rust: Vec<u8>, body: &[u8]) -> Expected {
+    let written = [b":50F:", &rules::lines(body).join(&b'\n')[..]].concat();
+    let rule = (written != rust).then_some(Class::Digits50F);
+    let answer = Answer::Read { record, written };
+    Expected { answer, rule, in_turn: Some(rust) }
+}
+
+/// The Rust's answer, but for the bytes of 50H's account.
+fn of_50h(case: &Case, rust: Answer) -> Result<Expected, String> {
     let read_as_50h = case.reader.picked(case.call) == Some(Opt::H50);
     let fgh = case.reader == Reader::Choice(Choice::OrderingCustomerFGH);
     let detected = fgh && case.reader.picked(case.call).is_none();
     if !read_as_50h && !detected {
-        return Ok((rust, None));
+        return Ok(Expected::new(rust, None));
     }
     let Some(account) = illegal_account(&case.body) else {
-        return Ok((rust, None));
+        return Ok(Expected::new(rust, None));
     };
     let without = if read_as_50h { (3, 1) } else { (11, 0) };
     if rust != (Answer::Refused { number: without.0, line: without.1 }) {
         return Err(format!("an account of 50H with an illegal byte, and the Rust has {rust:?}"));
     }
-    match (mended(&case.body, account)?, detected) {
-        (Answer::Refused { .. }, true) => Ok((rust, None)),
-        (ours, true) => Ok((ours, Some(Class::Detected50H))),
-        (ours, false) => Ok((ours, Some(Class::Account50H))),
-    }
+    Ok(match (mended(&case.body, account)?, detected) {
+        (Answer::Refused { .. }, true) => Expected::new(rust, None),
+        (ours, true) => Expected::new(ours, Some(Class::Detected50H)),
+        (ours, false) => Expected::new(ours, Some(Class::Account50H)),
+    })
 }
 
 /// The account of a body of two lines or more whose first is `/` and 1 to 34 bytes, one of them
@@ -72,24 +101,24 @@ fn mended(body: &str, account: &str) -> Result<Answer, String> {
     Ok(answer)
 }
 
-/// What is written of a record; none where no accepted body gives it, which is 22.
+/// What is written of a record with these digits; none where no accepted body gives it, which is 22.
 ///
 /// If any body gives the record, the body of its lines, each ended by CR LF, does.
-pub fn written(record: &Record) -> Result<Option<Vec<u8>>, String> {
-    let body = body_of(record);
+pub fn written(record: &Record, digits: &[u8]) -> Result<Option<Vec<u8>>, String> {
+    let body = body_of(record, digits);
     let Ok(body) = String::from_utf8(body) else {
         return Ok(None);
     };
     if refused(Call::Parse, body.as_bytes()).is_some() {
         return Ok(None);
     }
-    match answer(&Case::option(record.option, body))?.0 {
+    match answer(&Case::option(record.option, body))?.answer {
         Answer::Read { record: read, written } if read == *record => Ok(Some(written)),
         _ => Ok(None),
     }
 }
 
-fn body_of(record: &Record) -> Vec<u8> {
+fn body_of(record: &Record, digits: &[u8]) -> Vec<u8> {
     let party = record.party.as_deref();
     match record.option {
         Opt::C50 => return record.bic.clone(),
@@ -106,8 +135,8 @@ fn body_of(record: &Record) -> Vec<u8> {
     if let Some(party) = party {
         add(slash, party);
     }
-    let number: &[u8] = if record.option == Opt::F50 { b"1/" } else { b"" };
-    for name in &record.names {
+    for (name, &digit) in record.names.iter().zip(digits) {
+        let number: &[u8] = if record.option == Opt::F50 { &[digit, b'/'] } else { b"" };
         add(number, name);
     }
     if matches!(record.option, Opt::A50 | Opt::G50 | Opt::A59) {

@@ -1,6 +1,8 @@
 //! A record as bytes: the option's place, the presence, the count, then six texts, each its length
-//! and room for the longest one: the account or identifier, the BIC, four names.
+//! and room for the longest one: the account or identifier, the BIC, four names; then four digits,
+//! those of the names' lines in 50F.
 
+use party_answers::differences::IN_TURN;
 use party_answers::model::{Opt, Record};
 use party_compare::ours;
 
@@ -8,12 +10,15 @@ pub const LENGTH: usize = ours::RECORD_LENGTH;
 const FIRST_TEXT: usize = 3;
 const TEXT: usize = 39;
 pub const LONGEST: usize = TEXT - 1;
-const MOST_NAMES: usize = 4;
+const TEXTS: [&str; 6] = ["account", "BIC", "name 1", "name 2", "name 3", "name 4"];
+pub const MOST_NAMES: usize = 4;
+pub const FIRST_DIGIT: usize = FIRST_TEXT + TEXTS.len() * TEXT;
+const _: () = assert!(LENGTH == FIRST_DIGIT + MOST_NAMES);
 
 pub type Flat = [u8; LENGTH];
 
-/// The bytes of a record that a reader gives: those not used are 0.
-pub fn of(record: &Record) -> Flat {
+/// The bytes of a record that a reader gives, with the digits that it uses: those not used are 0.
+pub fn of(record: &Record, digits: &[u8]) -> Flat {
     let mut flat = [0; LENGTH];
     flat[0] = record.option as u8;
     flat[1] = u8::from(record.party.is_some());
@@ -23,6 +28,14 @@ pub fn of(record: &Record) -> Flat {
     for (at, name) in record.names.iter().enumerate() {
         put(&mut flat, 2 + at, name);
     }
+    flat[FIRST_DIGIT..][..digits.len()].copy_from_slice(digits);
+    flat
+}
+
+/// The bytes with the digits set to 1, 2, 3, 4.
+pub fn in_turn(flat: &Flat) -> Flat {
+    let mut flat = *flat;
+    flat[FIRST_DIGIT..].copy_from_slice(&IN_TURN);
     flat
 }
 
@@ -72,11 +85,11 @@ fn text(flat: &Flat, index: usize) -> Option<Vec<u8>> {
 
 /// The name of the field that a byte of a record belongs to.
 pub fn field(at: usize) -> String {
-    const TEXTS: [&str; 6] = ["account", "BIC", "name 1", "name 2", "name 3", "name 4"];
     match at {
         0 => "option".to_string(),
         1 => "presence".to_string(),
         2 => "count".to_string(),
+        FIRST_DIGIT.. => format!("digit {}", at - FIRST_DIGIT + 1),
         _ => {
             let (text, byte) = ((at - FIRST_TEXT) / TEXT, (at - FIRST_TEXT) % TEXT);
             match byte {

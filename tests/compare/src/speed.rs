@@ -107,7 +107,8 @@ fn option<T: SwiftField>(option: Opt, body: &str) {
     );
 }
 
-/// What ours must write: the Rust's text, but for the empty line of 59F.
+/// What ours must write: the Rust's text, but for the empty line of 59F. The lines of the body that
+/// 50F reads have the digits that the Rust writes.
 fn field_text(option: Opt, body: &str) -> Vec<u8> {
     match reference::answer(&Case::option(option, body)) {
         Ok(Answer::Read { record, written }) => {

@@ -3,6 +3,9 @@
 use crate::model::{Answer, Case, Choice, Opt, Reader, Record};
 use crate::rules;
 
+/// The digits of 50F's lines as the Rust writes them.
+pub const IN_TURN: [u8; 4] = *b"1234";
+
 /// The classes of difference, as docs/DIFFERENCES.md names them.
 #[derive(Clone, Copy, Debug, PartialEq, Eq, PartialOrd, Ord)]
 pub enum Class {
@@ -12,6 +15,8 @@ pub enum Class {
     Detected50H,
     /// The Rust writes an empty line after the identifier of 59F.
     EmptyLine59F,
+    /// The Rust numbers the lines of 50F, which came with other digits.
+    Digits50F,
     /// 12: a body over 2,048 bytes.
     LongBody,
     /// 13: a byte above 127.
@@ -21,10 +26,11 @@ pub enum Class {
 }
 
 impl Class {
-    pub const ALL: [Class; 6] = [
+    pub const ALL: [Class; 7] = [
         Class::Account50H,
         Class::Detected50H,
         Class::EmptyLine59F,
+        Class::Digits50F,
         Class::LongBody,
         Class::HighByte,
         Class::Letter,
@@ -35,6 +41,7 @@ impl Class {
             Class::Account50H => "50H, bytes of the account",
             Class::Detected50H => "FGH detected, bytes of the account",
             Class::EmptyLine59F => "59F, the LF of its empty line",
+            Class::Digits50F => "50F, digits other than 1, 2, 3, 4",
             Class::LongBody => "12, body over 2,048",
             Class::HighByte => "13, byte above 127",
             Class::Letter => "14, letter none of A to Z",
@@ -55,8 +62,7 @@ pub fn class(case: &Case, rust: &Answer, ours: &Answer) -> Option<Class> {
     if let (Answer::Read { record, written }, Answer::Read { record: read, written: due }) =
         (rust, ours)
     {
-        let less = without_empty_line(record, written).filter(|_| record == read)?;
-        return (less == *due).then_some(Class::EmptyLine59F);
+        return text_class(record, written, due).filter(|_| record == read);
     }
     if !has_illegal_account(&case.body) {
         return None;
@@ -70,6 +76,15 @@ pub fn class(case: &Case, rust: &Answer, ours: &Answer) -> Option<Class> {
         }
         _ => None,
     }
+}
+
+/// The class of a difference in the text of a record.
+fn text_class(record: &Record, rust: &[u8], ours: &[u8]) -> Option<Class> {
+    if without_empty_line(record, rust).is_some_and(|less| less == ours) {
+        return Some(Class::EmptyLine59F);
+    }
+    let is_numbered = record.option == Opt::F50 && rules::written(record, &IN_TURN) == rust;
+    is_numbered.then_some(Class::Digits50F)
 }
 
 /// The Rust's text of 59F with an identifier, with one LF removed: that of the empty line after the

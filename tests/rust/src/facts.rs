@@ -8,7 +8,7 @@ use swift_mt_message::traits::SwiftField;
 
 /// Checks each fact, and stops at one that does not hold.
 pub fn check() -> Result<usize, String> {
-    let facts = [writings(), empty_line(), variants()?].concat();
+    let facts = [writings(), empty_line(), digits(), variants()?].concat();
     for (name, found, expected) in &facts {
         if found != expected {
             return Err(format!("{name}: {found:?}"));
@@ -35,6 +35,15 @@ fn writings() -> Vec<Fact> {
 fn empty_line() -> Vec<Fact> {
     let written = Field59F::parse("/1\n1/A").map(|field| field.to_swift_string());
     vec![("59F with an identifier", written.unwrap_or_default(), ":59F:/1\n\n1/A")]
+}
+
+/// 50F, of which the Rust keeps no digit.
+fn digits() -> Vec<Fact> {
+    let written = |body| Field50F::parse(body).map_or(String::new(), |it| it.to_swift_string());
+    vec![
+        ("50F, a digit that is not 1", written("X\n0/"), ":50F:X\n1/"),
+        ("50F, two sevens", written("X\n7/A\n7/B"), ":50F:X\n1/A\n2/B"),
+    ]
 }
 
 /// Variants that our one letter cannot say.

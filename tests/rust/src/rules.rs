@@ -19,7 +19,7 @@ const PARTY: usize = 35;
 pub fn answer(case: &Case) -> Answer {
     match reading(case) {
         Ok(record) => {
-            let written = written(&record);
+            let written = written(&record, &digits(&record, case.body.as_bytes()));
             Answer::Read { record, written }
         }
         Err((number, line)) => Answer::Refused { number, line },
@@ -362,13 +362,22 @@ fn starts_numbered(lines: &[&[u8]]) -> bool {
 
 // Writing.
 
-fn written(record: &Record) -> Vec<u8> {
+/// The digits of the lines of 50F, as they came in the body that gives the record. No other option
+/// has them beside its names.
+pub fn digits(record: &Record, body: &[u8]) -> Vec<u8> {
+    match record.option {
+        Opt::F50 => lines(body).iter().skip(1).map(|line| line[0]).collect(),
+        _ => Vec::new(),
+    }
+}
+
+pub fn written(record: &Record, digits: &[u8]) -> Vec<u8> {
     let mut lines: Vec<Vec<u8>> = Vec::new();
     if let Some(party) = &record.party {
         lines.push(party_line(record.option, party));
     }
     for (index, name) in record.names.iter().enumerate() {
-        lines.push(name_line(record.option, index, name));
+        lines.push(name_line(digits.get(index), name));
     }
     if !record.bic.is_empty() {
         lines.push(record.bic.clone());
@@ -384,9 +393,9 @@ fn party_line(option: Opt, party: &[u8]) -> Vec<u8> {
     }
 }
 
-fn name_line(option: Opt, index: usize, name: &[u8]) -> Vec<u8> {
-    match option {
-        Opt::F50 => [format!("{}/", index + 1).as_bytes(), name].concat(),
-        _ => name.to_vec(),
+fn name_line(digit: Option<&u8>, name: &[u8]) -> Vec<u8> {
+    match digit {
+        Some(&digit) => [&[digit, b'/'], name].concat(),
+        None => name.to_vec(),
     }
 }

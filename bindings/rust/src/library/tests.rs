@@ -2,13 +2,14 @@
 
 use super::*;
 use crate::pages::{Entry, LONGEST_BODY, LONGEST_FIELD, MOST_ENTRIES};
-use crate::record::LENGTH;
+use crate::record::{FIRST_DIGIT, LENGTH};
 
 const STALE: u8 = 0xa5;
 const STALE_NUMBER: u64 = u64::from_be_bytes([STALE; 8]);
 const BODY: &[u8] = b"/12\nACME";
 const FIELD: &[u8] = b":50K:/12\nACME";
 const PAGE: &[u8] = b":50K:/12\nACME\n-\n";
+const OPTION_50F: u8 = 2;
 const OPTION_50K: u8 = 3;
 const AFK: u8 = 2;
 const OPTIONS: u8 = 11;
@@ -224,6 +225,76 @@ fn a_presence_that_is_neither_0_nor_1_is_22() {
     }
 }
 
+/// What stores a record, and gives the library's number.
+type Storing<'a> = &'a dyn Fn(&mut [u8]) -> u64;
+
+/// The records that the readers store of a body of 50F, over stale bytes.
+fn of_50f(body: &[u8]) -> [[u8; LENGTH]; 8] {
+    let page = [b":50F:", body, b"\n-\n"].concat();
+    let index = index_of(&[1, OPTION_50F.into(), 0, 5 + body.len() as u32]);
+    let readers: [Storing; 8] = [
+        &|out| party_read(OPTION_50F, body, out).into(),
+        &|out| party_parse(AFK, body, out).into(),
+        &|out| party_parse_with_variant(AFK, body, b'F', out).into(),
+        &|out| profile_read(OPTION_50F, body, out).into(),
+        &|out| profile_parse(AFK, body, out).into(),
+        &|out| profile_parse_with_variant(AFK, body, b'F', out).into(),
+        &|out| page_read(&page, 0, out),
+        &|out| page_look_up(&page, &index, 1, out),
+    ];
+    readers.map(|reader| {
+        let mut out = [STALE; LENGTH];
+        assert_eq!(reader(&mut out) >> 16, 0);
+        out
+    })
+}
+
+#[test]
+fn the_digits_stand_last_and_those_not_used_are_0() {
+    let cases: [(&[u8], &[u8; 4]); 5] = [
+        (b"X\n7/A", b"7\0\0\0"),
+        (b"X\n7/A\n7/B", b"77\0\0"),
+        (b"X\n0/A\n9/B\n0/C", b"090\0"),
+        (b"X\n4/A\n3/B\n2/C\n1/D", b"4321"),
+        (b"X\r\n5/A\r\n6/\r\n", b"56\0\0"),
+    ];
+    for (body, digits) in cases {
+        for record in of_50f(body) {
+            assert_eq!(&record[FIRST_DIGIT..], digits);
+        }
+    }
+    // 50, 50K, 59 and 59F use none
+    for option in [0, OPTION_50K, 8, 10] {
+        let mut out = [STALE; LENGTH];
+        assert_eq!(party_read(option, b"1/A\n2/B", &mut out), 0);
+        assert_eq!(out[FIRST_DIGIT..], [0; 4]);
+    }
+}
+
+#[test]
+fn a_used_digit_that_is_none_is_22() {
+    for place in 0..4 {
+        for byte in 0..=255 {
+            let [mut record, ..] = of_50f(b"X\n1/A\n2/B");
+            record[FIRST_DIGIT + place] = byte;
+            if place < 2 && !byte.is_ascii_digit() {
+                assert_eq!(refused_always(&record, 0), 22);
+                continue;
+            }
+            let (mut buffer, mut due) = ([STALE; 64], *b":50F:X\n1/A\n2/B\n");
+            if place < 2 {
+                due[b":50F:X\n".len() + 4 * place] = byte;
+            }
+            assert_eq!(party_measure(&record), due.len() as u32 - 1);
+            assert_eq!(page_add(&record, &mut buffer, 0), due.len() as u32);
+            assert_eq!(&buffer[..due.len()], due);
+        }
+    }
+    let mut record = lent(LENGTH);
+    record[FIRST_DIGIT..].fill(STALE);
+    assert_eq!(party_measure(&record), FIELD.len() as u32, "50K uses none");
+}
+
 #[test]
 fn a_record_is_placed_in_just_the_space_that_it_measures() {
     let record = lent(LENGTH);
@@ -352,6 +423,7 @@ fn the_header_has_the_version_and_the_lengths() {
     assert_eq!(defined("VERSION"), format!("\"{version}\""));
     for (name, length) in [
         ("RECORD_LENGTH", LENGTH),
+        ("FIRST_DIGIT", FIRST_DIGIT),
         ("LONGEST_BODY", LONGEST_BODY),
         ("LONGEST_FIELD", LONGEST_FIELD),
         ("LONGEST_PAGE", LONGEST_PAGE),

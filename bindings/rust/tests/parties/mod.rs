@@ -17,7 +17,7 @@ pub fn one_of_each() -> [Party; 11] {
     [
         parsed::<Field50NoOption>("PLAIN\nSTREET").into(),
         parsed::<Field50A>("/C/123\nDEUTDEFF").into(),
-        parsed::<Field50F>("/12\n1/JANE ROE\n2/LOW ROAD").into(),
+        parsed::<Field50F>("/12\n7/JANE ROE\n7/LOW ROAD").into(),
         parsed::<Field50K>("/DE89\nMUELLER GMBH").into(),
         parsed::<Field50C>("BNPAFRPPXXX").into(),
         parsed::<Field50L>("TREASURY 7").into(),

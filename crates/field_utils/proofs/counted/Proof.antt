@@ -11,7 +11,7 @@ use Rattle.field_utils.proofs.counted.Tie as tie
 -- what the reply after the lines gives
 module _ (t : tie.Start) where
   abbrev gives : Reply → NamesRead
-  gives r = givenNames r (t .args .count) (t .args .texts)
+  gives r = givenNames r (t .args .count) (t .args .texts) (t .args .digits)
 
   abbrev rest : Reply
   rest = parseRest (t .args .illegal) (t .args .most) (t .args .count)

@@ -15,7 +15,7 @@ use Rattle.errors.specs.Refusals.{Reply, accepted, refused, told, must}
 use Rattle.party.specs.declared.PartyOption.{PartyOption}
 use Rattle.party.specs.declared.Limits.{Limits}
 use Rattle.party.specs.declared.Text.{Text}
-use Rattle.party.specs.Text.{padded, textOf, fourTexts}
+use Rattle.party.specs.Text.{padded, textOf, four, fourTexts}
 use Rattle.party.specs.declared.Numbering.{Numbering}
 use Rattle.swift_utils.specs.Bytes.{all, legal}
 use Rattle.swift_utils.proofs.Classes.{class-legal, all-fails, all-passes, all-done}
@@ -31,17 +31,17 @@ use Rattle.field_utils.proofs.parse_name_and_address.Statement.{stateme
 use Rattle.field_utils.proofs.parse_name_and_address.Tie as tie
 
 abbrev Inv-loop : tie.InvT-loop
-Inv-loop body start-idx limits numbering kept classes texts count start end rest turn line input i₀ i = all legal input ≡ all legal (part i (length input) input)
+Inv-loop body start-idx limits numbering kept classes texts digits count start end rest turn line input i₀ i = all legal input ≡ all legal (part i (length input) input)
 
 abbrev μ-loop : tie.MeasureT-loop
-μ-loop body start-idx limits numbering kept classes texts count start end rest turn line input i₀ i = length input - i
+μ-loop body start-idx limits numbering kept classes texts digits count start end rest turn line input i₀ i = length input - i
 
 abbrev Inv-lines : tie.InvT-lines
-Inv-lines body start-idx limits numbering kept classes texts₀ cursor₀ count₀ texts cursor count =
-    (count ≤ cursor .at) × Passed numbering (limits .name) start-idx kept (lines (drop (cursor₀ .at) body)) count texts (lines (drop (cursor .at) body))
+Inv-lines body start-idx limits numbering kept classes texts₀ digits₀ cursor₀ count₀ texts digits cursor count =
+    (count ≤ cursor .at) × Passed numbering (limits .name) start-idx kept (lines (drop (cursor₀ .at) body)) count texts digits (lines (drop (cursor .at) body))
 
 abbrev μ-lines : tie.MeasureT-lines
-μ-lines body start-idx limits numbering kept classes texts₀ cursor₀ count₀ texts cursor count = length body - cursor .at
+μ-lines body start-idx limits numbering kept classes texts₀ digits₀ cursor₀ count₀ texts digits cursor count = length body - cursor .at
 
 -- at the head of the loop over the lines
 module _ (t : tie.At-lines Inv-loop μ-loop Inv-lines μ-lines) where
@@ -57,6 +57,9 @@ module _ (t : tie.At-lines Inv-loop μ-loop Inv-lines μ-lines) where
 
   abbrev texts : List Text
   texts = t .lines .texts
+
+  abbrev digits : List ℕ
+  digits = t .lines .digits
 
   -- where the next line starts
   abbrev place : ℕ
@@ -113,8 +116,8 @@ module _ (k : tie.After-known-told Inv-loop μ-loop Inv-lines μ-lines) where
   counts = omega (arith, fits .moved, head .lines .inv .0)
 
   -- those before it have passed
-  so-far : Passed (numbering head) (limits head .name) (earlier head) (skip head) (names head) (count head) (texts head) (line ∷ lines (drop rest (body head)))
-  so-far = subst (Passed _ _ _ _ _ _ _) (fits .line) (head .lines .inv .1)
+  so-far : Passed (numbering head) (limits head .name) (earlier head) (skip head) (names head) (count head) (texts head) (digits head) (line ∷ lines (drop rest (body head)))
+  so-far = subst (Passed _ _ _ _ _ _ _ _) (fits .line) (head .lines .inv .1)
 
   -- what the line says before its bytes, and whole
   abbrev shape : Reply
@@ -124,7 +127,7 @@ module _ (k : tie.After-known-told Inv-loop μ-loop Inv-lines μ-lines) where
   says = parseLine (numbering head) (limits head .name) number turn line
 
   -- a refusal of this line is that of the names
-  refusal : {r j : ℕ} → says ≡ refused r j → _≡_ {A = NamesRead} (record { reply = refused r j; count = 0; texts = fourTexts [] }) (answer head)
+  refusal : {r j : ℕ} → says ≡ refused r j → _≡_ {A = NamesRead} (record { reply = refused r j; count = 0; texts = fourTexts []; digits = four 0 [] }) (answer head)
   refusal e =
       sym
       (read-refused (option head) (head .before .before .before .limits-of .ensures) (suc (earlier head)) (names head)
@@ -164,7 +167,7 @@ module _ (c : tie.After-shared-slice-known2 Inv-loop μ-loop Inv-lines μ-lines)
   by-table : {t : Bool} → leb 1 class ≡ t → legal byte ≡ t
   by-table e = sym (class-legal byte) ∙ by-entry 1 byte (head this .before .class-table .ensures) e
 
-illegal-byte : (c : tie.Then1 Inv-loop μ-loop Inv-lines μ-lines) → let k = this (c .before) in _≡_ {A = NamesRead} (record { reply = refused 3 (number k); count = 0; texts = fourTexts [] }) (answer (head k))
+illegal-byte : (c : tie.Then1 Inv-loop μ-loop Inv-lines μ-lines) → let k = this (c .before) in _≡_ {A = NamesRead} (record { reply = refused 3 (number k); count = 0; texts = fourTexts []; digits = four 0 [] }) (answer (head k))
 illegal-byte c =
     let k = this (c .before) in
     refusal k
@@ -184,11 +187,11 @@ module _ (e : tie.After-loop Inv-loop μ-loop Inv-lines μ-lines) where
 
 -- no line is left
 all-passed : (c : tie.After-enum-told Inv-loop μ-loop Inv-lines μ-lines) → let t = c .before .before .before in
-    givenNames (parseCount (limits t .names) (count t)) (count t) (texts t) ≡ answer t
+    givenNames (parseCount (limits t .names) (count t)) (count t) (texts t) (digits t) ≡ answer t
 all-passed c =
     let t = c .before .before .before in
     let none = found (body t) (place t) (c .before .before .next .ensures) (c .enum-told .given .1) .0 in
-    sym (passed-all (option t) (t .before .before .before .limits-of .ensures) (t .before .before .kept-from .ensures) (subst (Passed _ _ _ _ _ _ _) none (t .lines .inv .1)))
+    sym (passed-all (option t) (t .before .before .before .limits-of .ensures) (t .before .before .kept-from .ensures) (subst (Passed _ _ _ _ _ _ _ _) none (t .lines .inv .1)))
 
 -- the loop was left with no line left, or with the line of an illegal byte
 module _ (m : tie.At-match-came Inv-loop μ-loop Inv-lines μ-lines) where
@@ -196,7 +199,7 @@ module _ (m : tie.At-match-came Inv-loop μ-loop Inv-lines μ-lines) where
   last = m .before .before
 
   abbrev gives : Reply → NamesRead
-  gives r = givenNames r (count last) (texts last)
+  gives r = givenNames r (count last) (texts last) (digits last)
 
   ends : gives (parseRest (m .match .illegal) (limits last .names) (count last)) ≡ answer last
   ends =
@@ -214,8 +217,8 @@ module _ (m : tie.At-match-came Inv-loop μ-loop Inv-lines μ-lines) where
       (m .match .came)
 
 lines-holds : tie.Need-lines-holds Inv-loop μ-loop Inv-lines μ-lines
-unfolding fourTexts padded textOf
-lines-holds c = (omega arith, passed-none _ _ _ _ _ refl)
+unfolding four padded textOf
+lines-holds c = (omega arith, passed-none _ _ _ _ _ refl refl)
 
 returns : tie.Need-returns Inv-loop μ-loop Inv-lines μ-lines
 returns c =
@@ -232,8 +235,9 @@ loop-again c =
 
 lines-again : tie.Need-lines-again Inv-loop μ-loop Inv-lines μ-lines
 lines-again c =
-    let e = c .before .before .before in
-    (counts (passed e), passed-more (so-far (passed e)) (passes e) (c .before .before .if2 .taken) (c .text-of .ensures ∙ ap textOf (part-end (line (passed e)) (skip (head (passed e))))))
+    let text = c .before in
+    let e = text .before .before .before in
+    (counts (passed e), passed-more (so-far (passed e)) (passes e) (text .before .before .if2 .taken) (text .text-of .ensures ∙ ap textOf (part-end (line (passed e)) (skip (head (passed e))))) (c .digit-of .ensures))
 
 lines-again-2 : tie.Need-lines-again-2 Inv-loop μ-loop Inv-lines μ-lines
 lines-again-2 c = let e = c .before in (counts (passed e), passed-past (so-far (passed e)) (passes e) (c .if2 .left))
@@ -276,7 +280,9 @@ parse-name-and-address-spec =
     (λ c κs. search needs)
     (λ c. omega (arith, c .before .before .if2 .taken))
     (λ c. omega (arith, c .before .before .if2 .taken))
-    (λ c. let k = passed (c .before .before .before) in omega (arith, fits k .moved, fits k .within))
+    (λ c κs. search needs)
+    (λ c. omega (arith, c .before .before .before .if2 .taken))
+    (λ c. let k = passed (c .before .before .before .before) in omega (arith, fits k .moved, fits k .within))
     lines-again
     (λ c. let k = passed (c .before) in omega (arith, fits k .moved, fits k .within))
     lines-again-2

@@ -52,10 +52,13 @@ shared-slice-read-t16 c = omega (arith, size (c .before .before .before .before 
 cast-t17 : tie.Need-cast-t17
 cast-t17 c = omega (arith, c .shared-slice-known4 .given 2)
 
+digits-at-requires : tie.Need-digits-at-requires
+digits-at-requires c κs = omega (arith, size (c .before .before .before .before .before .before .before .before .before .before))
+
 returns-2 : tie.Need-returns-2
 unfolding partyFrom
 returns-2 c =
-    let bic = c .before in
+    let bic = c .before .before in
     let account = bic .before in
     let option = account .before .before in
     let name4 = option .before .before in
@@ -63,7 +66,7 @@ returns-2 c =
     let name2 = name3 .before in
     let name1 = name2 .before in
     let flat = sym (name1 .before .before .is-flat .ensures) ∙ not-false _ (name1 .before .if1 .left) in
-    rw (option .option-at .ensures, account .text-at5 .ensures, bic .text-at6 .ensures, name1 .text-at .ensures, name2 .text-at2 .ensures, name3 .text-at3 .ensures, name4 .text-at4 .ensures)
+    rw (option .option-at .ensures, account .text-at5 .ensures, bic .text-at6 .ensures, name1 .text-at .ensures, name2 .text-at2 .ensures, name3 .text-at3 .ensures, name4 .text-at4 .ensures, c .digits-at .ensures)
     (sym (loaded _ flat))
 
 pub load-spec : {M : Type 1} → statement M
@@ -85,4 +88,5 @@ load-spec =
     text-at-requires-6
     shared-slice-read-t16
     cast-t17
+    digits-at-requires
     returns-2)

@@ -1,22 +1,20 @@
 -- `flat::put_text` meets its contract. The loop's invariant: the first bytes of the text stand after its length.
 -- Assumes nothing.
 use Prim.Native.Nat.{_≤_, _<_, _+_, _-_}
-use mathlib.Core.Path.{_≡_, refl, _∙_}
-use native.Mathlib.Numerals.{add-one}
+use mathlib.Core.Path.{_≡_, _∙_}
 use native.Mathlib.Omega.{arith}
 use borrow.Author.Needs.{needs}
 use lib.ListN.{length, set, length-set}
-use lib.Seq.{paste, paste-zero, paste-suc}
 use Rattle.party.specs.Text.{textMost}
 use Rattle.party.proofs.Values.{is-text}
 use Rattle.flat.specs.Flat.{byteOf}
-use Rattle.flat.proofs.Laws.{text-put}
+use Rattle.flat.proofs.Laws.{Copied, copied-none, copied-more, text-put}
 use Rattle.flat.proofs.put_text.Statement.{statement}
 use Rattle.flat.proofs.put_text.Tie as tie
 
 abbrev Inv-loop : tie.InvT-loop
 Inv-loop out₀ at t len from i₀ out i =
-    (i ≤ textMost) × (length out ≡ length out₀) × (out ≡ paste out₀ from (t .bytes) i)
+    (i ≤ textMost) × Copied out₀ from (t .bytes) i out
 
 abbrev μ-loop : tie.MeasureT-loop
 μ-loop out₀ at t len from i₀ out i = textMost - i
@@ -24,7 +22,7 @@ abbrev μ-loop : tie.MeasureT-loop
 loop-holds : tie.Need-loop-holds Inv-loop μ-loop
 loop-holds c =
     let a = c .before .before .args in
-    (omega arith, refl, paste-zero (set (a .out .now) (a .at) (c .byte-of .result)) (a .at + 1) (a .t1 .bytes))
+    (omega arith, copied-none (set (a .out .now) (a .at) (c .byte-of .result)) (a .at + 1) (a .t1 .bytes))
 
 slice-write-out-2 : tie.Need-slice-write-out-2 Inv-loop μ-loop
 slice-write-out-2 c =
@@ -38,23 +36,20 @@ loop-again c =
     let d = set (a .out .now) (a .at) (at .before .byte-of .result) in
     let i = at .loop .i in
     let size : length (a .t1 .bytes) ≡ textMost = is-text (a .t1) _ (at .before .before .before .good .0) .size in
-    let room : a .at + 1 + i < length d = omega (arith, length-set (a .out .now) (a .at) (at .before .byte-of .result)) in (
-      omega arith,
-      simp length-set (simp length-set at (at .loop .inv .1)),
-      rw (at .loop .inv .2, add-one i) (paste-suc d (a .at + 1) (a .t1 .bytes) i 0 room (omega arith)),
-    )
+    let room : a .at + 1 + i < length d = omega (arith, length-set (a .out .now) (a .at) (at .before .byte-of .result)) in
+    (omega arith, copied-more d (a .at + 1) (a .t1 .bytes) i (at .loop .out) (at .loop .inv .1) room (omega arith))
 
 same-length : tie.Need-same-length Inv-loop μ-loop
 same-length c =
     let a = c .before .before .before .before .args in
-    c .before .loop .inv .1 ∙ length-set (a .out .now) (a .at) (c .before .before .byte-of .result)
+    c .before .loop .inv .1 .size ∙ length-set (a .out .now) (a .at) (c .before .before .byte-of .result)
 
 returns : tie.Need-returns Inv-loop μ-loop
 returns c =
     let at = c .before in
     let a = at .before .before .before .args in
     let all : at .loop .i ≡ textMost = omega arith in
-    at .loop .inv .2 ∙ rw (all, at .before .byte-of .ensures) (text-put (a .out .now) (a .t1 .bytes) (a .at) (byteOf (a .t1 .len)) (at .before .before .before .pre))
+    at .loop .inv .1 .bytes ∙ rw (all, at .before .byte-of .ensures) (text-put (a .out .now) (a .t1 .bytes) (a .at) (byteOf (a .t1 .len)) (at .before .before .before .pre))
 
 pub put-text-spec : {M : Type 1} → statement M
 put-text-spec =

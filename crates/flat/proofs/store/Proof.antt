@@ -1,4 +1,4 @@
--- `flat::store` meets its contract: the three stores and the texts are the flat record.
+-- `flat::store` meets its contract: the three stores, the texts and the digits are the flat record.
 -- Assumes nothing.
 use mathlib.Core.Path.{_∙_, sym}
 use native.Mathlib.Omega.{arith}
@@ -29,13 +29,19 @@ slice-write-out-3 c = simp length-set (omega arith)
 put-texts-requires : tie.Need-put-texts-requires
 put-texts-requires c κs = simp length-set (omega arith)
 
+put-digits-requires : tie.Need-put-digits-requires
+put-digits-requires c κs = omega (arith, simp length-set at (c .before .before .before .put-texts .kept .1 .0))
+
 same-length : tie.Need-same-length
-same-length c = c .before .before .put-texts .kept .1 .0 ∙ simp length-set
+same-length c =
+    let digits = c .before .before in
+    digits .put-digits .kept .1 .0 ∙ simp length-set at (digits .before .before .before .before .put-texts .kept .1 .0)
 
 returns-2 : tie.Need-returns-2
 returns-2 c =
-    let put = c .before .before in
-    let count = put .before .before in
+    let digits = c .before .before in
+    let texts = digits .before .before .before .before in
+    let count = texts .before .before in
     let present = count .before in
     let option = present .before in
     let start = option .before .before .before in
@@ -43,8 +49,8 @@ returns-2 c =
     let d = start .args .out .now in
     let room = option .before .if1 .left in (
       sym (le-leb recordSize (length d) room),
-      put .put-texts .ensures
-          ∙ rw (option .index-of .ensures, present .bit .ensures, count .byte-of .ensures) (store-all p d (is-party p _ (start .good .0)) room)
+      digits .put-digits .ensures
+          ∙ rw (texts .put-texts .ensures, option .index-of .ensures, present .bit .ensures, count .byte-of .ensures) (store-all p d (is-party p _ (start .good .0)) room)
           ∙ sym (stored-whole p d room),
     )
 
@@ -61,5 +67,6 @@ store-spec =
     (λ c κs. search needs)
     slice-write-out-3
     put-texts-requires
+    put-digits-requires
     same-length
     returns-2)

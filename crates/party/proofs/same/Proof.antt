@@ -9,7 +9,7 @@ use Rattle.party.specs.Limits.{limitsOf, placeOf}
 use Rattle.party.specs.Party.{where-limit, Same}
 use Rattle.party.proofs.Laws.{holds, fails, decides-as, equal-true, equal-false, where-none, where-same}
 use Rattle.party.proofs.Options.{place-one}
-use Rattle.party.proofs.Said.{SameHead, SameAccount, SameBic, SameNames, head, account, bic, names, same}
+use Rattle.party.proofs.Said.{SameHead, SameAccount, SameBic, SameNames, SameDigits, head, account, bic, names, digits, same}
 use Rattle.party.proofs.same.Statement.{statement}
 use Rattle.party.proofs.same.Tie as tie
 
@@ -32,7 +32,7 @@ module _ (c : tie.After-limits-of) where
         count = c3 .if3 .left;
       }
 
--- the tests of account and BIC
+-- the tests of account, BIC and digits
 accounted :
     (c : tie.After-same-where) →
     let l = c .before .before .before in
@@ -45,16 +45,23 @@ with-bic :
     Decides (c .same-where2 .result) (SameBic (p l) (q l))
 with-bic c = rw (c .before .before .before .before .before .before .before .limits-of .ensures) at (c .same-where2 .ensures)
 
--- past both, the names are left
-module _ (c : tie.Else5) where
+with-digits :
+    (c : tie.After-same-numbers) →
+    let l = c .before .before .before .before .before .before .before .before .before in
+    Decides (c .same-numbers .result) (SameDigits (p l) (q l))
+with-digits c = rw (c .before .before .before .before .before .before .before .before .before .limits-of .ensures) at (c .same-numbers .ensures)
+
+-- past all three, the names are left
+module _ (c : tie.Else6) where
   abbrev limits : tie.After-limits-of
-  limits = c .before .before .before .before .before .before .before .before
+  limits = c .before .before .before .before .before .before .before .before .before .before
 
   by-names : SameNames (p limits) (q limits) → Same (p limits) (q limits)
   by-names n =
-      let c4 = c .before .before .before .before in
+      let c5 = c .before .before in
+      let c4 = c5 .before .before .before .before in
       same (headed limits) (accounted (c4 .before) .yes (not-false _ (c4 .if4 .left)))
-      (with-bic (c .before) .yes (not-false _ (c .if5 .left))) n
+      (with-bic (c5 .before) .yes (not-false _ (c5 .if5 .left))) n (with-digits (c .before) .yes (not-false _ (c .if6 .left)))
 
 returns : tie.Need-returns
 returns c =
@@ -80,15 +87,20 @@ returns-5 c =
 
 returns-6 : tie.Need-returns-6
 returns-6 c =
-    let c5 = c .before .before in
-    holds (by-names c5 (where-none _ _ _ (rw (limits c5 .limits-of .ensures) at (c .if6 .taken))))
+    let l = c .before .before .before .before .before .before .before .before .before .before in
+    fails (λ e. with-digits (c .before) .no (not-true _ (c .if6 .taken)) (digits (headed l) e))
 
 returns-7 : tie.Need-returns-7
 returns-7 c =
-    let c5 = c .before .before .before in
-    let l = limits c5 in
-    decides-as (λ n. by-names c5 (ap (where-limit (limitsOf (p l .option) .names)) n))
-    (λ e. where-same _ _ _ (rw (l .limits-of .ensures) at (c .before .if6 .left)) (names (headed l) e)) (c .same-names .ensures)
+    let c6 = c .before .before in
+    holds (by-names c6 (where-none _ _ _ (rw (limits c6 .limits-of .ensures) at (c .if7 .taken))))
+
+returns-8 : tie.Need-returns-8
+returns-8 c =
+    let c6 = c .before .before .before in
+    let l = limits c6 in
+    decides-as (λ n. by-names c6 (ap (where-limit (limitsOf (p l .option) .names)) n))
+    (λ e. where-same _ _ _ (rw (l .limits-of .ensures) at (c .before .if7 .left)) (names (headed l) e)) (c .same-names .ensures)
 
 pub same-spec : {M : Type 1} → statement M
 same-spec =
@@ -104,6 +116,8 @@ same-spec =
     returns-4
     (λ c κs. search needs)
     returns-5
-    returns-6
     (λ c κs. search needs)
-    returns-7)
+    returns-6
+    returns-7
+    (λ c κs. search needs)
+    returns-8)

@@ -32,7 +32,7 @@ returns c = refusing _ _ (c .refuse .ensures) (says (c .before .before .before .
 
 returns-2 : tie.Need-returns-2
 returns-2 c =
-    let e = c .before .before .before .before .before in
+    let e = c .before .before .before .before .before .before in
     let p = e .before .before in
     let a = start p .args in
     let passed = says p ∙ ap told (e .enum-told .given .1) in

@@ -10,10 +10,11 @@ use Rattle.party.specs.Limits.{limitsOf}
 use Rattle.party.specs.Party.{said, IsParty}
 use Rattle.party.proofs.Values.{is-party}
 use Rattle.field_utils.specs.Names.{parseCount}
+use Rattle.writer.specs.Writing.{nameLines}
 use Rattle.writer.specs.Given.{passes, areNames}
 use Rattle.writer.specs.Code.{allNames}
-use Rattle.writer.proofs.Names.{namesIn, count-none, said-names, names-length}
-use Rattle.writer.proofs.Records.{names-other, names-unused, names-used}
+use Rattle.writer.proofs.Names.{namesIn, count-none, said-names, said-lines, names-length}
+use Rattle.writer.proofs.Records.{names-alike, names-other, names-unused, names-used}
 use borrow.Author.Needs.{needs}
 use Rattle.writer.proofs.are_names.Statement.{statement}
 use Rattle.writer.proofs.are_names.Tie as tie
@@ -31,27 +32,33 @@ module _ (k : tie.After-name-count) where
   counted : length (said p .names) ≡ k .name-count .result
   counted = ap length names ∙ names-length p sizes (k .name-count .ensures)
 
+  -- the test by the record's digits
+  by-digits : areNames (p .option) (p .count) (said p .digits) (said p .names) ≡ areNames (p .option) (p .count) (p .digits) (said p .names)
+  by-digits =
+      names-alike (p .option) (p .count) (said p .digits) (p .digits) (said p .names)
+      (said-lines p sizes (k .name-count .ensures) ∙ ap (nameLines (limitsOf (p .option) .numbering) (p .digits)) (sym names))
+
 -- past the tests of the count and of the option
 used : (e : tie.Else2) {t : Bool} → let k = e .before .before .before .before in
-    allNames (limitsOf (p k .option) .numbering) (limitsOf (p k .option) .name) 1 (said (p k) .names) ≡ t →
-    areNames (p k .option) (p k .count) (said (p k) .names) ≡ (t && passes (parseCount (limitsOf (p k .option) .names) (length (said (p k) .names))))
+    allNames (limitsOf (p k .option) .numbering) (limitsOf (p k .option) .name) 1 (p k .digits) (said (p k) .names) ≡ t →
+    areNames (p k .option) (p k .count) (said (p k) .digits) (said (p k) .names) ≡ (t && passes (parseCount (limitsOf (p k .option) .names) (length (said (p k) .names))))
 used e all =
     let k = e .before .before .before .before in
     let o = p k .option in
-    names-used o (p k .count) (said (p k) .names) (counted k ∙ e .before .before .if1 .left) (rw (k .before .limits-of .ensures) at (e .if2 .left))
+    by-digits k ∙ names-used o (p k .count) (p k .digits) (said (p k) .names) (counted k ∙ e .before .before .if1 .left) (rw (k .before .limits-of .ensures) at (e .if2 .left))
     ∙ ap (λ (b : Bool). b && passes (parseCount (limitsOf o .names) (length (said (p k) .names)))) all
 
 returns : tie.Need-returns
 returns c =
     let k = c .before .before in
-    sym (names-other (p k .option) (p k .count) (said (p k) .names) (λ e. c .if1 .taken (sym (counted k) ∙ e)))
+    sym (names-other (p k .option) (p k .count) (said (p k) .digits) (said (p k) .names) (λ e. c .if1 .taken (sym (counted k) ∙ e)))
 
 returns-2 : tie.Need-returns-2
 returns-2 c =
     let k = c .before .before .before .before in
     let z = rw (k .before .limits-of .ensures) at (c .if2 .taken) in
     let none = names k ∙ ap (λ (m : ℕ). namesIn m (p k)) (k .name-count .ensures ∙ count-none (p k .option) (p k .count) z) in
-    sym (names-unused (p k .option) (p k .count) (said (p k) .names) (counted k ∙ c .before .before .if1 .left) z none)
+    sym (names-unused (p k .option) (p k .count) (said (p k) .digits) (said (p k) .names) (counted k ∙ c .before .before .if1 .left) z none)
 
 returns-3 : tie.Need-returns-3
 returns-3 c = sym (used (c .before .before) (sym (c .before .all-names .ensures) ∙ not-true _ (c .if3 .taken)))

@@ -15,17 +15,17 @@ use Rattle.writer.proofs.is_in_turn.Statement.{statement}
 use Rattle.writer.proofs.is_in_turn.Tie as tie
 use borrow.Author.Needs.{needs}
 
-by : {f g : Numbering} (k : ℕ) (x : List ℕ) → f ≡ g → inTurn g k x ≡ inTurn f k x
-by k x e = ap (λ (h : Numbering). inTurn h k x) (sym e)
+by : {f g : Numbering} (k d : ℕ) (x : List ℕ) → f ≡ g → inTurn g k d x ≡ inTurn f k d x
+by k d x e = ap (λ (h : Numbering). inTurn h k d x) (sym e)
 
 -- 59F: the number, then the turn
 kept : (c : tie.After-is-numbered-line) {t : Bool} → c .is-numbered-line .result ≡ t → let a = c .before .before .before .before .args in
-    (t && eqb (getD (now (a .text)) 0 0) (48 + a .turn)) ≡ inTurn (a .numbering) (a .turn) (now (a .text))
+    (t && eqb (getD (now (a .text)) 0 0) (48 + a .turn)) ≡ inTurn (a .numbering) (a .turn) (a .digit) (now (a .text))
 kept c e =
     let a = c .before .before .before .before .args in
     let x = now (a .text) in
-    ap (λ (t : Bool). t && eqb (getD x 0 0) (48 + a .turn)) (sym e ∙ c .is-numbered-line .ensures) ∙ sym (turn-kept (a .turn) x)
-    ∙ by (a .turn) x (c .before .enum-told3 .given .1)
+    ap (λ (t : Bool). t && eqb (getD x 0 0) (48 + a .turn)) (sym e ∙ c .is-numbered-line .ensures) ∙ sym (turn-kept (a .turn) (a .digit) x)
+    ∙ by (a .turn) (a .digit) x (c .before .enum-told3 .given .1)
 
 room : (c : tie.Else1) → 2 ≤ length (now (c .before .before .before .before .before .args .text))
 room c = numbered-room (now (c .before .before .before .before .before .args .text)) (sym (c .before .is-numbered-line .ensures) ∙ not-false _ (c .if1 .left))
@@ -41,8 +41,8 @@ cast-result c = omega (arith, c .shared-slice-known2 .given 0)
 
 returns-3 : tie.Need-returns-3
 returns-3 c =
-    let a = c .before .before .before .args in
-    sym (turn-written (a .turn) (now (a .text)) (c .before .before .before .pre)) ∙ by (a .turn) (now (a .text)) (c .enum-told2 .given .1)
+    let a = c .before .before .before .before .args in
+    c .is-digit .ensures ∙ sym (turn-written (a .turn) (a .digit) (now (a .text))) ∙ by (a .turn) (a .digit) (now (a .text)) (c .before .enum-told2 .given .1)
 
 returns-4 : tie.Need-returns-4
 returns-4 c = kept (c .before .before) (not-false _ (c .before .if1 .left))
@@ -53,6 +53,7 @@ is-in-turn-spec =
     (tie.spec
     (λ c. search needs)
     (λ c. search needs)
+    (λ c κs. search needs)
     (λ c. search needs)
     (λ c κs. search needs)
     returns

@@ -20,11 +20,11 @@ use Rattle.writer.proofs.is_name.Tie as tie
 
 -- what the test of the number says
 turn :
-    (i : tie.After-is-in-turn) {t : Bool} → i .is-in-turn .result ≡ t → let a = i .before .before .before .before .before .before .args in inTurn (a .numbering) (a .turn) (used (a .t) .bytes) ≡ t
+    (i : tie.After-is-in-turn) {t : Bool} → i .is-in-turn .result ≡ t → let a = i .before .before .before .before .before .before .args in inTurn (a .numbering) (a .turn) (a .digit) (used (a .t) .bytes) ≡ t
 turn i e =
     let u = i .before .before .before .before .before in
     let a = u .before .args in
-    ap (inTurn (a .numbering) (a .turn)) (sym (used-part (a .t) (u .used-length .result) (u .used-length .ensures .is))) ∙ sym (i .is-in-turn .ensures) ∙ e
+    ap (inTurn (a .numbering) (a .turn) (a .digit)) (sym (used-part (a .t) (u .used-length .result) (u .used-length .ensures .is))) ∙ sym (i .is-in-turn .ensures) ∙ e
 
 -- the length of the text after the number
 text-length :
@@ -38,7 +38,7 @@ returns : tie.Need-returns
 returns c =
     let u = c .before .before in
     let a = u .before .args in
-    sym (name-not-line (a .numbering) (a .longest) (a .turn) (used (a .t)) (line-not (a .t) (u .used-length .result) (u .used-length .ensures .is) (c .if1 .taken)))
+    sym (name-not-line (a .numbering) (a .longest) (a .turn) (a .digit) (used (a .t)) (line-not (a .t) (u .used-length .result) (u .used-length .ensures .is) (c .if1 .taken)))
 
 array-share-prefix-bytes : tie.Need-array-share-prefix-bytes
 array-share-prefix-bytes c =
@@ -56,17 +56,17 @@ is-in-turn-requires c κs = c .before .before .before .before .before .pre .0
 returns-2 : tie.Need-returns-2
 returns-2 c =
     let a = c .before .before .before .before .before .before .before .args in
-    sym (name-not-turn (a .numbering) (a .longest) (a .turn) (used (a .t)) (turn (c .before) (not-true _ (c .if2 .taken))))
+    sym (name-not-turn (a .numbering) (a .longest) (a .turn) (a .digit) (used (a .t)) (turn (c .before) (not-true _ (c .if2 .taken))))
 
 sub-if3 : tie.Need-sub-if3
 sub-if3 c =
     let a = c .before .before .before .before .before .before .before .before .args in
-    omega (arith, turn-room (a .numbering) (a .turn) (used (a .t) .bytes) (turn (c .before .before) (not-false _ (c .before .if2 .left))), c .before .before .before .before .before .before .before .used-length .ensures .is)
+    omega (arith, turn-room (a .numbering) (a .turn) (a .digit) (used (a .t) .bytes) (turn (c .before .before) (not-false _ (c .before .if2 .left))), c .before .before .before .before .before .before .before .used-length .ensures .is)
 
 returns-3 : tie.Need-returns-3
 returns-3 c =
     let a = c .before .before .before .before .before .before .before .before .before .args in
-    sym (name-long (a .numbering) (a .longest) (a .turn) (used (a .t)) (turn (c .before .before .before) (not-false _ (c .before .before .if2 .left))) (omega (arith, text-length (c .before))))
+    sym (name-long (a .numbering) (a .longest) (a .turn) (a .digit) (used (a .t)) (turn (c .before .before .before) (not-false _ (c .before .before .if2 .left))) (omega (arith, text-length (c .before))))
 
 array-share-prefix-bytes-2 : tie.Need-array-share-prefix-bytes-2
 array-share-prefix-bytes-2 c =
@@ -87,7 +87,7 @@ returns-4 c =
     c .all-at-least .ensures
     ∙ by-entries 2 plain class-plain (now (a .classes)) (take n (a .t .bytes)) (u .before .pre .1)
     ∙ ap (all plain) (used-part (a .t) n is)
-    ∙ sym (name-bytes (a .numbering) (a .longest) (a .turn) (used (a .t)) (turn (c .before .before .before .before .before) (not-false _ (c .before .before .before .before .if2 .left))) (omega (arith, text-length (c .before .before .before)))
+    ∙ sym (name-bytes (a .numbering) (a .longest) (a .turn) (a .digit) (used (a .t)) (turn (c .before .before .before .before .before) (not-false _ (c .before .before .before .before .if2 .left))) (omega (arith, text-length (c .before .before .before)))
     (line-is (a .t) n is (c .before .before .before .before .before .before .before .before .if1 .left)))
 
 pub is-name-spec : {M : Type 1} → statement M

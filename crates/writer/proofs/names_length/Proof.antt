@@ -1,6 +1,6 @@
 -- `writer::names_length` meets its contract. The loop's invariant: the total so far and the length of what is left make the length of all
 -- names. Assumes nothing.
-use Prim.Native.Nat.{suc, _+_, _*_, _-_, _≤_}
+use Prim.Native.Nat.{_+_, _*_, _-_, _≤_}
 use mathlib.Core.Path.{_≡_, _∙_, ap}
 use native.Mathlib.Numerals.{add-one}
 use native.Mathlib.Omega.{arith}
@@ -13,7 +13,7 @@ use Rattle.party.proofs.Values.{is-party}
 use Rattle.field_utils.specs.Names.{keptFrom}
 use Rattle.writer.specs.Writing.{nameLines}
 use Rattle.writer.specs.Code.{led}
-use Rattle.writer.proofs.Names.{namesIn, few as names-few, marks-most, said-names, left-length, left-end}
+use Rattle.writer.proofs.Names.{namesIn, few as names-few, marks-most, said-lines, left-length, left-end}
 use borrow.Author.Needs.{needs}
 use Rattle.writer.proofs.names_length.Statement.{statement}
 use Rattle.writer.proofs.names_length.Tie as tie
@@ -21,7 +21,7 @@ use Rattle.writer.proofs.names_length.Tie as tie
 abbrev Inv-loop : tie.InvT-loop
 Inv-loop later p n mark after₀ total₀ i₀ after total i =
     (i ≤ n) × (total ≤ 41 * i)
-    × (total + length (led after (nameLines (limitsOf (p .option) .numbering) (suc i) (drop i (namesIn n p)))) ≡ length (led later (nameLines (limitsOf (p .option) .numbering) 1 (namesIn n p))))
+    × (total + length (led after (nameLines (limitsOf (p .option) .numbering) (drop i (p .digits)) (drop i (namesIn n p)))) ≡ length (led later (nameLines (limitsOf (p .option) .numbering) (p .digits) (namesIn n p))))
 
 abbrev μ-loop : tie.MeasureT-loop
 μ-loop later p n mark after₀ total₀ i₀ after total i = n - i
@@ -76,7 +76,7 @@ returns c =
     let n = k .before .before .before .name-count .result in
     let f = limitsOf (p k .option) .numbering in
     let end = ap length (left-end (p k) (sizes k) (k .before .before .before .name-count .ensures) f (k .loop .after) (k .loop .i) (c .loop-test .left)) in
-    let names = said-names (p k) (sizes k) (k .before .before .before .name-count .ensures) in
+    let names = said-lines (p k) (sizes k) (k .before .before .before .name-count .ensures) in
     rw names (record { is = omega (arith, k .loop .inv .2, end); most = omega (arith, few k) })
 
 pub names-length-spec : {M : Type 1} → statement M

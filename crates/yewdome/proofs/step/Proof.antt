@@ -14,7 +14,7 @@ size : (k : tie.After-yewdome-page-read) → recordSize ≤ length (k .yewdome-p
 size k = omega (arith, k .yewdome-page-read .kept)
 
 read : (k : tie.After-yewdome-page-read) → let a = k .before .before .before .before .args in Given (now (a .page)) (a .at) (k .yewdome-page-read .result) (k .yewdome-page-read .last .1 .1 .0)
-read k = record { bytes = replicate 237 0; room = omega arith; call = k .yewdome-page-read .ensures }
+read k = record { bytes = replicate recordSize 0; room = omega arith; call = k .yewdome-page-read .ensures }
 
 returns : tie.Need-returns
 returns c =

@@ -21,7 +21,8 @@ new page has LF and '-'. The page is read from FILE, or from standard input wher
 not given.
 
   file      writes a new page of every record that reads and that a page carries
-  read      lists every answer: the texts of a record, or the body that is refused
+  read      lists every answer: the texts of a record, with the digits of a 50F's lines, or the
+            body that is refused
   check     reads the same, and lists nothing
 
   -o FILE   writes the new page to FILE, whole or not at all; what is there must be a regular

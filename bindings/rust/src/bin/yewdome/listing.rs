@@ -1,5 +1,6 @@
 //! The answers of a page, to be read by people. No two records are listed alike: every text has its
-//! label and its length, an absent account or identifier has no line, and names are numbered.
+//! label and its length, an absent account or identifier has no line, names are numbered, and 50F has
+//! a line with the digits that its names came with.
 
 use crate::input::Input;
 use yewdome::pages::{self, Answer, Listed, Party, Read};
@@ -103,7 +104,7 @@ macro_rules! parts {
 }
 
 fn parts(party: &Party) -> (String, Vec<Text<'_>>) {
-    parts!(party {
+    let (tag, mut texts) = parts!(party {
         Field50NoOption: "50" { name_and_address },
         Field50A: "50A" { party_identifier, bic },
         Field50F: "50F" { party_identifier, name_and_address },
@@ -115,5 +116,9 @@ fn parts(party: &Party) -> (String, Vec<Text<'_>>) {
         Field59NoOption: "59" { account, name_and_address },
         Field59A: "59A" { account, bic },
         Field59F: "59F" { party_identifier, name_and_address },
-    })
+    });
+    if let Party::Field50F(field) = party {
+        texts.push(("digits".to_string(), field.line_digits()));
+    }
+    (tag, texts)
 }
