@@ -8,7 +8,7 @@ use Prim.Native.Nat.{ℕ, suc, _+_, _-_, _≤_, _<_}
 use native.Mathlib.Omega.{arith}
 use lib.Dec.{ltb, leb, eqb}
 use lib.ListN.{length, getD, take, drop, replicate, length-drop, length-append, length-map}
-use lib.Seq.{take-take, take-append-seam, length-take-le}
+use lib.Seq.{take-append-seam, length-take-le}
 use borrow.Author.Tests.{leb-true, leb-false, ltb-true, ne-eqb}
 use Rattle.errors.specs.Refusals.{Reply, accepted, refused, _then_}
 use Rattle.errors.proofs.Replies.{refused≢accepted}
@@ -16,7 +16,7 @@ use Rattle.party.specs.declared.PartyOption.{PartyOption}
 use Rattle.party.specs.declared.PartyOption.the-variants.{Field50NoOption, Field50A, Field50F, Field50K, Field50C, Field50L, Field50G, Field50H, Field59NoOption, Field59A, Field59F}
 use Rattle.party.specs.declared.Party.{Party}
 use Rattle.party.specs.Limits.{limitsOf}
-use Rattle.party.specs.Text.{textMost, padded, textOf, four, fourTexts, Used, used}
+use Rattle.party.specs.Text.{textMost, padded, textOf, fourTexts, Used, used}
 use Rattle.party.specs.Party.{where-limit, said}
 use Rattle.party.specs.declared.Numbering.{Numbering}
 use Rattle.party.specs.declared.Numbering.the-variants.{Unnumbered, Numbered, InTurn}
@@ -34,7 +34,7 @@ use Rattle.choices.proofs.Every.{every-parse, every-variant}
 use Rattle.writer.specs.Writing.{numberOf, nameLines}
 use Rattle.writer.specs.Given.{Given, every, isAccount, isBic, areNames}
 use Rattle.writer.proofs.Relined.{All}
-use Rattle.writer.proofs.Sayings.{bytesOf}
+use Rattle.writer.proofs.Sayings.{bytesOf, four-all}
 use Rattle.writer.proofs.NamePasses.{AllPass, written-length}
 use Rattle.writer.proofs.HeadPasses.{extraOf, text-length}
 use Rattle.writer.proofs.Facts.{Facts, names-are, account-passes, bic-passes, small}
@@ -85,12 +85,6 @@ names-most f longest k ds (u ∷ us) h p =
     let number = numberOf f (getD ds 0 0) in
     (omega (arith, p .0 .long, length-drop (skipOf f) (number ++ u .bytes), length-append number (u .bytes), skip-most f), names-most f longest (suc k) (drop 1 ds) us h (p .1))
 
-first-texts : (ns : List Str) → length ns ≤ 4 → take (length ns) (fourTexts ns) ≡ map textOf ns
-unfolding four
-first-texts ns h =
-    let all = map textOf ns ++ (textOf [] ∷ textOf [] ∷ textOf [] ∷ textOf [] ∷ []) in
-    take-take (length ns) 4 all h ∙ ap (λ (n : ℕ). take n all) (sym (length-map ns textOf)) ∙ take-append-seam (map textOf ns) _
-
 names-whole : (ns : List Str) → All (λ (u : Used). length (u .bytes) < textMost) (map used (map textOf ns)) → map bytesOf (map used (map textOf ns)) ≡ ns
 names-whole [] h = refl
 names-whole (n ∷ ns) h = λ i. whole n (h .0) i ∷ names-whole ns (h .1) i
@@ -128,7 +122,7 @@ module _ (o : PartyOption) (a : Option Str) (b : Str) (ns : List Str) where
         let n = names-are o (length ns) ds us g in
         let p = n .pass (ne-eqb (limitsOf o .names) 0 (λ z. omega (arith, ltb-true 0 (limitsOf o .names) e))) in
         let f : take (length ns) (fourTexts ns) ≡ map textOf ns =
-        first-texts ns (omega (arith, n .counted, written-length (limitsOf o .numbering) ds us, p .most, small o .names)) in
+        four-all (textOf []) (map textOf ns) (length ns) (length-map ns textOf) (omega (arith, n .counted, written-length (limitsOf o .numbering) ds us, p .most, small o .names)) in
         rw f (names-whole ns (rw f at (names-most (limitsOf o .numbering) (limitsOf o .name) 1 ds us (small o .name) (p .each))));
   }
 

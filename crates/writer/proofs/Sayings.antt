@@ -54,7 +54,7 @@ pub record Fitting (f : Found) : Type 0 where
   pub digits : length (f .digits) ≡ length (f .names)
 
 -- the first of an array of four are those that it was made of
-four-all : {A : Type 0} (none : A) (xs : List A) (n : ℕ) → length xs ≡ n → n ≤ 4 → take n (four none xs) ≡ xs
+pub four-all : {A : Type 0} (none : A) (xs : List A) (n : ℕ) → length xs ≡ n → n ≤ 4 → take n (four none xs) ≡ xs
 unfolding four
 four-all none xs n e h =
     let filled = xs ++ (none ∷ none ∷ none ∷ none ∷ []) in

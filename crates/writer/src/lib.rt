@@ -20,7 +20,6 @@ use reader::account_length;
 use reader::is_ascii;
 use swift_utils::all_at_least;
 use swift_utils::class_table;
-use swift_utils::is_digit;
 use swift_utils::parse_bic;
 ghost use mathlib.Core.Path.{_≡_};
 ghost use mathlib.Core.Bool.{not};
@@ -402,13 +401,22 @@ fn is_bic(option: PartyOption, t: Text) -> bool
 }
 
 // Whether a name has the number of its turn, where it is kept with its number, or its digit is one, where that stands beside it.
-fn is_in_turn(text: &[u8], turn: usize, digit: u8, numbering: Numbering) -> bool
-    requires { ⌜ turn ≤ 4 ⌝ }
+fn is_in_turn(
+    text: &[u8],
+    turn: usize,
+    digit: u8,
+    numbering: Numbering,
+    classes: &[u8; 256],
+) -> bool
+    requires { ⌜ (turn ≤ 4) × (now classes ≡ classTable) ⌝ }
     ensures { λ r. ⌜ r ≡ passes (parseNumber numbering turn turn (numberOf numbering digit ++ now (text .entry))) ⌝ }
 {
     match numbering {
         Numbering::Unnumbered => true,
-        Numbering::Numbered => is_digit(digit),
+        Numbering::Numbered => {
+            let i = digit as usize;
+            classes[i] == 4
+        }
         Numbering::InTurn => {
             if !is_numbered_line(text) {
                 return false;
@@ -442,7 +450,7 @@ fn is_name(
         return false;
     }
     let bytes = t.bytes;
-    if !is_in_turn(&bytes[..n], turn, digit, numbering) {
+    if !is_in_turn(&bytes[..n], turn, digit, numbering, classes) {
         return false;
     }
     if longest < n - number_length(numbering) {

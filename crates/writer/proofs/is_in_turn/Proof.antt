@@ -9,6 +9,8 @@ use lib.Dec.{eqb}
 use lib.ListN.{length, getD}
 use borrow.Author.Tests.{not-true, not-false}
 use Rattle.party.specs.declared.Numbering.{Numbering}
+use Rattle.swift_utils.proofs.Classes.{class-digit}
+use Rattle.swift_utils.proofs.Table.{class-at}
 use Rattle.field_utils.proofs.Tests.{numbered-room}
 use Rattle.writer.proofs.Records.{inTurn, turn-kept, turn-written}
 use Rattle.writer.proofs.is_in_turn.Statement.{statement}
@@ -41,8 +43,13 @@ cast-result c = omega (arith, c .shared-slice-known2 .given 0)
 
 returns-3 : tie.Need-returns-3
 returns-3 c =
-    let a = c .before .before .before .before .args in
-    c .is-digit .ensures ∙ sym (turn-written (a .turn) (a .digit) (now (a .text))) ∙ by (a .turn) (a .digit) (now (a .text)) (c .before .enum-told2 .given .1)
+    let start = c .before .before .before .before in
+    let a = start .args in
+    ap (λ (l : List ℕ). eqb (getD l (a .digit) 0) 4) (start .pre .1)
+    ∙ ap (λ (n : ℕ). eqb n 4) (class-at (a .digit))
+    ∙ class-digit (a .digit)
+    ∙ sym (turn-written (a .turn) (a .digit) (now (a .text)))
+    ∙ by (a .turn) (a .digit) (now (a .text)) (c .before .enum-told2 .given .1)
 
 returns-4 : tie.Need-returns-4
 returns-4 c = kept (c .before .before) (not-false _ (c .before .if1 .left))
@@ -53,7 +60,7 @@ is-in-turn-spec =
     (tie.spec
     (λ c. search needs)
     (λ c. search needs)
-    (λ c κs. search needs)
+    (λ c. search needs)
     (λ c. search needs)
     (λ c κs. search needs)
     returns

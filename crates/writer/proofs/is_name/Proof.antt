@@ -51,7 +51,7 @@ slice-aggregate-is-in-turn c =
     used-count (u .before .args .t) (u .used-length .result) (u .used-length .ensures .is)
 
 is-in-turn-requires : tie.Need-is-in-turn-requires
-is-in-turn-requires c κs = c .before .before .before .before .before .pre .0
+is-in-turn-requires c κs = c .before .before .before .before .before .pre
 
 returns-2 : tie.Need-returns-2
 returns-2 c =
