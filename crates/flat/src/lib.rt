@@ -13,7 +13,7 @@ ghost use Prim.Native.Nat.{_+_, _*_, _≤_, _<_};
 ghost use lib.Dec.{leb};
 ghost use lib.ListN.{length, getD, take, drop};
 ghost use lib.Seq.{paste};
-ghost use Rattle.flat.specs.Flat.{textSize, digitsAt, recordSize, byteOf, bit as bitOf, flatText, flatTexts, textsOf, stored, textAt, isFlat, unflatten};
+ghost use Rattle.flat.specs.Flat.{textSize, digitsAt, recordSize, byteOf, bit as bitOf, flatText, flatTexts, textsOf, stored, textAt, isFlat, partyFrom, unflatten};
 
 // The bytes of a text.
 const TEXT_SIZE: usize = 1 + TEXT_MOST;
@@ -133,13 +133,12 @@ fn digits_at(s: &[u8]) -> [u8; 4]
     requires { ⌜ recordSize ≤ length (now s) ⌝ }
     ensures { λ r. ⌜ r ≡ take 4 (drop digitsAt (now (s .entry))) ⌝ }
 {
-    let mut digits = [0u8; 4];
-    let mut i = 0;
-    while i < 4 {
-        digits[i] = s[DIGITS_AT + i];
-        i += 1;
-    }
-    digits
+    [
+        s[DIGITS_AT],
+        s[DIGITS_AT + 1],
+        s[DIGITS_AT + 2],
+        s[DIGITS_AT + 3],
+    ]
 }
 
 // Whether bytes start with a record.
@@ -155,14 +154,11 @@ fn is_flat(s: &[u8]) -> bool
     s[1] <= 1
 }
 
-// Loads the record at the start of the bytes: what store stored, where its lengths and its count are at most 255. Where there is none, the
-// blank one, which no reader gives.
-pub fn load(s: &[u8]) -> Party
-    ensures { λ r. ⌜ r ≡ unflatten (now (s .entry)) ⌝ }
+// The record of bytes that start with one.
+fn loaded(s: &[u8]) -> Party
+    requires { ⌜ recordSize ≤ length (now s) ⌝ }
+    ensures { λ r. ⌜ r ≡ partyFrom (now (s .entry)) ⌝ }
 {
-    if !is_flat(s) {
-        return blank();
-    }
     let names = [text_at(s, 2), text_at(s, 3), text_at(s, 4), text_at(s, 5)];
     Party {
         option: option_at(s[0] as usize),
@@ -173,4 +169,15 @@ pub fn load(s: &[u8]) -> Party
         name_and_address: names,
         digits: digits_at(s),
     }
+}
+
+// Loads the record at the start of the bytes: what store stored, where its lengths and its count are at most 255. Where there is none, the
+// blank one, which no reader gives.
+pub fn load(s: &[u8]) -> Party
+    ensures { λ r. ⌜ r ≡ unflatten (now (s .entry)) ⌝ }
+{
+    if !is_flat(s) {
+        return blank();
+    }
+    loaded(s)
 }
