@@ -1,7 +1,7 @@
 /*
  * Files the records of a page from standard input on a new page with an index, and prints field K
  * of it, counted from 1, as it stands there: `look_up K < page`. Says on standard error what is
- * refused.
+ * refused, and what is filed as other bytes than came.
  */
 #include "yewdome.h"
 
@@ -26,6 +26,14 @@ static uint32_t add(struct indexed *to, const uint8_t *record, size_t record_len
     return 0;
 }
 
+/* Says by which causes the field at a position is filed as other bytes than came, if there are any. */
+static void say_causes(const uint8_t *page, size_t length, size_t at)
+{
+    unsigned causes = yewdome_read_causes(yewdome_page_kept(page, length, at));
+    if (causes != 0)
+        fprintf(stderr, "byte %zu: filed as other bytes than came, causes %u\n", at, causes);
+}
+
 /* Reads a page field by field, up to the end, and adds each record. */
 static int file(const uint8_t *page, size_t length, struct indexed *to)
 {
@@ -41,6 +49,8 @@ static int file(const uint8_t *page, size_t length, struct indexed *to)
         if (yewdome_number(answer) != 0)
             fprintf(stderr, "byte %zu: refused with %u, line %u\n", at, yewdome_number(answer),
                     yewdome_line(answer));
+        else
+            say_causes(page, length, at);
         if (yewdome_read_moved(read) == 0) {
             fprintf(stderr, "error: the page cannot be read on from byte %zu\n", at);
             return 1;

@@ -129,6 +129,28 @@ static inline unsigned yewdome_line(uint32_t answer)
     return yewdome_number(answer) == 0 ? 0 : answer & 0xffff;
 }
 
+/*
+ * Why the bytes that are written of a field may be others than those that came: causes, each a bit.
+ *
+ * - YEWDOME_INNER_CR: a CR before an LF inside the body, which is left off
+ * - YEWDOME_LAST_LF: a last LF of the body, which is an empty last line, and is left off
+ * - YEWDOME_AFTER_BIC: lines after the BIC, which are ignored
+ * - YEWDOME_BLANKS: blanks, bytes 9 to 13 and 32, at the ends of the body, which
+ *   YEWDOME_FIELD50_INSTRUCTING_PARTY trims where it detects; so never on a page, by an option, or
+ *   where a letter picks the option
+ * - YEWDOME_CLOSING_CR: on a page alone, a CR before the LF that closes the field
+ *
+ * There are no others: what is written is what came, byte for byte, exactly where there is none of
+ * them. That is the body and, on a page, the whole field before the LF that closes it.
+ */
+enum yewdome_cause {
+    YEWDOME_INNER_CR = 1,
+    YEWDOME_LAST_LF = 2,
+    YEWDOME_AFTER_BIC = 4,
+    YEWDOME_BLANKS = 8,
+    YEWDOME_CLOSING_CR = 16
+};
+
 /* Reads a body by an option, and stores the record. Gives 0, or the refusal: 42, 41, 1 to 13. */
 uint32_t yewdome_party_read(uint8_t option, const uint8_t *body, size_t body_length,
                             uint8_t *record, size_t record_length);
@@ -168,6 +190,20 @@ uint32_t yewdome_profile_parse(uint8_t choice, const uint8_t *body, size_t body_
 uint32_t yewdome_profile_parse_with_variant(uint8_t choice, const uint8_t *body,
                                             size_t body_length, uint8_t letter,
                                             uint8_t *record, size_t record_length);
+
+/*
+ * Reads a body as `yewdome_party_read` does, and stores no record. Gives the causes by which the
+ * written body of the record is other bytes than the body, 0 where it is the same, or the refusal:
+ * 41, 1 to 13. `yewdome_number` tells the two apart.
+ */
+uint32_t yewdome_kept_read(uint8_t option, const uint8_t *body, size_t body_length);
+
+/* The same by a choice, which detects the option. */
+uint32_t yewdome_kept_parse(uint8_t choice, const uint8_t *body, size_t body_length);
+
+/* The same by a choice and a letter, 0 for none; 14 comes after 41. */
+uint32_t yewdome_kept_parse_with_variant(uint8_t choice, const uint8_t *body, size_t body_length,
+                                         uint8_t letter);
 
 /*
  * Measures a record: gives the length of its field, tag and body, or the refusal: 42, 41, 22. To be
@@ -211,6 +247,22 @@ static inline int yewdome_read_ended(uint64_t read)
 static inline size_t yewdome_read_moved(uint64_t read)
 {
     return (size_t)(read & 0xffff);
+}
+
+/*
+ * Gives what `yewdome_page_read` gives at the position, but for 42, since it stores no record; and
+ * where that is a record, beside it the causes by which the field is filed as other bytes than came.
+ * That a page cannot carry the record, 23, is told by `yewdome_page_add` alone.
+ */
+uint64_t yewdome_page_kept(const uint8_t *page, size_t page_length, size_t at);
+
+/*
+ * The causes in what `yewdome_page_kept` gave, or in an answer that `yewdome_page_file` stored; 0 at a
+ * refusal and the end. The other functions tell none, whatever came.
+ */
+static inline unsigned yewdome_read_causes(uint64_t read)
+{
+    return (unsigned)((read >> 17) & 0x7fff);
 }
 
 /*
@@ -297,9 +349,11 @@ uint32_t yewdome_page_answers(const uint8_t *page, size_t page_length,
 
 /*
  * Files a whole page: reads it as above, adds each record that a read gives to a new page in a
- * buffer, from position 0, and closes that page. What is stored for a read is as above, but where
- * the add refuses the record: there the refusal, 23 or 24, stands beside the bytes moved past.
- * The functions below take apart what it gives; 43 changes no byte and no number.
+ * buffer, from position 0, and closes that page. What is stored for a read is as above, but for a
+ * record: where it is added, the number is the one that `yewdome_page_kept` gives, with the causes by
+ * which the field is filed as other bytes than came; where the add refuses it, the refusal, 23 or
+ * 24, stands beside the bytes moved past. The functions below take apart what it gives; 43 changes
+ * no byte and no number.
  */
 uint64_t yewdome_page_file(const uint8_t *page, size_t page_length,
                            uint8_t *buffer, size_t buffer_length,

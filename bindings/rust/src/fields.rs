@@ -31,10 +31,8 @@ macro_rules! option {
             }
         }
 
-        impl $crate::profile::Profiled for $name {
-            fn profiled(body: &str) -> $crate::Result<$crate::record::Record> {
-                $crate::library::read_profiled($place, body.as_bytes())
-            }
+        impl $crate::traits::Parsed for $name {
+            const READER: $crate::library::Reader = $crate::library::Reader::Option($place);
         }
 
         impl From<$name> for $crate::pages::Party {
@@ -114,18 +112,8 @@ macro_rules! choice {
             }
         }
 
-        impl $crate::profile::Profiled for $name {
-            fn profiled(body: &str) -> $crate::Result<$crate::record::Record> {
-                $crate::library::parse_profiled($place, body.as_bytes())
-            }
-
-            fn profiled_with_variant(
-                body: &str,
-                variant: Option<&str>,
-            ) -> $crate::Result<$crate::record::Record> {
-                let letter = $crate::fields::letter(variant)?;
-                $crate::library::parse_profiled_with_variant($place, body.as_bytes(), letter)
-            }
+        impl $crate::traits::Parsed for $name {
+            const READER: $crate::library::Reader = $crate::library::Reader::Choice($place);
         }
 
         impl From<$name> for $crate::pages::Party {
@@ -140,7 +128,7 @@ macro_rules! choice {
 
 /// The letter that the library takes for a variant, 0 for none. So the text of the one byte 0 is
 /// not handed on; the library refuses every other byte that is none of A to Z.
-fn letter(variant: Option<&str>) -> Result<u8> {
+pub(crate) fn letter(variant: Option<&str>) -> Result<u8> {
     match variant.map(str::as_bytes) {
         None => Ok(0),
         Some(&[letter]) if letter != 0 => Ok(letter),

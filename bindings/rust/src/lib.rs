@@ -136,12 +136,36 @@
 //! assert_eq!(pages::listed(page), filing.answers);
 //! # Ok::<(), yewdome::ParseError>(())
 //! ```
+//!
+//! # What is written as other bytes than came
+//!
+//! ```
+//! use yewdome::fields::{Field50A, Field50K};
+//! use yewdome::{kept, pages};
+//!
+//! assert!(kept::parse::<Field50K>("/12\nACME")?.is_empty());
+//! let causes = kept::parse::<Field50A>("/12\r\nBNPAFRPP\nPARIS")?;
+//! assert!(causes.inner_cr() && causes.after_bic());
+//! assert_eq!(causes.to_string(), "CR before an LF inside the body, lines after the BIC");
+//!
+//! // filing tells it of each field
+//! let page = b":50C:BNPAFRPPXXX\n:59:/12\nBENEFICIARY SA\r\n-\r\n";
+//! let filing = pages::file(page, &mut [0; pages::LONGEST_PAGE]);
+//! let [first, second, _end] = filing.answers[..] else {
+//!     panic!("read otherwise");
+//! };
+//! assert!(first.causes.is_empty());
+//! assert!(second.causes.closing_cr());
+//! assert_eq!(kept::field_at(page, second.at)?, Some(second.causes));
+//! # Ok::<(), yewdome::ParseError>(())
+//! ```
 
 #![deny(unsafe_code)]
 #![warn(missing_docs)]
 
 pub mod errors;
 pub mod fields;
+pub mod kept;
 #[allow(unsafe_code)]
 mod library;
 pub mod pages;

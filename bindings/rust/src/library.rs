@@ -3,6 +3,7 @@
 //! What each function takes and gives is in `bindings/c/yewdome.h`.
 
 use crate::errors::{ErrorKind, ParseError, Result};
+use crate::kept::Causes;
 use crate::pages::{Filing, Index, Listed, Outcome, LONGEST_PAGE};
 use crate::record::Record;
 use std::ops::Range;
@@ -55,6 +56,14 @@ extern "C" {
         record: *mut u8,
         record_length: usize,
     ) -> u32;
+    fn yewdome_kept_read(option: u8, body: *const u8, body_length: usize) -> u32;
+    fn yewdome_kept_parse(choice: u8, body: *const u8, body_length: usize) -> u32;
+    fn yewdome_kept_parse_with_variant(
+        choice: u8,
+        body: *const u8,
+        body_length: usize,
+        letter: u8,
+    ) -> u32;
     fn yewdome_party_measure(record: *const u8, record_length: usize) -> u32;
     fn yewdome_party_place(
         record: *const u8,
@@ -69,6 +78,7 @@ extern "C" {
         record: *mut u8,
         record_length: usize,
     ) -> u64;
+    fn yewdome_page_kept(page: *const u8, page_length: usize, at: usize) -> u64;
     fn yewdome_page_body(page: *const u8, page_length: usize, at: usize) -> u64;
     fn yewdome_page_add(
         record: *const u8,
@@ -149,6 +159,18 @@ fn profile_parse_with_variant(choice: u8, body: &[u8], letter: u8, record: &mut 
     unsafe { yewdome_profile_parse_with_variant(choice, text, length, letter, out, room) }
 }
 
+fn kept_read(option: u8, body: &[u8]) -> u32 {
+    unsafe { yewdome_kept_read(option, body.as_ptr(), body.len()) }
+}
+
+fn kept_parse(choice: u8, body: &[u8]) -> u32 {
+    unsafe { yewdome_kept_parse(choice, body.as_ptr(), body.len()) }
+}
+
+fn kept_parse_with_variant(choice: u8, body: &[u8], letter: u8) -> u32 {
+    unsafe { yewdome_kept_parse_with_variant(choice, body.as_ptr(), body.len(), letter) }
+}
+
 fn party_measure(record: &[u8]) -> u32 {
     unsafe { yewdome_party_measure(record.as_ptr(), record.len()) }
 }
@@ -161,6 +183,10 @@ fn party_place(record: &[u8], buffer: &mut [u8]) -> u32 {
 fn page_read(page: &[u8], at: usize, record: &mut [u8]) -> u64 {
     let (text, length) = (page.as_ptr(), page.len());
     unsafe { yewdome_page_read(text, length, at, record.as_mut_ptr(), record.len()) }
+}
+
+fn page_kept(page: &[u8], at: usize) -> u64 {
+    unsafe { yewdome_page_kept(page.as_ptr(), page.len(), at) }
 }
 
 fn page_body(page: &[u8], at: usize) -> u64 {
@@ -200,6 +226,12 @@ fn page_file(page: &[u8], buffer: &mut [u8], answers: &mut [u64]) -> u64 {
     unsafe { yewdome_page_file(text, length, out, room, numbers, count) }
 }
 
+/// What reads the bodies of a type: an option or a choice, by its place in the library's table.
+pub enum Reader {
+    Option(u8),
+    Choice(u8),
+}
+
 /// Reads a body by the option at a place in the library's table.
 pub(crate) fn read(option: u8, body: &[u8]) -> Result<Record> {
     record_of(|out| party_read(option, body, out))
@@ -228,6 +260,22 @@ pub(crate) fn parse_profiled(choice: u8, body: &[u8]) -> Result<Record> {
 /// The same by a letter; 0 is none.
 pub(crate) fn parse_profiled_with_variant(choice: u8, body: &[u8], letter: u8) -> Result<Record> {
     record_of(|out| profile_parse_with_variant(choice, body, letter, out))
+}
+
+/// Reads a body by an option as [`read`] does, and gives the causes by which the written body of the
+/// record is another.
+pub(crate) fn read_kept(option: u8, body: &[u8]) -> Result<Causes> {
+    accepted(kept_read(option, body)).map(Causes::of)
+}
+
+/// The same by a choice as [`parse`] does.
+pub(crate) fn parse_kept(choice: u8, body: &[u8]) -> Result<Causes> {
+    accepted(kept_parse(choice, body)).map(Causes::of)
+}
+
+/// The same by a letter; 0 is none.
+pub(crate) fn parse_kept_with_variant(choice: u8, body: &[u8], letter: u8) -> Result<Causes> {
+    accepted(kept_parse_with_variant(choice, body, letter)).map(Causes::of)
 }
 
 /// The length of the field of a record, tag and body.
@@ -261,6 +309,17 @@ pub(crate) fn read_page(page: &[u8], at: usize) -> PageRead {
     let mut record = Record::new(0);
     let (outcome, moved) = told(page_read(page, at, record.bytes_mut()));
     PageRead { at, outcome, record, body: body_of(page, at), moved }
+}
+
+/// Reads the page at a position, and gives the causes by which the field there is filed as other bytes
+/// than came; none at the end.
+pub(crate) fn field_kept(page: &[u8], at: usize) -> Result<Option<Causes>> {
+    let read = page_kept(page, at);
+    match told(read).0 {
+        Outcome::Record => Ok(Some(causes(read))),
+        Outcome::Refused(refusal) => Err(refusal),
+        Outcome::End => Ok(None),
+    }
 }
 
 /// Looks up field k of a page in an index, and gives what a read at its position does. Only the
@@ -330,7 +389,7 @@ fn listed(answers: &[u64]) -> Vec<Listed> {
     let mut at = 0;
     let listed = answers.iter().map(|&answer| {
         let (outcome, moved) = told(answer);
-        let read = Listed { at, outcome, next: at + moved };
+        let read = Listed { at, outcome, causes: causes(answer), next: at + moved };
         at = read.next;
         read
     });
@@ -340,13 +399,19 @@ fn listed(answers: &[u64]) -> Vec<Listed> {
 /// What the number that a page's read gave says: what it answers, and how many bytes it moved past.
 fn told(read: u64) -> (Outcome, usize) {
     let [answer, low] = halves(read);
-    let [_, ended, high, low] = low.to_be_bytes();
+    let [_, beside, high, low] = low.to_be_bytes();
     let outcome = match accepted(answer) {
-        Ok(_) if ended == 0 => Outcome::Record,
+        Ok(_) if beside & 1 == 0 => Outcome::Record,
         Ok(_) => Outcome::End,
         Err(refusal) => Outcome::Refused(refusal),
     };
     (outcome, usize::from(u16::from_be_bytes([high, low])))
+}
+
+/// The causes that it has above the bit of the end; a read alone gives none.
+fn causes(read: u64) -> Causes {
+    let [_, low] = halves(read);
+    Causes::of((low >> 17) as usize)
 }
 
 /// The record that a reader stores, where it accepts.

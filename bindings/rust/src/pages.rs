@@ -13,6 +13,7 @@
 
 use crate::errors::{ParseError, Result};
 use crate::fields::*;
+use crate::kept::Causes;
 use crate::library;
 use crate::record::one_of;
 pub use crate::record::Recorded;
@@ -161,6 +162,9 @@ pub struct Listed {
     pub at: usize,
     /// What it answers.
     pub outcome: Outcome,
+    /// By which causes the field is filed as other bytes than came. Only [`file()`] tells them, of a
+    /// record that it adds; else it is empty.
+    pub causes: Causes,
     /// The position of the next read; `at` where the refusal is 17 or 18. At the end it is past the
     /// end line.
     pub next: usize,
@@ -276,7 +280,8 @@ pub struct Filing {
 }
 
 /// Files the records of a page on a new one in a buffer, by one call of the library: reads the page
-/// as [`listed`] does, [adds](add) each record from position 0, and [closes](close) the new page.
+/// as [`listed`] does, [adds](add) each record from position 0, and [closes](close) the new page. It
+/// tells by which [causes](Listed::causes) a field is filed as other bytes than came.
 pub fn file(page: &[u8], buffer: &mut [u8]) -> Filing {
     library::file(page, buffer)
 }

@@ -20,34 +20,34 @@
 //! [`Field50InstructingParty`]: crate::fields::Field50InstructingParty
 
 use crate::errors::Result;
-use crate::record::{Record, Recorded};
+use crate::fields::letter;
+use crate::library::{self, Reader};
+use crate::traits::Parsed;
+
+/// What is read under the profile: the struct of an option, or the enum of a choice.
+pub use crate::traits::Parsed as Profiled;
 
 /// Reads a body as [`SwiftField::parse`](crate::SwiftField::parse) does, under the profile.
 ///
 /// Refused as there, and after that with 32.
-pub fn parse<T: Profiled>(body: &str) -> Result<T> {
-    T::profiled(body)?.value()
+pub fn parse<T: Parsed>(body: &str) -> Result<T> {
+    let record = match T::READER {
+        Reader::Option(place) => library::read_profiled(place, body.as_bytes()),
+        Reader::Choice(place) => library::parse_profiled(place, body.as_bytes()),
+    };
+    record?.value()
 }
 
 /// Reads a body by the letter of its tag as
 /// [`SwiftField::parse_with_variant`](crate::SwiftField::parse_with_variant) does, under the profile.
 ///
 /// Refused as there, and after that with 32.
-pub fn parse_with_variant<T: Profiled>(body: &str, variant: Option<&str>) -> Result<T> {
-    T::profiled_with_variant(body, variant)?.value()
-}
-
-/// What is read under the profile: the struct of an option, or the enum of a choice.
-///
-/// Only these types have it, since what its methods give is private to this crate.
-pub trait Profiled: Recorded {
-    /// The record of a body.
-    #[doc(hidden)]
-    fn profiled(body: &str) -> Result<Record>;
-
-    /// The same by a variant, which only the enum of a choice uses.
-    #[doc(hidden)]
-    fn profiled_with_variant(body: &str, _variant: Option<&str>) -> Result<Record> {
-        Self::profiled(body)
+pub fn parse_with_variant<T: Parsed>(body: &str, variant: Option<&str>) -> Result<T> {
+    match T::READER {
+        Reader::Option(_) => parse(body),
+        Reader::Choice(place) => {
+            let letter = letter(variant)?;
+            library::parse_profiled_with_variant(place, body.as_bytes(), letter)?.value()
+        }
     }
 }

@@ -1,6 +1,8 @@
 //! What every field can do.
 
 use crate::errors::Result;
+use crate::library::Reader;
+use crate::record::Recorded;
 
 /// Reading and writing of a field, for the struct of an option and for the enum of a choice.
 pub trait SwiftField {
@@ -37,4 +39,13 @@ pub trait SwiftField {
     fn get_variant_tag(&self) -> Option<&'static str> {
         None
     }
+}
+
+/// What a body is read as: the struct of an option, or the enum of a choice.
+///
+/// Only these types have it, since the type of its constant is private to this crate.
+pub trait Parsed: Recorded {
+    /// What reads it.
+    #[doc(hidden)]
+    const READER: Reader;
 }

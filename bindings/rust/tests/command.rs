@@ -2,7 +2,7 @@
 
 mod common;
 
-use common::{command, ended, full, run, Room, Told, FILED, GOOD, MIXED};
+use common::{command, ended, full, run, Room, Told, CHANGED, FILED, GOOD, MIXED};
 use std::collections::HashSet;
 use std::ffi::OsStr;
 use std::fs::{self, File};
@@ -56,11 +56,17 @@ yewdome: standard input: 11 filed, 4 refused
 fn the_example_page_with_cr_lf_is_filed_alike() {
     let page = fs::read_to_string(example("stdin")).expect("the example is there");
     let filed = fs::read_to_string(example("stdout")).expect("the example is there");
-    let due = told(&["file"], page.as_bytes());
-    assert_eq!(due.1, filed);
+    let (_, _, due) = told(&["file"], page.as_bytes());
     for end in ["-\r\n", "-}\r\n", "-}\n", "-}"] {
         let lines = page.strip_suffix("-\n").expect("the page is closed").replace('\n', "\r\n");
-        assert_eq!(told(&["file"], format!("{lines}{end}").as_bytes()), due);
+        let (status, out, err) = told(&["file"], format!("{lines}{end}").as_bytes());
+        assert_eq!((status, &out), (1, &filed));
+        // what is refused is said as before, and beside it that each field is filed as other bytes
+        let is_changed = |line: &&str| line.contains(" filed as other bytes than came: CR before ");
+        let (changed, others): (Vec<&str>, Vec<&str>) = err.lines().partition(is_changed);
+        let counts = "11 filed, 11 of them as other bytes than came, 4 refused";
+        let due = due.trim_end().replace("11 filed, 4 refused", counts);
+        assert_eq!((changed.len(), others.join("\n")), (11, due));
     }
 }
 
@@ -158,6 +164,72 @@ fn bytes_after_the_end_line_are_told() {
     assert!(err.ends_with("not read\nyewdome: standard input: 1 filed, 0 refused\n"), "{err}");
 }
 
+/// What is said of the fields of [`CHANGED`].
+const CAUSES: &str = "\
+yewdome: standard input: page line 2: 50A filed as other bytes than came: CR before an LF inside the body, lines after the BIC
+yewdome: standard input: page line 5: 50K filed as other bytes than came: empty last line
+";
+
+#[test]
+fn what_is_filed_as_other_bytes_than_came_is_told() {
+    let filed = ":50C:BNPAFRPP\n:50A:/12\nBNPAFRPP\n:50K:A\n-\n".to_string();
+    let counts = "3 filed, 2 of them as other bytes than came, 0 refused";
+    let messages = format!("{CAUSES}yewdome: standard input: {counts}\n");
+    assert_eq!(told(&["file"], CHANGED), (0, filed, messages));
+    // nothing is filed where a page is only read
+    for task in ["read", "check"] {
+        let (status, _, err) = told(&[task], CHANGED);
+        assert_eq!((status, err.as_str()), (0, "yewdome: standard input: 3 records, 0 refused\n"));
+    }
+}
+
+/// Looks that with `--exact` nothing is written of a page, and why. What is said before that is what
+/// is said without it.
+fn withheld(page: &[u8], why: &str) {
+    let (status, out, err) = told(&["file", "--exact"], page);
+    assert_eq!((status, out.as_str()), (1, ""), "{err}");
+    let said = told(&["file"], page).2;
+    let (before, _counts) = said.trim_end().rsplit_once('\n').expect("more than the counts");
+    let last = format!("yewdome: standard input: nothing written: {why} (--exact)");
+    assert_eq!(err, format!("{before}\n{last}\n"));
+}
+
+#[test]
+fn with_exact_nothing_is_written_unless_every_field_is_filed_as_it_came() {
+    withheld(CHANGED, "2 fields would be filed as other bytes than came");
+    withheld(b":50K:A\r\n-\n", "1 field would be filed as other bytes than came");
+    let both = "1 field would be filed as other bytes than came, 2 fields are refused";
+    withheld(b":50K:A\r\n:50K:~\n:59F:2/A\n-\n", both);
+    // a tag that is unknown, a record that a page cannot carry, and one for which there is no space
+    withheld(b":50C:BNPAFRPP\n:52A:X\n-\n", "1 field is refused");
+    withheld(b":50K:A\n\n\n-\n", "1 field is refused");
+    withheld(&[&longest()[..LONGEST_PAGE - 8], b":50:ABC\n"].concat(), "1 field is refused");
+    // neither the line before the first field nor the end line that is missing is a field
+    withheld(b"junk\n:52A:X\n", "1 field is refused");
+    let (status, out, _) = run(command(&["file", "--exact"]).stdout(full()), CHANGED);
+    assert_eq!((status, out.as_str()), (1, ""), "no byte is written");
+}
+
+#[test]
+fn with_exact_a_page_of_fields_that_are_filed_as_they_came_is_filed() {
+    for (page, filed, status) in [
+        (GOOD, GOOD, 0),
+        (b"-}\r\n", b"-\n", 0),
+        (MIXED, FILED, 1),
+        (b"junk\r\n:50C:BNPAFRPP\n-}", FILED, 1),
+        (b":50C:BNPAFRPP", FILED, 1),
+        (b":50C:BNPAFRPP\n-\n:50L:A\r\n-\n", FILED, 1),
+    ] {
+        let exact = told(&["file", "--exact"], page);
+        assert_eq!((exact.0, exact.1.as_bytes()), (status, filed), "{}", exact.2);
+        assert_eq!(exact, told(&["file"], page));
+    }
+    let page = longest();
+    assert!(told(&["file", "--exact"], &page) == told(&["file"], &page));
+    assert_eq!(told(&["file", "--exact"], b"").0, 2);
+    assert_eq!(told(&["file", "--exact"], &[b'\n'; LONGEST_PAGE + 1]).0, 2);
+}
+
 #[test]
 fn what_is_no_page_is_2() {
     let room = Room::new();
@@ -229,6 +301,7 @@ fn a_standard_error_that_takes_nothing_changes_no_status() {
         (&["file"][..], GOOD, 0),
         (&["read"], MIXED, 1),
         (&["check"], MIXED, 1),
+        (&["file", "--exact"], CHANGED, 1),
         (&["file"], b"", 2),
         (&["wrong"], b"", 2),
     ] {
@@ -246,6 +319,10 @@ fn a_wrong_usage_is_2() {
         (&["--", "file"], "no such command: --"),
         (&["file", "-o"], "-o is given no FILE"),
         (&["file", "-o", "a", "-o", "b"], "-o is given twice"),
+        (&["file", "--exact", "--exact"], "--exact is given twice"),
+        (&["file", "--exact=1"], "no such option: --exact=1"),
+        (&["read", "--exact"], "no such option: --exact"),
+        (&["check", "--exact"], "no such option: --exact"),
         (&["file", "a", "b"], "more than one FILE is given"),
         (&["read", "-", "-"], "more than one FILE is given"),
         (&["read", "-o", "a"], "no such option: -o"),
@@ -255,7 +332,7 @@ fn a_wrong_usage_is_2() {
     ] {
         let (status, out, err) = told(arguments, GOOD);
         assert_eq!((status, out.as_str()), (2, ""));
-        let due = format!("yewdome: {message}\nusage: yewdome file [-o FILE] [FILE]\n");
+        let due = format!("yewdome: {message}\nusage: yewdome file [--exact] [-o FILE] [FILE]\n");
         assert!(err.starts_with(&due) && err.ends_with("yewdome --version\n"), "{err}");
     }
 }
@@ -266,7 +343,7 @@ fn help_and_version_are_printed() {
     assert_eq!(told(&["--version"], b""), version);
     let (status, help, err) = told(&["--help"], b"");
     assert_eq!((status, err.as_str()), (0, ""));
-    assert!(help.starts_with("usage: yewdome file [-o FILE] [FILE]\n"), "{help}");
+    assert!(help.starts_with("usage: yewdome file [--exact] [-o FILE] [FILE]\n"), "{help}");
     for task in ["file", "read", "check"] {
         assert_eq!(told(&[task, "--help"], b"").1, help);
         assert_eq!(told(&[task, "page", "--version"], b""), version);

@@ -2,7 +2,7 @@
 
 mod common;
 
-use common::{command, ended, full, run, Room, Told, FILED, GOOD, MIXED};
+use common::{command, ended, full, run, Room, Told, CHANGED, FILED, GOOD, MIXED};
 use std::ffi::{OsStr, OsString};
 use std::fs::{self, File, Permissions};
 use std::os::unix::ffi::OsStrExt;
@@ -160,6 +160,26 @@ fn where_no_page_is_read_the_file_is_left() {
         assert_eq!(to_file(&room, "new", page).0, 2);
     }
     assert_eq!((bytes(&room, "old"), names(&room).len()), (OLD.to_vec(), 1));
+}
+
+#[test]
+fn with_exact_the_file_is_left_unless_every_field_is_filed_as_it_came() {
+    let room = Room::new();
+    room.put("old", OLD);
+    for page in [CHANGED, b":50K:A\r\n-\n", b":50C:BNPAFRPP\n:52A:X\n-\n"] {
+        for arguments in
+            [["--exact", "-o", "old"], ["-o", "old", "--exact"], ["--exact", "-o", "new"]]
+        {
+            let (status, out, err) = room.told(&[&["file"][..], &arguments].concat(), page);
+            assert_eq!((status, out.as_str()), (1, ""));
+            assert!(err.ends_with(" (--exact)\n"), "{err}");
+        }
+    }
+    assert_eq!((bytes(&room, "old"), names(&room).len()), (OLD.to_vec(), 1));
+    let kept = |page| room.told(&["file", "--exact", "-o", "old"], page).0;
+    assert_eq!((kept(GOOD), bytes(&room, "old")), (0, GOOD.to_vec()));
+    assert_eq!((kept(MIXED), bytes(&room, "old")), (1, FILED.to_vec()));
+    assert_eq!(names(&room), ["old"]);
 }
 
 #[test]

@@ -4,6 +4,7 @@ mod parties;
 
 use parties::{one_of_each, parsed, refused};
 use yewdome::fields::*;
+use yewdome::kept::{self, Causes};
 use yewdome::pages::*;
 
 const STALE: u8 = 0xa5;
@@ -341,6 +342,8 @@ fn pages() -> Vec<Vec<u8>> {
     let mut pages = [&b""[..], b"-", b"-\n", b":50C:BNPAFRPP", b":50K:A\n\n\n:50L:B\n-\n", mixed]
         .map(<[u8]>::to_vec)
         .to_vec();
+    pages.push(crlf(mixed));
+    pages.push(b":50A:BNPAFRPP\nX\n:50K:A\n\n:50L: B\r\n-}".to_vec());
     pages.push(b":50K:A\n".repeat(LONGEST_PAGE / 7 + 1)[..LONGEST_PAGE].to_vec());
     pages.push(vec![b'\n'; LONGEST_PAGE + 1]);
     pages.push(vec![b'\n'; 10 * LONGEST_PAGE]);
@@ -354,7 +357,7 @@ fn without_record(read: &Read) -> Listed {
         Answer::Refused(refusal) => Outcome::Refused(refusal),
         Answer::End => Outcome::End,
     };
-    Listed { at: read.at, outcome, next: read.next }
+    Listed { at: read.at, outcome, causes: Causes::default(), next: read.next }
 }
 
 /// Files a page by adding and closing.
@@ -364,7 +367,11 @@ fn filed_by_hand(page: &[u8], buffer: &mut [u8]) -> Filing {
         let mut told = without_record(&read);
         if let Answer::Record(party) = read.answer {
             match add(&party, buffer, position) {
-                Ok(next) => position = next,
+                Ok(next) => {
+                    position = next;
+                    let causes = kept::field_at(page, read.at).expect("the field is read");
+                    told.causes = causes.expect("it is no end");
+                }
                 Err(refusal) => told.outcome = Outcome::Refused(refusal),
             }
         }
@@ -391,7 +398,8 @@ fn a_page_is_listed_as_it_is_answered() {
     }
     assert_eq!(numbers(&listed(b"")), [17]);
     assert_eq!(numbers(&listed(&[b'\n'; LONGEST_PAGE + 1])), [18]);
-    assert_eq!(listed(b"-\n:50:A"), [Listed { at: 0, outcome: Outcome::End, next: 2 }]);
+    let end = Listed { at: 0, outcome: Outcome::End, causes: Causes::default(), next: 2 };
+    assert_eq!(listed(b"-\n:50:A"), [end]);
 }
 
 #[test]

@@ -4,7 +4,9 @@
 
 use std::collections::BTreeMap;
 use yewdome::fields::*;
+use yewdome::kept::{self, Causes};
 use yewdome::pages::{measure, Party, LONGEST_BODY};
+use yewdome::traits::Parsed;
 use yewdome::{ParseError, SwiftField};
 
 /// The record and what is written of it, or the refusal's number and line.
@@ -95,17 +97,31 @@ fn party(fields: &[String]) -> Party {
 
 // Ours.
 
-fn ask<T: SwiftField + Into<Party>>(call: &Call, body: &str) -> Answer {
-    let value = match call {
-        Call::Parse => T::parse(body),
-        Call::WithVariant(variant) => T::parse_with_variant(body, variant.as_deref(), None),
-    };
-    let value = value.map_err(told)?;
-    let written = value.to_swift_string().map_err(told)?;
-    Ok((value.into(), written))
+/// What a type gives of a body, and by which causes what it writes of it is another.
+struct Asked {
+    answer: Answer,
+    causes: Result<Causes, (u8, u16)>,
 }
 
-fn reader(name: &str) -> fn(&Call, &str) -> Answer {
+fn ask<T: SwiftField + Parsed + Into<Party>>(call: &Call, body: &str) -> Asked {
+    let (value, causes) = match call {
+        Call::Parse => (T::parse(body), kept::parse::<T>(body)),
+        Call::WithVariant(variant) => {
+            let variant = variant.as_deref();
+            (
+                T::parse_with_variant(body, variant, None),
+                kept::parse_with_variant::<T>(body, variant),
+            )
+        }
+    };
+    let answer = value.and_then(|value| {
+        let written = value.to_swift_string()?;
+        Ok((value.into(), written))
+    });
+    Asked { answer: answer.map_err(told), causes: causes.map_err(told) }
+}
+
+fn reader(name: &str) -> fn(&Call, &str) -> Asked {
     match name {
         "50" => ask::<Field50NoOption>,
         "50A" => ask::<Field50A>,
@@ -249,7 +265,7 @@ fn every_case_is_read_as_expected() {
     let mut counts = BTreeMap::new();
     for case in cases() {
         let (rule, answer) = expected(&case);
-        assert_eq!(reader(&case.reader)(&case.call, &case.body), answer, "{}", case.row);
+        assert_eq!(reader(&case.reader)(&case.call, &case.body).answer, answer, "{}", case.row);
         *counts.entry(rule).or_insert(0) += 1;
     }
     let due = [("12", 55), ("13", 107), ("14", 139), ("50H", 52), ("Rust", 5647)];
@@ -261,8 +277,8 @@ fn every_case_is_read_as_expected() {
 fn with_its_lines_numbered_50f_is_the_rusts() {
     let (mut in_turn, mut otherwise) = (0, 0);
     for case in cases() {
-        let Ok((Party::Field50F(field), came)) = reader(&case.reader)(&case.call, &case.body)
-        else {
+        let asked = reader(&case.reader)(&case.call, &case.body);
+        let Ok((Party::Field50F(field), came)) = asked.answer else {
             continue;
         };
         let party = Party::from(Field50F { digits: LineDigits::default(), ..field });
@@ -298,4 +314,76 @@ fn every_record_is_written_as_expected() {
         assert_eq!(ours, Ok(due), "{}", case.row);
     }
     assert_eq!((as_the_rust, less, refused), (2622, 68, 40));
+}
+
+#[test]
+fn there_are_causes_exactly_where_a_body_is_written_as_another() {
+    let (mut kept, mut changed) = (0, 0);
+    for case in cases() {
+        let Asked { answer, causes } = reader(&case.reader)(&case.call, &case.body);
+        let is_kept = answer.map(|(_, field)| {
+            let (_, written) = field[1..].split_once(':').expect("a field has a tag");
+            written == case.body
+        });
+        match is_kept {
+            Ok(true) => kept += 1,
+            Ok(false) => changed += 1,
+            Err(_) => {}
+        }
+        assert_eq!(causes.map(Causes::is_empty), is_kept, "{}", case.row);
+    }
+    assert_eq!((kept, changed), (2000, 577));
+}
+
+/// What is read of a body: all of it, but where the instructing party is detected, which trims.
+fn text_of(case: &Case) -> &str {
+    let picks =
+        matches!(&case.call, Call::WithVariant(Some(letter)) if letter == "C" || letter == "L");
+    match case.reader == "Field50InstructingParty" && !picks {
+        true => case.body.trim(),
+        false => &case.body,
+    }
+}
+
+/// How many lines a body needs for its BIC; none where it has none.
+fn lines_to_bic(party: &Party) -> Option<usize> {
+    match party {
+        Party::Field50A(field) => Some(1 + usize::from(field.party_identifier.is_some())),
+        Party::Field59A(field) => Some(1 + usize::from(field.account.is_some())),
+        Party::Field50G(_) => Some(2),
+        Party::Field50C(_) => Some(1),
+        _ => None,
+    }
+}
+
+#[test]
+fn each_cause_is_told_where_a_body_has_it() {
+    let mut counts = [0; 5];
+    for case in cases() {
+        let Asked { answer: Ok((party, _)), causes: Ok(causes) } =
+            reader(&case.reader)(&case.call, &case.body)
+        else {
+            continue;
+        };
+        let text = text_of(&case);
+        let due = [
+            text.contains("\r\n"),
+            text.ends_with('\n'),
+            lines_to_bic(&party).map_or(false, |lines| text.lines().count() > lines),
+            text.len() < case.body.len(),
+            false,
+        ];
+        let told = [
+            causes.inner_cr(),
+            causes.last_lf(),
+            causes.after_bic(),
+            causes.blanks(),
+            causes.closing_cr(),
+        ];
+        assert_eq!(told, due, "{}", case.row);
+        for (count, is_told) in counts.iter_mut().zip(told) {
+            *count += usize::from(is_told);
+        }
+    }
+    assert_eq!(counts, [327, 249, 53, 51, 0]);
 }

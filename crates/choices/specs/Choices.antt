@@ -106,3 +106,12 @@ pickOf letter (o ∷ os) body detects = elim (eqb letter (limitsOf o .letter)) [
 -- by a letter: 14 first
 unfoldable pub parseWithVariant : Choice → List ℕ → ℕ → Reading
 parseWithVariant choice body letter = afterCheck (letterReply letter) (pickOf letter (optionsOf choice) body (parse choice body))
+
+-- whether a letter picks one of some options
+unfoldable pub isPicked : ℕ → List PartyOption → Bool
+isPicked letter [] = false
+isPicked letter (o ∷ os) = eqb letter (limitsOf o .letter) || isPicked letter os
+
+-- what is read of a body by a letter: all of it where the letter picks an option, else what is tried
+abbrev pub readText : Choice → List ℕ → ℕ → List ℕ
+readText choice body letter = elim (isPicked letter (optionsOf choice)) [ true ↦ body | false ↦ triedText choice body ]

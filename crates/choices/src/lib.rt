@@ -24,7 +24,7 @@ ghost use Rattle.party.specs.Limits.{limitsOf};
 ghost use Rattle.field_utils.specs.Lines.{lines};
 ghost use Rattle.reader.specs.Reading.{toldAnswer};
 ghost use Rattle.choices.specs.Detection.{anyNumbered, firstLine, lastLine, bicLike, testLine, holds as holdsOf};
-ghost use Rattle.choices.specs.Choices.{trialsOf, triedText, wanted, firstThat, parse as parseOf, isLetter, parseWithVariant};
+ghost use Rattle.choices.specs.Choices.{trialsOf, triedText, wanted, firstThat, parse as parseOf, isLetter, parseWithVariant, readText};
 
 // The seven choices, under the names of the Rust's enums.
 pub enum Choice {
@@ -251,7 +251,7 @@ fn trials_of(choice: Choice) -> [Trial; 3]
 }
 
 // What is tried: the body, trimmed in one choice.
-fn tried_text(choice: Choice, body: &[u8]) -> &[u8]
+pub fn tried_text(choice: Choice, body: &[u8]) -> &[u8]
     ensures { λ r. ⌜ now r ≡ triedText choice (now (body .entry)) ⌝ }
 {
     if let Choice::Field50InstructingParty = choice {
@@ -334,4 +334,18 @@ pub fn parse_with_variant(choice: Choice, body: &[u8], letter: u8) -> Answer
         }
     }
     parse(choice, body)
+}
+
+// What is read of a body by a letter: all of it where the letter picks an option, else what is tried. That is all of it but in the one
+// choice that trims, of C and L.
+pub fn read_text(choice: Choice, body: &[u8], letter: u8) -> &[u8]
+    ensures { λ r. ⌜ now r ≡ readText choice (now (body .entry)) letter ⌝ }
+{
+    if has_letter(PartyOption::Field50C, letter) {
+        return body;
+    }
+    if has_letter(PartyOption::Field50L, letter) {
+        return body;
+    }
+    tried_text(choice, body)
 }

@@ -2,6 +2,7 @@ pub mod Runs
 pub mod EndLines
 pub mod Cases
 pub mod Bodies
+pub mod Records
 pub mod Tags
 pub mod Moves
 pub mod Starts

@@ -8,9 +8,10 @@ use lib.ListN.{length, take, drop}
 use lib.Seq.{take-all, length-take-le, take-at}
 use Rattle.field_utils.specs.Lines.{upto, isEmpty}
 use Rattle.field_utils.proofs.Places.{Upto, none, here, past, by-upto, upto-length}
-use Rattle.field_utils.proofs.Tests.{none-more, Line, first-not, rest-not}
+use Rattle.field_utils.proofs.Tests.{none-more, Line, first-not, rest-not, both-left, both-right}
 use Rattle.page_reader.specs.Pages.{lineAt, hasLf, isBoundary, runs}
-use mathlib.Core.Bool.{Bool, true, false, _||_, or-true}
+use mathlib.Core.Bool.{Bool, true, false, _&&_, _||_, or-true}
+use borrow.Author.Tests.{eqb-true}
 use native.Mathlib.Nat.{zero-add}
 
 -- ---- up to the first LF
@@ -92,3 +93,22 @@ module _ (s : List ℕ) where
 
   pub runs-more : upto 10 s < length s → followed (drop (suc (upto 10 s)) s) ≡ false → runs s ≡ upto 10 s + suc (runs (drop (suc (upto 10 s)) s))
   runs-more h e = ap runs (first-line s .splits h) ∙ runs-on (lineAt s) _ (first-line s .line) e ∙ rw (line-length s)
+
+-- ---- a field that an LF closes: what is before it, and that what follows it ends the field
+pub record Closed (s : List ℕ) (n : ℕ) : Type 0 where
+  pub splits : s ≡ take n s ++ 10 ∷ drop (suc n) s
+  pub follows : followed (drop (suc n) s) ≡ true
+
+pub runs-closed : (s : List ℕ) → runs s < length s → Closed s (runs s)
+unfolding runs
+runs-closed [] h = absurd (omega arith)
+runs-closed (b ∷ s) h = go (eqb b 10 && followed s) refl (runs-closed s)
+  where
+    go : (t : Bool) → (eqb b 10 && followed s) ≡ t → (runs s < length s → Closed s (runs s)) → Closed (b ∷ s) (runs (b ∷ s))
+    go true e ih =
+        let z : runs (b ∷ s) ≡ 0 = rw (e, runs) in
+        subst (Closed (b ∷ s)) (sym z) (record { splits = ap (λ (c : ℕ). c ∷ s) (eqb-true b 10 (both-left (eqb b 10) (followed s) e)); follows = both-right (eqb b 10) (followed s) e })
+    go false e ih =
+        let z : runs (b ∷ s) ≡ suc (runs s) = rw (e, runs) in
+        let c = ih (omega (arith, h, z)) in
+        subst (Closed (b ∷ s)) (sym z) (record { splits = ap (_∷_ b) (c .splits); follows = c .follows })

@@ -55,7 +55,7 @@ read-weight ByLines x = lines-weight x
 abbrev cutBody : List ℕ → List ℕ
 cutBody body = withoutCr (joined (pieces-of body .first ∷ upToBoundary (pieces-of body .later)))
 
-cut-weight : (ls : List (List ℕ)) → anyBoundary ls ≡ true → weight (upToBoundary ls) < weight ls
+pub cut-weight : (ls : List (List ℕ)) → anyBoundary ls ≡ true → weight (upToBoundary ls) < weight ls
 unfolding anyBoundary
 cut-weight [] e = absurd (false≢true e)
 cut-weight (m ∷ ms) e = go (isBoundary true m) refl (cut-weight ms)
@@ -98,7 +98,7 @@ module _ (p : Party) (g : Given p) where
   abbrev Read : List ℕ → Type 0
   Read b = (read o b .reply ≡ accepted) × Same (read o b .party) p
 
-  alone-most : length (pageOf (kept p ∷ []) endLine) ≤ pageMost
+  pub alone-most : length (pageOf (kept p ∷ []) endLine) ≤ pageMost
   unfolding pageOf
   alone-most =
       omega (arith, length-append (withLf (writtenField (said p))) endLine, length-append (writtenField (said p)) (10 ∷ []), written-most p g)

@@ -10,3 +10,4 @@ pub mod Digits
 pub mod OperationsLeaves
 pub mod OperationsReaders
 pub mod OperationsBuffers
+pub mod Kept

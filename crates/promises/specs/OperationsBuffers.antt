@@ -31,6 +31,7 @@ use Rattle.page_reader.specs.Index.{entriesIn, entriesOf, fieldAt, lookUp}
 use Rattle.page_writer.specs.Beside.{noIndex, anIndex, noted}
 use Rattle.page_writer.specs.Adding.{anyCr, anyBoundary, laterBoundary, isCarried, writable, refusal, asked, recordReply, addReply, add, addIndex, close}
 use Rattle.page_writer.specs.Fold.{run}
+use Rattle.kept.specs.Kept.{hasCrLf, endsLf, causesOf}
 use Rattle.flat.specs.Flat.{recordSize, flatTexts, flatten, stored, textAt, isFlat, partyFrom, unflatten}
 use Rattle.yewdome.specs.Interface.{partyRead, partyParse, partyParseWithVariant, partyMeasure, partyPlace, pageRead, pageLookUp, pageBody, pageAdd, pageAddIndex, pageClose, pageAnswers, pageFile}
 use Rattle.promises.specs.Starred.{gives, gives50F}
@@ -214,7 +215,7 @@ pub record YewdomeOperations : Type 0 where
   pub page-file-tests-late : pageFile (bytes "-\n") (bytes "ab") [] ≡ record { code = 43 * 65536; bytes = bytes "ab"; answers = [] }
 
 pub yewdome-operations : YewdomeOperations
-unfolding padded textOf said letter digit alphanumeric signs legal parseSwiftChars parseAccount bicLength parseBic upto onto starts lines white trimmedStart keep trimmedEnd trimmed isNumbered secondSlash identifierReply parsePartyIdentifier parseLine parseLines parseNameAndAddress four partyOf accountHead shortAccountHead afterHead read anyNumbered firstLine lastLine bicLike firstThat pickOf testLine nameLines writtenLines joined writtenBody writtenField pieces isLine areNames isGiven measure place endsCr lastEmpty withoutCr lineAt isEnd endsPage runs begins tagIn readField readAt isCarried writable asked recordReply addReply add noted addIndex close flatTexts flatten stored optionAt textAt isFlat partyFrom unflatten entriesIn entriesOf fieldAt lookUp parse parseWithVariant readCase anyCr anyBoundary laterBoundary bodyPlace tagOf run readsFrom
+unfolding padded textOf said letter digit alphanumeric signs legal parseSwiftChars parseAccount bicLength parseBic upto onto starts lines white trimmedStart keep trimmedEnd trimmed isNumbered secondSlash identifierReply parsePartyIdentifier parseLine parseLines parseNameAndAddress four partyOf accountHead shortAccountHead afterHead read anyNumbered firstLine lastLine bicLike firstThat pickOf testLine nameLines writtenLines joined writtenBody writtenField pieces isLine areNames isGiven measure place endsCr lastEmpty withoutCr lineAt isEnd endsPage runs begins tagIn readField readAt isCarried writable asked recordReply addReply add noted addIndex close flatTexts flatten stored optionAt textAt isFlat partyFrom unflatten entriesIn entriesOf fieldAt lookUp parse parseWithVariant readCase anyCr anyBoundary laterBoundary bodyPlace tagOf run readsFrom hasCrLf endsLf causesOf
 yewdome-operations = record {
   party-read-drops-the-line = refl;
   party-read-takes-11 = refl;

@@ -50,11 +50,17 @@ pub(crate) fn refused(number: u8, line: usize) -> Reply {
 pub(crate) fn reply_of(answer: Answer) -> Reply {
     let outcome = answer.outcome;
     let party = answer.party;
-    let said = match outcome {
+    Reply {
+        said: said_of(outcome),
+        party,
+    }
+}
+
+pub(crate) fn said_of(outcome: Outcome) -> Said {
+    match outcome {
         Outcome::Accepted => Said::Accepted,
         Outcome::Refused(e) => Said::Refused(e.refusal()),
-    };
-    Reply { said, party }
+    }
 }
 
 fn malformed() -> Given {

@@ -20,6 +20,7 @@ pub enum Difference {
     Names,
     Digits,
     Written,
+    Kept,
 }
 
 pub(crate) fn compare(a: Reply, b: Reply) -> Difference {
@@ -36,7 +37,7 @@ pub(crate) fn compare(a: Reply, b: Reply) -> Difference {
 }
 
 // A panic is like no answer of ours.
-fn compare_said(a: Said, b: Said) -> Difference {
+pub(crate) fn compare_said(a: Said, b: Said) -> Difference {
     match a {
         Said::Accepted => match b {
             Said::Accepted => Difference::Nothing,

@@ -1,10 +1,12 @@
 // Replays the list of the Rust's answers, from standard input: asks our readers each case, and compares each answer with what is
-// expected; has our writer write each record, and compares it with what the Rust writes. Says which cases differ, and at the end how
-// many there are of each kind.
+// expected; has our writer write each record, and compares it with what the Rust writes; and has it write each record that our readers
+// give, and compares that with the body that came, by what `kept` tells of it. Says which cases differ, and at the end how many there are
+// of each kind.
 mod answer;
 mod asked;
 mod compare;
 mod digits;
+mod keeping;
 mod list;
 mod rules;
 mod tally;
@@ -21,6 +23,8 @@ use compare::Difference;
 use compare::compare;
 use digits::digits_of;
 use digits::with_digits;
+use keeping::Keeping;
+use keeping::keep;
 use libc::STDIN_FILENO;
 use libc::STDOUT_FILENO;
 use list::field;
@@ -62,17 +66,24 @@ fn weigh(question: Question, body: &[u8], rust: Reply, text: &[u8]) -> Verdict {
     let rule = wanted.rule;
     let reply = wanted.reply;
     match compare(with_digits(reply, body), ours) {
-        Difference::Nothing => settle(rule, write(rust, digits_of(body), text)),
+        Difference::Nothing => settle(
+            rule,
+            write(rust, digits_of(body), text),
+            keep(question, body, ours),
+        ),
         found => Verdict::Differs(found),
     }
 }
 
 // The verdict where our answer is as expected.
-fn settle(rule: Rule, writing: Writing) -> Verdict {
-    match writing {
-        Writing::Differs => Verdict::Differs(Difference::Written),
-        _ => Verdict::Agrees(rule, writing),
+fn settle(rule: Rule, writing: Writing, keeping: Keeping) -> Verdict {
+    if let Writing::Differs = writing {
+        return Verdict::Differs(Difference::Written);
     }
+    if let Keeping::Differs = keeping {
+        return Verdict::Differs(Difference::Kept);
+    }
+    Verdict::Agrees(rule, writing, keeping)
 }
 
 // Every line but the comments is a case.

@@ -1,12 +1,14 @@
 // The count of the cases, and what is printed.
 use crate::compare::Difference;
+use crate::keeping::Keeping;
 use crate::rules::Rule;
 use crate::writing::Writing;
+use kept::Causes;
 use libc::STDOUT_FILENO;
 
-// What came of a case: ours is as expected by a rule, and so is what is written; or something differs.
+// What came of a case: ours is as expected by a rule, and so is what is written and what is kept; or something differs.
 pub enum Verdict {
-    Agrees(Rule, Writing),
+    Agrees(Rule, Writing, Keeping),
     Differs(Difference),
 }
 
@@ -29,6 +31,13 @@ pub struct Tally {
     renumbered: u64,
     less: u64,
     refused: u64,
+    // bodies written as they came, and not; of these, the ones that have each cause
+    came: u64,
+    other: u64,
+    inner_cr: u64,
+    last_lf: u64,
+    after_bic: u64,
+    blanks: u64,
 }
 
 // The list has too few lines for these to wrap; that is not proved, and only what is printed hangs on it.
@@ -38,6 +47,10 @@ fn sum(a: u64, b: u64) -> u64 {
 
 fn more(n: u64) -> u64 {
     sum(n, 1)
+}
+
+fn more_if(told: bool, n: u64) -> u64 {
+    if told { more(n) } else { n }
 }
 
 impl Tally {
@@ -55,6 +68,12 @@ impl Tally {
             renumbered: 0,
             less: 0,
             refused: 0,
+            came: 0,
+            other: 0,
+            inner_cr: 0,
+            last_lf: 0,
+            after_bic: 0,
+            blanks: 0,
         }
     }
 
@@ -67,7 +86,9 @@ impl Tally {
     pub(crate) fn note(mut self, verdict: Verdict) -> Self {
         self.cases = more(self.cases);
         match verdict {
-            Verdict::Agrees(rule, writing) => self.agree(rule).wrote(writing),
+            Verdict::Agrees(rule, writing, keeping) => self.agree(rule)
+                .wrote(writing)
+                .kept(keeping),
             Verdict::Differs(difference) => {
                 if self.differ < MOST {
                     print_number(b"line ", self.line);
@@ -101,6 +122,27 @@ impl Tally {
         self
     }
 
+    fn kept(mut self, keeping: Keeping) -> Self {
+        match keeping {
+            Keeping::AsCame => {
+                self.came = more(self.came);
+                self
+            }
+            Keeping::Other(causes) => self.caused(causes),
+            _ => self,
+        }
+    }
+
+    // A body may have several causes.
+    fn caused(mut self, causes: Causes) -> Self {
+        self.other = more(self.other);
+        self.inner_cr = more_if(causes.inner_cr, self.inner_cr);
+        self.last_lf = more_if(causes.last_lf, self.last_lf);
+        self.after_bic = more_if(causes.after_bic, self.after_bic);
+        self.blanks = more_if(causes.blanks, self.blanks);
+        self
+    }
+
     // The last line. A list without a case is an error.
     pub(crate) fn print(self) {
         if self.cases == 0 {
@@ -127,7 +169,19 @@ impl Tally {
         print_number(b" written as the Rust, ", self.renumbered);
         print_number(b" so after 50F's digits are set to 1, 2, 3, 4, ", self.less);
         print_number(b" so without the LF of 59F's empty line, ", self.refused);
-        print(b" by rule (22), 3 buffers each\n");
+        print(b" by rule (22), 3 buffers each; ");
+        self.print_kept();
+    }
+
+    fn print_kept(self) {
+        print_number(b"", sum(self.came, self.other));
+        print_number(b" bodies read: ", self.came);
+        print_number(b" written as they came, ", self.other);
+        print_number(b" not (a CR before an LF ", self.inner_cr);
+        print_number(b", a last LF ", self.last_lf);
+        print_number(b", lines after the BIC ", self.after_bic);
+        print_number(b", blanks ", self.blanks);
+        print(b")\n");
     }
 }
 
@@ -153,5 +207,6 @@ fn print_difference(difference: Difference) {
         Difference::Names => print(b": names\n"),
         Difference::Digits => print(b": digits\n"),
         Difference::Written => print(b": written\n"),
+        Difference::Kept => print(b": kept\n"),
     }
 }

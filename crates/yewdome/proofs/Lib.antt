@@ -4,9 +4,11 @@ pub mod Pages
 pub mod Looks
 pub mod Whole
 pub mod Theorems
+pub mod Causes
 pub mod Steps
 pub mod Walks
 pub mod WholePages
+pub mod KeptPage
 pub mod Demand3
 pub mod ProfileLines
 pub mod ProfileBic

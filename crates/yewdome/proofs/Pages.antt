@@ -20,10 +20,11 @@ use Rattle.page_reader.specs.Pages.{pageMost, ReadOutcome, aRecord, theEnd, aRe
 use Rattle.page_reader.proofs.Moves.{stays-or-moves, next-most, every-read}
 use Rattle.page_writer.specs.declared.Filed.{Filed as FiledAt}
 use Rattle.page_writer.specs.Beside.{Beside}
-use Rattle.page_writer.specs.Adding.{isCarried, writable, hasSpace, withLf, endLine, Call, putting, recordSpace, asked, recordReply, addReply, freeBeside, add, addIndex, close, toldFiled, toldCall}
-use Rattle.page_writer.proofs.Addings.{reply-space}
+use Rattle.page_writer.specs.Adding.{isCarried, writable, hasSpace, withLf, endLine, positionAfter, Call, putting, recordSpace, asked, recordReply, addReply, freeBeside, add, addIndex, close, toldFiled, toldCall}
+use Rattle.page_writer.proofs.Addings.{position≢refusal, reply-space}
+use Rattle.kept.specs.Fields.{causesBy}
 use Rattle.flat.specs.Flat.{unflatten}
-use Rattle.yewdome.specs.Interface.{Called, codeOf, lentReply, recordReply as lentRecordReply, readCode, readBytes, readInto, askedRead, pageRead, filedCode, filed, pageAdd, pageAddIndex}
+use Rattle.yewdome.specs.Interface.{Called, codeOf, lentReply, recordReply as lentRecordReply, readCode, readBytes, readInto, askedRead, pageRead, causedCode, pageKept, filedCode, filed, pageAdd, pageAddIndex}
 use Rattle.yewdome.specs.Code.{Named, Within}
 use Rattle.yewdome.proofs.LineBounds.{must-line, must-then, read-line}
 
@@ -44,6 +45,15 @@ add-within buffer at b s =
     (must-then (isCarried s) 23 0 last (omega arith) (omega arith)
     (must-then space 24 0 (must (freeBeside b) 31 0) (omega arith) (omega arith) (must-line (freeBeside b) 31 0 (omega arith) (omega arith)))))))
     (λ e. omega (arith, reply-space (length buffer) at (freeBeside b) s (then-second (must (writable buffer at) 21 0) _ e)))
+
+-- an accepted add is past the field and its LF
+pub add-position : (buffer : List ℕ) (at : ℕ) (b : Beside) (s : Said) {to : ℕ} → add buffer at b s .answer ≡ positionAfter to → to ≡ at + length (withLf (writtenField s))
+unfolding add
+add-position buffer at b s {to} e = go (addReply buffer at (freeBeside b) s) e
+  where
+    go : (r : Reply) → putting r buffer at (withLf (writtenField s)) .answer ≡ positionAfter to → to ≡ at + length (withLf (writtenField s))
+    go accepted q = cc
+    go (refused k n) q = absurd (position≢refusal (sym q))
 
 pub close-within : (buffer : List ℕ) (at : ℕ) → Within (close buffer at .answer)
 unfolding close
@@ -103,6 +113,13 @@ module _ (page : List ℕ) (at : ℕ) where
         let tells : (record { code = readCode o (r .next - at); bytes = readBytes o bytes }) ≡ readInto (toldRead r (readAt page at .body)) at bytes = rw q in
         let passed : readInto (readAt page at) at bytes ≡ pageRead page at bytes = rw p in
         tells ∙ (ap (λ (y : PageRead). readInto y at bytes) e ∙ passed)
+
+    -- the same with the causes
+    pub reads-kept : {x : OutcomeAt} → r .outcome ≡ x → let o = toldOutcome x (r .party) in causedCode o (r .next - at) (causesBy page at o) ≡ pageKept page at
+    reads-kept {x = x} q =
+        let o = toldOutcome x (r .party) in
+        let tells : causedCode o (r .next - at) (causesBy page at o) ≡ causedCode (toldOutcome (r .outcome) (r .party)) (r .next - at) (causesBy page at (toldOutcome (r .outcome) (r .party))) = rw q in
+        tells ∙ ap (λ (y : PageRead). causedCode (y .outcome) (y .next - at) (causesBy page at (y .outcome))) e
 
   -- 42
   pub short : (bytes : List ℕ) (t : Reply) {n : ℕ} → n ≡ codeOf t → (n ≡ 0 → ⊥) → (record { code = n * 4294967296; bytes = bytes }) ≡ readInto (askedRead t (readAt page at) at) at bytes

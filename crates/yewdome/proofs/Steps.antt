@@ -2,28 +2,32 @@
 use Prim.Native.Nat.{ℕ, _+_, _*_, _-_, _≤_, _<_}
 use mathlib.Core.Path.{_≡_, refl, sym, ap, _∙_, subst}
 use mathlib.Core.Bool.{Bool, true, false}
-use mathlib.Core.List.{List}
+use mathlib.Core.List.{List, _++_}
 use native.Mathlib.Omega.{arith}
 use borrow.Author.Tests.{le-leb}
-use lib.ListN.{length, getD}
+use lib.Dec.{eqb}
+use lib.ListN.{length, drop, getD}
 use Rattle.errors.specs.Refusals.{accepted}
 use Rattle.party.specs.declared.Party.{Party}
 use Rattle.party.specs.Party.{said}
-use Rattle.party.proofs.Options.{place-most}
+use Rattle.party.specs.Limits.{optionAt}
+use Rattle.party.proofs.Options.{placed, place-most}
+use Rattle.writer.specs.Writing.{writtenField}
 use Rattle.page_reader.specs.Pages.{ReadOutcome, aRecord, theEnd, aRefusal, PageRead, readAt}
 use Rattle.page_reader.proofs.Moves.{next-most}
 use Rattle.page_reader.specs.Reads.{readHere}
 use Rattle.page_writer.specs.Beside.{noIndex}
-use Rattle.page_writer.specs.Adding.{Filed, positionAfter, refusal, Call, add}
+use Rattle.page_writer.specs.Adding.{withLf, Filed, positionAfter, refusal, Call, add}
 use Rattle.page_writer.specs.Fold.{Step}
 use Rattle.page_writer.specs.WholePage.{OpenPage, lastGiven}
 use Rattle.page_writer.proofs.Addings.{index-none}
-use Rattle.flat.specs.Flat.{recordSize, flatten, stored, unflatten}
+use Rattle.kept.specs.Fields.{causesBy}
+use Rattle.flat.specs.Flat.{recordSize, bit, flatten, stored, unflatten}
 use Rattle.flat.proofs.Laws.{stored-whole}
 use Rattle.yewdome.specs.Filing.{openPage, filedAs}
-use Rattle.yewdome.specs.Interface.{Called, recordReply, readCode, readBytes, readInto, pageRead, filedCode, filed, pageAdd}
-use Rattle.yewdome.specs.Code.{Named, Within, outcomeBy, stepBy}
-use Rattle.yewdome.proofs.Pages.{add-within, adds, replyOf, page-line}
+use Rattle.yewdome.specs.Interface.{Called, recordReply, readCode, readBytes, readInto, pageRead, causesCode, causedNumber, filedCode, filed, pageAdd}
+use Rattle.yewdome.specs.Code.{Named, Within, answerBy, stepBy, WasFiled}
+use Rattle.yewdome.proofs.Pages.{add-within, add-position, adds, replyOf, page-line, onward-from}
 use Rattle.yewdome.proofs.Theorems.{page-loads}
 
 -- a record that was stored passes the tests of a lent one
@@ -51,7 +55,7 @@ module _ {page : List ℕ} {at n : ℕ} {into : List ℕ} (g : Given page at n i
 
   -- a step with its answer as a number
   abbrev numbered : Step OpenPage ReadOutcome → Step OpenPage ℕ
-  numbered c = record { state = c .state; answer = readCode (c .answer) moved }
+  numbered c = record { state = c .state; answer = answerBy files page (readHere page at) (c .answer) }
 
   given : (record { code = n; bytes = into }) ≡ readInto r at (g .bytes)
   given = g .call ∙ rw (le-leb recordSize (length (g .bytes)) (g .room))
@@ -60,22 +64,23 @@ module _ {page : List ℕ} {at n : ℕ} {into : List ℕ} (g : Given page at n i
   number : {x : ReadOutcome} → r .outcome ≡ x → n ≡ readCode x moved
   number q = ap (λ (c : Called). c .code) given ∙ ap (λ (x : ReadOutcome). readCode x moved) q
 
-  reads : _≡_ {A = Step OpenPage ℕ} (record { state = s; answer = n }) (numbered (record { state = s; answer = r .outcome }))
-  reads = ap {B = Step OpenPage ℕ} (λ (m : ℕ). record { state = s; answer = m }) (number refl)
+  -- a step that leaves the open page as it is
+  stays : {x : ReadOutcome} → r .outcome ≡ x → (c : Step OpenPage ℕ) → (record { state = s; answer = readCode x moved }) ≡ c → (record { state = s; answer = n }) ≡ c
+  stays q c e = ap {B = Step OpenPage ℕ} (λ (m : ℕ). record { state = s; answer = m }) (number q) ∙ e
 
   -- at the end or a refusal
-  pub none-given : 65536 ≤ n → (record { state = s; answer = n }) ≡ stepBy files s (readHere page at)
-  none-given l = reads ∙ ap numbered (go files (r .outcome) refl)
+  pub none-given : 65536 ≤ n → (record { state = s; answer = n }) ≡ stepBy files page s (readHere page at)
+  none-given l = go files (r .outcome) refl
     where
-      go : (b : Bool) (x : ReadOutcome) → r .outcome ≡ x → (record { state = s; answer = x }) ≡ outcomeBy b s x
+      go : (b : Bool) (x : ReadOutcome) → r .outcome ≡ x → (record { state = s; answer = n }) ≡ stepBy b page s (readHere page at)
       go true (aRecord p) q = absurd (omega (arith, l, number q, next-most page at))
-      go true theEnd q = refl
-      go true (aRefusal k m) q = refl
-      go false x q = refl
+      go true theEnd q = stays q _ (rw q)
+      go true (aRefusal k m) q = stays q _ (rw q)
+      go false x q = stays refl _ refl
 
   -- where nothing is filed
-  pub not-filed : files ≡ false → (record { state = s; answer = n }) ≡ stepBy files s (readHere page at)
-  not-filed f = reads ∙ ap (λ (b : Bool). numbered (outcomeBy b s (r .outcome))) (sym f)
+  pub not-filed : files ≡ false → (record { state = s; answer = n }) ≡ stepBy files page s (readHere page at)
+  not-filed f = stays refl (stepBy false page s (readHere page at)) refl ∙ ap (λ (b : Bool). stepBy b page s (readHere page at)) (sym f)
 
   -- a record, added
   module _ (t : files ≡ true) (l : n < 65536) (i : recordSize ≤ length into) {added : ℕ} {left : List ℕ} (a : (record { code = added; bytes = left }) ≡ pageAdd into now position noIndex) where
@@ -93,22 +98,25 @@ module _ {page : List ℕ} {at n : ℕ} {into : List ℕ} (g : Given page at n i
     abbrev c : Call
     c = add now position noIndex (said p)
 
+    -- the record in the bytes that were lent
+    stores : into ≡ stored p (g .bytes)
+    stores = ap (λ (x : Called). x .bytes) given ∙ ap (λ (x : ReadOutcome). readBytes x (g .bytes)) (is-record .1)
+
     filed-is : (record { code = added; bytes = left }) ≡ filed c
     filed-is =
-        let stores : into ≡ stored p (g .bytes) = ap (λ (x : Called). x .bytes) given ∙ ap (λ (x : ReadOutcome). readBytes x (g .bytes)) (is-record .1) in
         let loads : p ≡ unflatten into = sym (page-loads page at (g .bytes) p (g .room) (is-record .1)) ∙ ap (λ (x : Called). unflatten (x .bytes)) (sym (g .call)) in
         a ∙ sym (adds into now position noIndex (stored-passes p (g .bytes) (g .room) i stores) loads)
 
     -- the step, by what the add answered
     abbrev after : Filed → Step OpenPage ℕ
-    after f = record { state = openPage left (lastGiven f position); answer = readCode (filedAs f p) moved }
+    after f = record { state = openPage left (lastGiven f position); answer = causedNumber page (readHere page at) (filedAs f p) }
 
-    is-after : {f : Filed} → c .answer ≡ f → after f ≡ stepBy files s (readHere page at)
+    is-after : {f : Filed} → c .answer ≡ f → after f ≡ stepBy files page s (readHere page at)
     is-after q =
         let kept : left ≡ c .buffer = ap (λ (x : Called). x .bytes) filed-is in
-        let told : after (c .answer) ≡ numbered (outcomeBy true s (aRecord p)) =
-        λ j. record { state = record { buffer = kept j; position = lastGiven (c .answer) position; index = sym (index-none now position (said p)) j }; answer = readCode (filedAs (c .answer) p) moved } in
-        ap after (sym q) ∙ told ∙ (λ j. numbered (outcomeBy (sym t j) s (sym (is-record .1) j)))
+        let told : after (c .answer) ≡ stepBy true page s (record { at = at; gave = record { outcome = aRecord p; body = r .body; next = r .next } }) =
+        λ j. record { state = record { buffer = kept j; position = lastGiven (c .answer) position; index = sym (index-none now position (said p)) j }; answer = causedNumber page (readHere page at) (filedAs (c .answer) p) } in
+        ap after (sym q) ∙ told ∙ (λ j. stepBy (sym t j) page s (record { at = at; gave = record { outcome = sym (is-record .1) j; body = r .body; next = r .next } }))
 
     code : {f : Filed} → c .answer ≡ f → added ≡ filedCode f
     code q = ap (λ (x : Called). x .code) filed-is ∙ ap filedCode q
@@ -116,16 +124,45 @@ module _ {page : List ℕ} {at n : ℕ} {into : List ℕ} (g : Given page at n i
     within : {f : Filed} → c .answer ≡ f → Within f
     within q = subst Within q (add-within now position noIndex (said p))
 
-    pub was-filed : added < 65536 → (record { state = openPage left added; answer = n }) ≡ stepBy files s (readHere page at)
-    was-filed m = go (c .answer) refl
+    -- it was filed: how many bytes were written, and what the step answers
+    pub filed-as : added < 65536 → (position ≤ added) × WasFiled page at into n (added - position)
+    unfolding flatten
+    filed-as m = go (c .answer) refl
       where
-        go : (f : Filed) → c .answer ≡ f → (record { state = openPage left added; answer = n }) ≡ stepBy files s (readHere page at)
-        go (positionAfter to) q = (λ j. record { state = openPage left (code q j); answer = number (is-record .1) j }) ∙ is-after q
-        go (refusal k b) q = absurd (omega (arith, m, code q, within q .0))
+        first : (j : ℕ) → getD into j 0 ≡ getD (flatten p ++ drop recordSize (g .bytes)) j 0
+        first j = ap (λ (b : List ℕ). getD b j 0) (stores ∙ stored-whole p (g .bytes) (g .room))
 
-    pub was-refused : 65536 ≤ added → (record { state = openPage left position; answer = added * 4294967296 + n }) ≡ stepBy files s (readHere page at)
+        present-is : (b : Bool) → eqb (bit b) 1 ≡ b
+        present-is true = refl
+        present-is false = refl
+
+        go : (f : Filed) → c .answer ≡ f → (position ≤ added) × WasFiled page at into n (added - position)
+        go (positionAfter to) q =
+            let w : to ≡ position + length (withLf (writtenField (said p))) = add-position now position noIndex (said p) q in (
+              omega (arith, code q, w),
+              record {
+                party = p;
+                read = is-record .1;
+                room = i;
+                option = ap optionAt (first 0) ∙ placed (p .option);
+                present = ap (λ (b : ℕ). eqb b 1) (first 1) ∙ present-is (p .present);
+                moves = omega (arith, number (is-record .1), onward-from page at);
+                writes = omega (arith, code q, w);
+              },
+            )
+        go (refusal a b) q = absurd (omega (arith, m, code q, within q .0))
+
+    pub was-filed : added < 65536 → {k : ℕ} → k ≡ causesCode (causesBy page at (r .outcome)) → (record { state = openPage left added; answer = k * 131072 + n }) ≡ stepBy files page s (readHere page at)
+    was-filed m {k} e = go (c .answer) refl
+      where
+        go : (f : Filed) → c .answer ≡ f → (record { state = openPage left added; answer = k * 131072 + n }) ≡ stepBy files page s (readHere page at)
+        go (positionAfter to) q =
+            (λ j. record { state = openPage left (code q j); answer = (e ∙ ap (λ (x : ReadOutcome). causesCode (causesBy page at x)) (is-record .1)) j * 131072 + number (is-record .1) j }) ∙ is-after q
+        go (refusal a b) q = absurd (omega (arith, m, code q, within q .0))
+
+    pub was-refused : 65536 ≤ added → (record { state = openPage left position; answer = added * 4294967296 + n }) ≡ stepBy files page s (readHere page at)
     was-refused m = go (c .answer) refl
       where
-        go : (f : Filed) → c .answer ≡ f → (record { state = openPage left position; answer = added * 4294967296 + n }) ≡ stepBy files s (readHere page at)
+        go : (f : Filed) → c .answer ≡ f → (record { state = openPage left position; answer = added * 4294967296 + n }) ≡ stepBy files page s (readHere page at)
         go (positionAfter to) q = absurd (omega (arith, m, code q, within q))
         go (refusal k b) q = (λ j. record { state = openPage left position; answer = code q j * 4294967296 + number (is-record .1) j }) ∙ is-after q

@@ -19,13 +19,14 @@ use Rattle.page_writer.specs.Adding.{Filed, positionAfter, refusal, add}
 use Rattle.page_writer.specs.Fold.{Step, Run, run}
 use Rattle.page_writer.specs.WholePage.{OpenPage}
 use Rattle.page_writer.proofs.Fold.{run-length}
+use Rattle.kept.specs.Fields.{causesBy}
 use Rattle.yewdome.specs.declared.Stepped.{Stepped}
 use Rattle.yewdome.specs.declared.Walked.{Walked}
 use Rattle.yewdome.specs.Filing.{filedAs, openPage}
-use Rattle.yewdome.specs.Interface.{codeOf, readCode, pageClose, readNumber, listing, pageAnswers, fileNumbers, filing, pageFile}
-use Rattle.yewdome.specs.Code.{Named, Within, outcomeBy, stepBy, walkBy, toldStep, Walks}
+use Rattle.yewdome.specs.Interface.{codeOf, readCode, causesCode, pageClose, readNumber, listing, pageAnswers, fileNumbers, filing, pageFile}
+use Rattle.yewdome.specs.Code.{Named, Within, outcomeBy, answerBy, stepBy, walkBy, toldStep, Walks}
 use Rattle.yewdome.proofs.Pages.{add-within, replyOf, page-line, onward-from}
-use Rattle.yewdome.proofs.Theorems.{high, read-moved}
+use Rattle.yewdome.proofs.Theorems.{high, low, read-moved}
 
 -- ---- a step's answer
 -- its refusal has a number from 1 on
@@ -66,24 +67,61 @@ module _ (moved : ℕ) (h : moved ≤ pageMost) where
   code-on theEnd e = absurd (e (high 65536 1 moved (omega (arith, h))))
   code-on (aRefusal k l) e = refl
 
+-- so does a filed one's, and both tell the bytes moved past
+module _ (page : List ℕ) (at : ℕ) where
+  abbrev past : ℕ
+  past = readAt page at .next - at
+
+  past-few : past ≤ pageMost
+  past-few = omega (arith, next-most page at)
+
+  -- a record's, with its causes
+  caused-high : (k : ℕ) → (k * 131072 + past) / 65536 ≡ 2 * k
+  caused-high k =
+      let e : k * 131072 + past ≡ 2 * k * 65536 + past = omega arith in
+      ap (λ (m : ℕ). m / 65536) e ∙ high 65536 (2 * k) past (omega (arith, past-few))
+
+  caused-low : (k : ℕ) → (k * 131072 + past) % 65536 ≡ past
+  caused-low k =
+      let e : k * 131072 + past ≡ 2 * k * 65536 + past = omega arith in
+      ap (λ (m : ℕ). m % 65536) e ∙ low 65536 (2 * k) past (omega (arith, past-few))
+
+  answer-moved : (files : Bool) (x : ReadOutcome) → answerBy files page (readHere page at) x % 65536 ≡ past
+  answer-moved true (aRecord p) = caused-low (causesCode (causesBy page at (aRecord p)))
+  answer-moved true theEnd = read-moved theEnd past past-few
+  answer-moved true (aRefusal k n) = read-moved (aRefusal k n) past past-few
+  answer-moved false x = read-moved x past past-few
+
+  answer-end : (files : Bool) (x : ReadOutcome) → Named (replyOf x) → answerBy files page (readHere page at) x / 65536 ≡ 1 → isEnd x ≡ true
+  answer-end true (aRecord p) n e = let k = causesCode (causesBy page at (aRecord p)) in absurd (omega (arith, sym (caused-high k) ∙ e))
+  answer-end true theEnd n e = refl
+  answer-end true (aRefusal k l) n e = code-end past past-few (aRefusal k l) n e
+  answer-end false x n e = code-end past past-few x n e
+
+  answer-on : (files : Bool) (x : ReadOutcome) → (answerBy files page (readHere page at) x / 65536 ≡ 1 → ⊥) → isEnd x ≡ false
+  answer-on true (aRecord p) e = refl
+  answer-on true theEnd e = code-on past past-few theEnd e
+  answer-on true (aRefusal k l) e = refl
+  answer-on false x e = code-on past past-few x e
+
 -- ---- the run
 module _ (files : Bool) (page : List ℕ) where
   -- from a position on
   abbrev pub left : OpenPage → ℕ → Run OpenPage ℕ
-  left s at = run (stepBy files) s (rest page at)
+  left s at = run (stepBy files page) s (rest page at)
 
   -- the read at a position
   abbrev turn : OpenPage → ℕ → Step OpenPage ℕ
-  turn s at = stepBy files s (readHere page at)
+  turn s at = stepBy files page s (readHere page at)
 
   left-last : (s : OpenPage) (at : ℕ) → isLast (readAt page at) at ≡ true → left s at ≡ record { state = turn s at .state; answers = turn s at .answer ∷ [] }
   unfolding run
-  left-last s at e = ap (run (stepBy files) s) (rest-last page at e)
+  left-last s at e = ap (run (stepBy files page) s) (rest-last page at e)
 
   left-next : (s : OpenPage) (at : ℕ) → isLast (readAt page at) at ≡ false → let l = left (turn s at .state) (readAt page at .next) in
       left s at ≡ record { state = l .state; answers = turn s at .answer ∷ l .answers }
   unfolding run
-  left-next s at e = ap (run (stepBy files) s) (rest-next page at e)
+  left-next s at e = ap (run (stepBy files page) s) (rest-next page at e)
 
   module _ (buffer answers : List ℕ) where
     -- the loop's invariant: what is left ends as the whole run does, and the answers so far are stored
@@ -94,7 +132,7 @@ module _ (files : Bool) (page : List ℕ) where
 
     pub begins : Partly (openPage buffer 0) answers 0 0
     begins =
-        let e : left (openPage buffer 0) 0 ≡ walkBy files page buffer = ap (run (stepBy files) (openPage buffer 0)) (rest-start page) in
+        let e : left (openPage buffer 0) 0 ≡ walkBy files page buffer = ap (run (stepBy files page) (openPage buffer 0)) (rest-start page) in
         record {
           within = omega arith;
           state = ap (λ (r : Run OpenPage ℕ). r .state) e;
@@ -108,7 +146,7 @@ module _ (files : Bool) (page : List ℕ) where
       pub step : toldStep r now ≡ turn s at
 
     pub count-few : length (walkBy files page buffer .answers) ≤ suc pageMost
-    count-few = omega (arith, run-length (stepBy files) (openPage buffer 0) (reads page), reads-few page)
+    count-few = omega (arith, run-length (stepBy files page) (openPage buffer 0) (reads page), reads-few page)
 
 module _
     {files : Bool} {page buffer answers : List ℕ} {s : OpenPage} {numbers : List ℕ} {at count : ℕ} {r : Stepped} {now : List ℕ}
@@ -118,7 +156,7 @@ module _
     whole = walkBy files page buffer .answers
 
     fits : 0 + length whole ≤ length answers
-    fits = omega (arith, run-length (stepBy files) (openPage buffer 0) (reads page), reads-most page, t .room)
+    fits = omega (arith, run-length (stepBy files page) (openPage buffer 0) (reads page), reads-most page, t .room)
 
     -- what is stored so far is no more than a page has answers, and there is a number lent for the next
     pub few : count ≤ suc pageMost
@@ -129,7 +167,7 @@ module _
     pub there : count < length numbers
     there =
         let w = t .inv .stored in
-        omega (arith, space (w .done) (left files page s at .answers) (w .puts) (rw (w .left) fits), run-length (stepBy files) s (rest page at), rest-some page at)
+        omega (arith, space (w .done) (left files page s at .answers) (w .puts) (rw (w .left) fits), run-length (stepBy files page) s (rest page at), rest-some page at)
 
     pub same-numbers : length numbers ≡ length answers
     same-numbers = kept (t .inv .stored) fits
@@ -138,27 +176,21 @@ module _
     abbrev c : Step OpenPage ReadOutcome
     c = outcomeBy files s (readAt page at .outcome)
 
-    abbrev moved : ℕ
-    moved = readAt page at .next - at
-
-    number : r .answer ≡ readCode (c .answer) moved
+    number : r .answer ≡ answerBy files page (readHere page at) (c .answer)
     number = ap (λ (x : Step OpenPage ℕ). x .answer) (t .step)
 
-    moved-few : moved ≤ pageMost
-    moved-few = omega (arith, next-most page at)
-
     pub to-next : at + r .answer % 65536 ≡ readAt page at .next
-    to-next = omega (arith, ap (λ (n : ℕ). n % 65536) number ∙ read-moved (c .answer) moved moved-few, onward-from page at)
+    to-next = omega (arith, ap (λ (n : ℕ). n % 65536) number ∙ answer-moved page at files (c .answer), onward-from page at)
 
     end-by : {b : Bool} → isEnd (c .answer) ≡ b → isEnd (readAt page at .outcome) ≡ b
     end-by e = sym (ended-by files s (readAt page at .outcome)) ∙ e
 
     -- the last read, which is the end or stays, and any other
     pub at-end : r .answer / 65536 ≡ 1 → isLast (readAt page at) at ≡ true
-    at-end e = rw (end-by (code-end moved moved-few (c .answer) (named-by files s (readAt page at .outcome) (page-line page at)) (ap (λ (n : ℕ). n / 65536) (sym number) ∙ e)))
+    at-end e = rw (end-by (answer-end page at files (c .answer) (named-by files s (readAt page at .outcome) (page-line page at)) (ap (λ (n : ℕ). n / 65536) (sym number) ∙ e)))
 
     no-end : (r .answer / 65536 ≡ 1 → ⊥) → isEnd (readAt page at .outcome) ≡ false
-    no-end e = end-by (code-on moved moved-few (c .answer) (λ q. e (ap (λ (n : ℕ). n / 65536) number ∙ q)))
+    no-end e = end-by (answer-on page at files (c .answer) (λ q. e (ap (λ (n : ℕ). n / 65536) number ∙ q)))
 
     pub at-stay : (r .answer / 65536 ≡ 1 → ⊥) → r .answer % 65536 ≡ 0 → isLast (readAt page at) at ≡ true
     at-stay e f = rw (no-end e, eq-eqb (readAt page at .next) at (omega (arith, to-next, f)))
@@ -197,10 +229,10 @@ module _
         }
 
 -- ---- what the calls give
-read-numbers : (s : OpenPage) (rs : List Read) → run (stepBy false) s rs .answers ≡ map readNumber rs
+read-numbers : (page : List ℕ) (s : OpenPage) (rs : List Read) → run (stepBy false page) s rs .answers ≡ map readNumber rs
 unfolding run
-read-numbers s [] = refl
-read-numbers s (r ∷ rs) = ap (_∷_ (readNumber r)) (read-numbers s rs)
+read-numbers page s [] = refl
+read-numbers page s (r ∷ rs) = ap (_∷_ (readNumber r)) (read-numbers page s rs)
 
 module _ (page answers : List ℕ) where
   -- 43
@@ -222,7 +254,7 @@ module _ (page answers : List ℕ) where
     pub lists : Walks false page buffer answers r bytes numbers → (record { code = r .count; answers = numbers }) ≡ pageAnswers page answers
     lists w =
         let tells : (record { code = r .count; answers = numbers }) ≡ listing accepted (walkBy false page buffer .answers) answers = λ j. record { code = counted w j; answers = w .puts .bytes j } in
-        tells ∙ ap (λ (ns : List ℕ). listing accepted ns answers) (read-numbers (openPage buffer 0) (reads page)) ∙ rw (lt-ltb (length page) (length answers) room)
+        tells ∙ ap (λ (ns : List ℕ). listing accepted ns answers) (read-numbers page (openPage buffer 0) (reads page)) ∙ rw (lt-ltb (length page) (length answers) room)
 
     pub files-all : Walks true page buffer answers r bytes numbers → {last : List ℕ} {code : ℕ} → (record { code = code; bytes = last }) ≡ pageClose bytes (r .position)
         → (record { code = r .count * 4294967296 + code; bytes = last; answers = numbers }) ≡ pageFile page buffer answers

@@ -49,10 +49,10 @@ module _ (page into : List ℕ) (h : recordSize ≤ length into) where
   listed-reads = from-read (suc (length page)) 0
 
 -- a run of numbers leaves the open page that the run of answers leaves
-same-state : (s : OpenPage) (rs : List Read) → run numberStep s rs .state ≡ run fileStep s rs .state
+same-state : (page : List ℕ) (s : OpenPage) (rs : List Read) → run (numberStep page) s rs .state ≡ run fileStep s rs .state
 unfolding run
-same-state s [] = refl
-same-state s (r ∷ rs) = same-state (fileStep s r .state) rs
+same-state page s [] = refl
+same-state page s (r ∷ rs) = same-state page (fileStep s r .state) rs
 
 -- filing a page leaves what the adds and the closing of `whole-page` leave, for the records that its reads give
 module _ (page buffer answers : List ℕ) (room : length page < length answers) where
@@ -63,8 +63,8 @@ module _ (page buffer answers : List ℕ) (room : length page < length answers) 
       ≡ record { code = length (reads page) * 4294967296 + filedCode (c .answer); bytes = c .buffer; answers = put answers 0 (fileNumbers page buffer .answers) }
   filed-page =
       let w = fileNumbers page buffer in
-      let n : length (w .answers) ≡ length (reads page) = run-length numberStep (openPage buffer 0) (reads page) in
-      let d : close (w .state .buffer) (w .state .position) ≡ c = filed-closing page buffer (w .state) (same-state (openPage buffer 0) (reads page)) in
+      let n : length (w .answers) ≡ length (reads page) = run-length (numberStep page) (openPage buffer 0) (reads page) in
+      let d : close (w .state .buffer) (w .state .position) ≡ c = filed-closing page buffer (w .state) (same-state page (openPage buffer 0) (reads page)) in
       let told : filing accepted w buffer answers ≡ record { code = length (reads page) * 4294967296 + filedCode (c .answer); bytes = c .buffer; answers = put answers 0 (w .answers) } =
       λ i. record { code = n i * 4294967296 + filedCode (d i .answer); bytes = d i .buffer; answers = put answers 0 (w .answers) } in
       rw (lt-ltb (length page) (length answers) room) told
@@ -89,7 +89,7 @@ module _ (page buffer answers : List ℕ) (room : length page < length answers) 
   pub filed-within : 2 ≤ length buffer → let f = pageFile page buffer answers in (f .code / 4294967296 ≤ length (f .answers)) × (f .code % 4294967296 ≤ length (f .bytes))
   filed-within h =
       let w = fileNumbers page buffer in
-      let n = run-length numberStep (openPage buffer 0) (reads page) in
+      let n = run-length (numberStep page) (openPage buffer 0) (reads page) in
       let kept : length (pageFile page buffer answers .answers) ≡ length answers = ap (λ (f : Filing). length (f .answers)) filed-page ∙ put-length answers 0 (w .answers) (omega (arith, n, reads-most page, room)) in
       let closes = whole-page noIndex tt (recordsOf page) buffer .closes h in
       let to : filedCode (c .answer) ≡ adds noIndex (recordsOf page) buffer .state .position + 2 = ap filedCode closes in

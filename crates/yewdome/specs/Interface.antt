@@ -1,6 +1,6 @@
 -- What the functions for other languages answer, which document 01 leaves to us: a number, with the lent bytes as the call left them.
 use Prim.Native.Nat.{ℕ, _+_, _*_, _-_}
-use mathlib.Core.Bool.{Bool, true}
+use mathlib.Core.Bool.{Bool, true, false}
 use mathlib.Core.List.{List, [], _∷_, map}
 use lib.Dec.{leb, ltb}
 use lib.ListN.{length, getD}
@@ -17,12 +17,15 @@ use Rattle.profile.specs.Profile.{readProfiled, parseProfiled, parseWithVariant
 use Rattle.writer.specs.Writing.{put}
 use Rattle.writer.specs.Placing.{Measured, lengthIs, refusedWith, Placing, measure, place}
 use Rattle.page_reader.specs.Pages.{ReadOutcome, aRecord, theEnd, aRefusal, PageRead, bodiless, outcomeOf, readAt, bodyPlace}
-use Rattle.page_reader.specs.Reads.{Read, reads}
+use Rattle.page_reader.specs.Reads.{Read, readHere, reads}
 use Rattle.page_reader.specs.Index.{Looked, found, notFound, lookUp}
 use Rattle.page_writer.specs.Beside.{Beside}
 use Rattle.page_writer.specs.Adding.{Filed, positionAfter, refusal, Call, add, addIndex, close}
 use Rattle.page_writer.specs.Fold.{Step, Run, run}
 use Rattle.page_writer.specs.WholePage.{OpenPage}
+use Rattle.kept.specs.declared.Causes.{Causes}
+use Rattle.kept.specs.Kept.{Kept, keptRead, keptParse, keptParseWithVariant}
+use Rattle.kept.specs.Fields.{causesBy}
 use Rattle.flat.specs.Flat.{recordSize, stored, unflatten}
 use Rattle.yewdome.specs.Filing.{fileStep, openPage}
 
@@ -142,6 +145,47 @@ askedRead (refused k n) r at = bodiless (aRefusal k n) at
 abbrev pub pageRead : List ℕ → ℕ → List ℕ → Called
 pageRead page at bytes = readInto (askedRead (lentReply (length bytes) true) (readAt page at) at) at bytes
 
+-- ---- what is kept
+-- a cause's number, where it is told
+abbrev pub cause : Bool → ℕ → ℕ
+cause true n = n
+cause false n = 0
+
+-- the causes as a number, a bit for each
+abbrev pub causesCode : Causes → ℕ
+causesCode c = cause (c .«inner_cr») 1 + cause (c .«last_lf») 2 + cause (c .«after_bic») 4 + cause (c .blanks) 8 + cause (c .«closing_cr») 16
+
+-- what is told of a body by an option or choice that is known or not: 41, the reading's refusal, or the causes
+abbrev pub keptCode : Bool → Kept → ℕ
+keptCode known k = codeOr (must known 41 0 then k .reply) (causesCode (k .causes))
+
+-- `yewdome_kept_read`
+abbrev pub keptReadCode : ℕ → List ℕ → ℕ
+keptReadCode option body = keptCode (leb option 10) (keptRead (optionAt option) body)
+
+-- `yewdome_kept_parse`
+abbrev pub keptParseCode : ℕ → List ℕ → ℕ
+keptParseCode choice body = keptCode (leb choice 6) (keptParse (choiceAt choice) body)
+
+-- `yewdome_kept_parse_with_variant`
+abbrev pub keptVariantCode : ℕ → List ℕ → ℕ → ℕ
+keptVariantCode choice body letter = keptCode (leb choice 6) (keptParseWithVariant (choiceAt choice) body letter)
+
+-- a read of a page, or the filing of its record, as a number: a record has its field's causes × 131,072 beside the bytes moved past
+abbrev pub causedCode : ReadOutcome → ℕ → Causes → ℕ
+causedCode (aRecord p) moved c = causesCode c * 131072 + moved
+causedCode theEnd moved c = readCode theEnd moved
+causedCode (aRefusal k n) moved c = readCode (aRefusal k n) moved
+
+-- an answer to a read with these causes
+abbrev pub causedNumber : List ℕ → Read → ReadOutcome → ℕ
+causedNumber page r x = causedCode x (r .gave .next - r .at) (causesBy page (r .at) x)
+
+-- `yewdome_page_kept`
+abbrev pub pageKept : List ℕ → ℕ → ℕ
+pageKept page at = causedNumber page (readHere page at) (readAt page at .outcome)
+
+-- ---- an index
 -- a lookup, in these terms: the read at the field's position, or a refusal, which moves past no byte
 abbrev pub lookedInto : Looked → List ℕ → Called
 lookedInto (found r) bytes = readInto (r .gave) (r .at) bytes
@@ -213,15 +257,15 @@ listing (refused k n) numbers answers = record { code = codeOf (refused k n); an
 abbrev pub pageAnswers : List ℕ → List ℕ → Listing
 pageAnswers page answers = listing (answersReply page answers) (map readNumber (reads page)) answers
 
--- filing a read's record, as a step with its answer as a number
-abbrev pub numberStep : OpenPage → Read → Step OpenPage ℕ
-numberStep s r =
+-- filing a read's record, as a step with its answer as a number, which tells of a filed field by which causes it is other bytes than came
+abbrev pub numberStep : List ℕ → OpenPage → Read → Step OpenPage ℕ
+numberStep page s r =
     let c = fileStep s r in
-    record { state = c .state; answer = numberOf r (c .answer) }
+    record { state = c .state; answer = causedNumber page r (c .answer) }
 
 -- the reads of a page as a run of these, from an empty page in a buffer
 abbrev pub fileNumbers : List ℕ → List ℕ → Run OpenPage ℕ
-fileNumbers page buffer = run numberStep (openPage buffer 0) (reads page)
+fileNumbers page buffer = run (numberStep page) (openPage buffer 0) (reads page)
 
 -- what filing a page gives: its number, and the lent bytes and numbers after it
 pub record Filing : Type 0 where

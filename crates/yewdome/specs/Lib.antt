@@ -2,4 +2,5 @@ pub mod Filing
 pub mod Interface
 pub mod Demand3
 pub mod Profile
+pub mod KeptPage
 pub mod Code

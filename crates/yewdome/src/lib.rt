@@ -9,6 +9,9 @@ use errors::ParseError;
 use flat::RECORD_SIZE;
 use flat::load;
 use flat::store;
+use kept::Causes;
+use kept::Kept;
+use kept::field_causes;
 use page_reader::ReadOutcome;
 use page_reader::body_place;
 use page_reader::index::INDEX_SIZE;
@@ -26,17 +29,20 @@ use writer::Measured;
 use writer::measure;
 use writer::place;
 ghost use mathlib.Core.Path.{_≡_};
-ghost use Prim.Native.Nat.{_<_};
+ghost use Prim.Native.Nat.{_≤_, _<_};
 ghost use lib.ListN.{length};
 ghost use Rattle.errors.specs.Refusals.{toldError};
 ghost use Rattle.reader.specs.Reading.{toldAnswer};
 ghost use Rattle.writer.specs.Placing.{toldMeasured};
+ghost use Rattle.page_reader.specs.Pages.{readAt};
 ghost use Rattle.page_reader.specs.Reads.{readHere};
 ghost use Rattle.page_writer.specs.Beside.{noIndex, anIndex};
 ghost use Rattle.page_writer.specs.Adding.{toldFiled};
+ghost use Rattle.kept.specs.Kept.{toldKept};
+ghost use Rattle.kept.specs.Fields.{causesBy};
 ghost use Rattle.yewdome.specs.Filing.{openPage};
-ghost use Rattle.yewdome.specs.Interface.{codeOf, lentReply, recordReply, given, partyRead, choiceAt, partyParse, partyParseWithVariant, profileRead, profileParse, profileParseWithVariant, measuredCode, partyMeasure, partyPlace, pageRead, pageLookUp, pageBody, filedCode, pageAdd, pageAddIndex, pageClose, pageAnswers, pageFile};
-ghost use Rattle.yewdome.specs.Code.{Named, Measurable, Within, stepBy, toldStep, Walks};
+ghost use Rattle.yewdome.specs.Interface.{codeOf, lentReply, recordReply, given, partyRead, choiceAt, partyParse, partyParseWithVariant, profileRead, profileParse, profileParseWithVariant, measuredCode, partyMeasure, partyPlace, pageRead, cause as causeOf, causesCode, keptCode, keptReadCode, keptParseCode, keptVariantCode, pageKept, pageLookUp, pageBody, filedCode, pageAdd, pageAddIndex, pageClose, pageAnswers, pageFile};
+ghost use Rattle.yewdome.specs.Code.{Named, Measurable, Within, stepBy, WasFiled, toldStep, Walks};
 
 // The interface's own numbers, × 65,536: 41 no such option or choice, 42 a lent record of under 241 bytes, 43 too few numbers lent for
 // answers. Document 01 has none of them.
@@ -338,6 +344,103 @@ pub extern "C" fn yewdome_page_close(buf: &mut [u8], position: usize) -> u32
     filed(close(buf, position))
 }
 
+// A cause's number, where it is told.
+fn cause(told: bool, n: u32) -> u32
+    ensures { λ r. ⌜ r ≡ causeOf told n ⌝ }
+    ensures most { λ r. ⌜ r ≤ n ⌝ }
+{
+    if told { n } else { 0 }
+}
+
+// The causes as a number.
+fn causes_code(causes: Causes) -> u32
+    ensures { λ r. ⌜ r ≡ causesCode causes ⌝ }
+{
+    cause(causes.inner_cr, 1)
+        + cause(causes.last_lf, 2)
+        + cause(causes.after_bic, 4)
+        + cause(causes.blanks, 8)
+        + cause(causes.closing_cr, 16)
+}
+
+// What is told of a body, by an option or choice that is known or not.
+fn kept_code(known: bool, kept: Kept) -> u32
+    requires { ⌜ Named (toldKept kept .reply) ⌝ }
+    ensures { λ r. ⌜ r ≡ keptCode known (toldKept kept) ⌝ }
+{
+    if !known {
+        return NONE_SUCH;
+    }
+    let outcome = kept.outcome;
+    if let Outcome::Refused(e) = outcome {
+        return code(e);
+    }
+    let causes = kept.causes;
+    causes_code(causes)
+}
+
+// By which causes the written body of what an option reads is other bytes than the body, 0 where it is the very body; or the refusal.
+#[no_mangle]
+pub extern "C" fn yewdome_kept_read(option: u8, body: &[u8]) -> u32
+    ensures { λ r. ⌜ r ≡ keptReadCode option (now (body .entry)) ⌝ }
+{
+    kept_code(option <= 10, kept::read(option_at(option as usize), body))
+}
+
+// The same by a choice, which detects the option.
+#[no_mangle]
+pub extern "C" fn yewdome_kept_parse(choice: u8, body: &[u8]) -> u32
+    ensures { λ r. ⌜ r ≡ keptParseCode choice (now (body .entry)) ⌝ }
+{
+    kept_code(choice <= 6, kept::parse(choice_at(choice), body))
+}
+
+// The same by a choice and a letter, 0 for none.
+#[no_mangle]
+pub extern "C" fn yewdome_kept_parse_with_variant(choice: u8, body: &[u8], letter: u8) -> u32
+    ensures { λ r. ⌜ r ≡ keptVariantCode choice (now (body .entry)) letter ⌝ }
+{
+    kept_code(
+        choice <= 6,
+        kept::parse_with_variant(choice_at(choice), body, letter),
+    )
+}
+
+// What `yewdome_page_read` gives at a position, without storing a record, and where that is one the causes of its field × 131,072 beside it.
+#[no_mangle]
+pub extern "C" fn yewdome_page_kept(page: &[u8], at: usize) -> u64
+    ensures { λ r. ⌜ r ≡ pageKept (now (page .entry)) at ⌝ }
+{
+    let got = read_at(page, at);
+    let moved = (got.next - at) as u64;
+    let outcome = got.outcome;
+    match outcome {
+        ReadOutcome::Record => {
+            let party = got.party;
+            let option = party.option;
+            let causes = causes_code(field_causes(option, party.present, page, at));
+            (causes as u64) * 131072 + moved
+        }
+        ReadOutcome::End => 65536 + moved,
+        ReadOutcome::Refused(e) => (code(e) as u64) * 4294967296 + moved,
+    }
+}
+
+// The causes in a field that was read into bytes and filed, by the bytes that the read moved past and those that were written. Where more
+// follows the field and they are as many, nothing was left off.
+fn filed_causes(page: &[u8], at: usize, bytes: &[u8], moved: usize, written: usize) -> u32
+    requires { ⌜ WasFiled (now page) at (now bytes) moved written ⌝ }
+    ensures { λ r. ⌜ r ≡ causesCode (causesBy (now (page .entry)) at (readAt (now (page .entry)) at .outcome)) ⌝ }
+{
+    if at + moved < page.len() {
+        if moved == written {
+            return 0;
+        }
+    }
+    let option = option_at(bytes[0] as usize);
+    causes_code(field_causes(option, bytes[1] == 1, page, at))
+}
+
 // What a step of the loop over a page gives: its answer, and the position after it on the new page.
 struct Stepped {
     answer: u64,
@@ -346,7 +449,7 @@ struct Stepped {
 
 // Reads the page at a position and, where it files, adds the record that it gives to the page in the buffer.
 fn step(page: &[u8], at: usize, files: bool, buf: &mut [u8], position: usize) -> Stepped
-    ensures { λ r. ⌜ toldStep r (now (buf .exit)) ≡ stepBy files (openPage (now (buf .entry)) position) (readHere (now (page .entry)) at) ⌝ }
+    ensures { λ r. ⌜ toldStep r (now (buf .exit)) ≡ stepBy files (now (page .entry)) (openPage (now (buf .entry)) position) (readHere (now (page .entry)) at) ⌝ }
 {
     let mut record = [0; RECORD_SIZE];
     let answer = yewdome_page_read(page, at, &mut record);
@@ -356,9 +459,11 @@ fn step(page: &[u8], at: usize, files: bool, buf: &mut [u8], position: usize) ->
     if files {
         let added = yewdome_page_add(&record, buf, position);
         if added < 65536 {
+            let to = added as usize;
+            let causes = filed_causes(page, at, &record, answer as usize, to - position);
             return Stepped {
-                answer,
-                position: added as usize,
+                answer: (causes as u64) * 131072 + answer,
+                position: to,
             };
         }
         return Stepped {
@@ -415,7 +520,7 @@ pub extern "C" fn yewdome_page_answers(page: &[u8], answers: &mut [u64]) -> u32
 }
 
 // Files the records that a page's reads give on a new page in the buffer, and closes that. Stores the answers as `yewdome_page_answers` does, but
-// that of a record which is not filed is the refusal to add it. Gives how many there are × 4,294,967,296, and the new page's length, or
+// that of a record which is not filed is the refusal to add it, and that of one which is has the causes that `yewdome_page_kept` gives. Gives how many there are × 4,294,967,296, and the new page's length, or
 // the refusal to close it.
 #[no_mangle]
 pub extern "C" fn yewdome_page_file(page: &[u8], buf: &mut [u8], answers: &mut [u64]) -> u64

@@ -1,6 +1,7 @@
 //! Calls that no type makes, whole pages, and the header.
 
 use super::*;
+use crate::kept::{AFTER_BIC, BLANKS, CLOSING_CR, INNER_CR, LAST_LF};
 use crate::pages::{Entry, LONGEST_BODY, LONGEST_FIELD, MOST_ENTRIES};
 use crate::record::{FIRST_DIGIT, LENGTH};
 
@@ -9,8 +10,10 @@ const STALE_NUMBER: u64 = u64::from_be_bytes([STALE; 8]);
 const BODY: &[u8] = b"/12\nACME";
 const FIELD: &[u8] = b":50K:/12\nACME";
 const PAGE: &[u8] = b":50K:/12\nACME\n-\n";
+const OPTION_50A: u8 = 1;
 const OPTION_50F: u8 = 2;
 const OPTION_50K: u8 = 3;
+const INSTRUCTING_PARTY: u8 = 0;
 const AFK: u8 = 2;
 const OPTIONS: u8 = 11;
 const CHOICES: u8 = 7;
@@ -213,6 +216,41 @@ fn outside_the_profile_comes_last() {
     assert_eq!(out, [STALE; LENGTH]);
 }
 
+/// What the functions that tell causes give of a body: by 50K, and by a choice that reads it as 50K.
+fn kept(body: &[u8]) -> [u32; 3] {
+    [kept_read(OPTION_50K, body), kept_parse(AFK, body), kept_parse_with_variant(AFK, body, b'K')]
+}
+
+#[test]
+fn a_cause_is_a_bit() {
+    assert_eq!(kept(BODY), [0; 3]);
+    assert_eq!(kept(b"A\r\nB"), [INNER_CR.into(); 3]);
+    assert_eq!(kept(b"A\n"), [LAST_LF.into(); 3]);
+    assert_eq!(kept(b"A\r\nB\n"), [(INNER_CR | LAST_LF).into(); 3]);
+    assert_eq!(kept_read(OPTION_50A, b"ABCDEFGH\nX"), AFTER_BIC.into());
+    assert_eq!(kept_read(OPTION_50A, b"/12\r\nABCDEFGH\nX"), (INNER_CR | AFTER_BIC).into());
+    assert_eq!(kept_parse(INSTRUCTING_PARTY, b" A"), BLANKS.into());
+    assert_eq!(kept_parse_with_variant(INSTRUCTING_PARTY, b" A", 0), BLANKS.into());
+    assert_eq!(kept_parse_with_variant(INSTRUCTING_PARTY, b" A", b'L'), 0);
+}
+
+/// 41 and 14 come before what is refused of the body.
+#[test]
+fn where_causes_are_asked_the_refusals_are_those_of_the_readers() {
+    let long = [b'A'; LONGEST_BODY + 1];
+    for place in OPTIONS..=255 {
+        assert_eq!(kept_read(place, &long), 41 << 16);
+    }
+    for place in CHOICES..=255 {
+        assert_eq!(kept_parse(place, &long), 41 << 16);
+        assert_eq!(kept_parse_with_variant(place, &long, b'k'), 41 << 16);
+    }
+    assert_eq!(kept_parse_with_variant(AFK, &long, b'k'), 14 << 16);
+    assert_eq!(kept(&long), [12 << 16; 3]);
+    assert_eq!(kept(b"A\r\n\x80"), [13 << 16; 3]);
+    assert_eq!(kept(b"A\r\nC~"), [3 << 16 | 2, 11 << 16, 3 << 16 | 2]);
+}
+
 #[test]
 fn a_presence_that_is_neither_0_nor_1_is_22() {
     for presence in 2..=255 {
@@ -313,10 +351,15 @@ fn a_record_is_placed_in_just_the_space_that_it_measures() {
     }
 }
 
+/// A page of which each field but the first is filed as other bytes than came, and their causes.
+const CHANGED: &[u8] =
+    b":50L: A\n:50K:A\r\nB\n:50K:A\n\n:50A:ABCDEFGH\nX\n:50K:A\r\n:59:A\r\nB\r\n-\r\n";
+const CAUSES: [u8; 6] = [0, INNER_CR, LAST_LF, AFTER_BIC, CLOSING_CR, INNER_CR | CLOSING_CR];
+
 /// Pages with every kind of read, the longest among them and one that is too long.
 fn pages() -> Vec<Vec<u8>> {
     let mixed = b"junk\n:52A:X\n:59F:2/A\n:59F:/1\n1/A\n:50K:\n:50K:/\nA\n:50C:BNPAFRPP\n-\n:50:A";
-    let mut pages = [&b""[..], b":", b":\n:", b"-", b"-\n", b":50C:BNPAFRPP", PAGE, mixed]
+    let mut pages = [&b""[..], b":", b":\n:", b"-", b"-\n", b":50C:BNPAFRPP", PAGE, mixed, CHANGED]
         .map(<[u8]>::to_vec)
         .to_vec();
     pages.push(b":50K:A\n".repeat(LONGEST_PAGE / 7 + 1)[..LONGEST_PAGE].to_vec());
@@ -341,16 +384,18 @@ fn by_reads(page: &[u8]) -> Vec<(u64, [u8; LENGTH])> {
 
 /// The same where each record is added to a page in a buffer; and what closing that page gives.
 fn by_adds(page: &[u8], buffer: &mut [u8]) -> (Vec<u64>, u32) {
-    let (mut position, mut answers) = (0, Vec::new());
+    let (mut at, mut position, mut answers) = (0, 0, Vec::new());
     for (mut answer, record) in by_reads(page) {
-        if told(answer).0 == Outcome::Record {
+        let (outcome, moved) = told(answer);
+        if outcome == Outcome::Record {
             let added = page_add(&record, buffer, position);
             match accepted(added) {
-                Ok(next) => position = next,
+                Ok(next) => (position, answer) = (next, page_kept(page, at)),
                 Err(_) => answer |= u64::from(added) << 32,
             }
         }
         answers.push(answer);
+        at += moved;
     }
     (answers, page_close(buffer, position))
 }
@@ -372,6 +417,32 @@ fn a_whole_page_is_read_as_by_its_reads() {
             assert_eq!(answers, numbers(&due, count));
         }
     }
+}
+
+/// What is told of a read, but for the causes.
+fn without_causes(read: u64) -> u64 {
+    read & !(0x7fff << 17)
+}
+
+#[test]
+fn causes_stand_beside_what_a_read_gives() {
+    for page in pages() {
+        for at in (0..page.len().min(100)).chain([page.len(), page.len() + 1, usize::MAX]) {
+            let (read, kept) = (page_read(&page, at, &mut [STALE; LENGTH]), page_kept(&page, at));
+            assert_eq!(without_causes(kept), read);
+            assert!(told(read).0 == Outcome::Record || kept == read, "a record alone has causes");
+        }
+    }
+    assert_eq!(page_kept(b":50K:A\r\n-\n", 0), u64::from(CLOSING_CR) << 17 | 8);
+}
+
+#[test]
+fn the_causes_of_a_page_are_those_of_its_fields() {
+    let mut answers = numbers(&[], CHANGED.len() + 1);
+    let [count, _] = halves(page_file(CHANGED, &mut [STALE; LONGEST_PAGE], &mut answers));
+    let told: Vec<u64> = answers[..count as usize].iter().map(|answer| answer >> 17).collect();
+    let due = CAUSES.iter().chain(&[0]).map(|&causes| u64::from(causes));
+    assert_eq!(told, due.collect::<Vec<_>>(), "the end has none");
 }
 
 #[test]
@@ -445,12 +516,29 @@ fn enumerator(kind: ErrorKind) -> String {
     format!("{name} = {}", kind as u8)
 }
 
-#[test]
-fn the_header_has_the_kinds() {
-    let (_, rest) = HEADER.split_once("enum yewdome_refusal {").expect("the header has the enum");
+/// The lines of an enum of the header, without its comments.
+fn enumerators(name: &str) -> Vec<&'static str> {
+    let (_, rest) = HEADER.split_once(&format!("enum {name} {{")).expect("the header has the enum");
     let (inner, _) = rest.split_once("};").expect("the enum ends");
     let lines = inner.lines().map(|line| line.split([',', '/']).next().unwrap_or(line).trim());
-    let names: Vec<&str> = lines.filter(|line| !line.is_empty()).collect();
+    lines.filter(|line| !line.is_empty()).collect()
+}
+
+#[test]
+fn the_header_has_the_kinds() {
     let kinds: Vec<String> = (0..=255).filter_map(ErrorKind::of).map(enumerator).collect();
-    assert_eq!(names, kinds);
+    assert_eq!(enumerators("yewdome_refusal"), kinds);
+}
+
+#[test]
+fn the_header_has_the_causes() {
+    let causes = [
+        ("INNER_CR", INNER_CR),
+        ("LAST_LF", LAST_LF),
+        ("AFTER_BIC", AFTER_BIC),
+        ("BLANKS", BLANKS),
+        ("CLOSING_CR", CLOSING_CR),
+    ];
+    let due = causes.map(|(name, bit)| format!("YEWDOME_{name} = {bit}"));
+    assert_eq!(enumerators("yewdome_cause"), due);
 }

@@ -12,6 +12,8 @@ pub const GOOD: &[u8] = b":50C:BNPAFRPP\n:59:/12\nA\n-\n";
 /// A page of which a line is refused, and what is filed of it.
 pub const MIXED: &[u8] = b"junk\n:50C:BNPAFRPP\n-\n";
 pub const FILED: &[u8] = b":50C:BNPAFRPP\n-\n";
+/// A page of which the second and the third field are filed as other bytes than came.
+pub const CHANGED: &[u8] = b":50C:BNPAFRPP\n:50A:/12\r\nBNPAFRPP\nPARIS\n:50K:A\n\n-\n";
 
 /// A folder of one test.
 pub struct Room(PathBuf);

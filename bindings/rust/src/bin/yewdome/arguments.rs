@@ -8,7 +8,7 @@ use std::os::unix::ffi::OsStrExt;
 pub const VERSION: &str = concat!("yewdome ", env!("CARGO_PKG_VERSION"), "\n");
 
 const USAGE: &str = "\
-usage: yewdome file [-o FILE] [FILE]
+usage: yewdome file [--exact] [-o FILE] [FILE]
        yewdome read [FILE]
        yewdome check [FILE]
        yewdome --help
@@ -25,15 +25,19 @@ not given.
             body that is refused
   check     reads the same, and lists nothing
 
+  --exact   writes nothing unless every field of the page is filed, each as the very bytes that
+            came; a line before the first field is no field
   -o FILE   writes the new page to FILE, whole or not at all; what is there must be a regular
             file, and not the page that is read; '-' is standard output
   --        ends the options
 
-What is refused is said on standard error, with its page line, and so are the counts.
+What is refused, and what is filed as other bytes than came, is said on standard error, with its
+page line, and so are the counts.
 
 Status:
   0  nothing was refused, and the page was read to its last byte
-  1  something was refused, or bytes after the end line were not read
+  1  something was refused, bytes after the end line were not read, or --exact let nothing be
+     written
   2  no page could be read, the output was not written whole, or the usage was wrong
 ";
 
@@ -46,7 +50,7 @@ pub fn help() -> String {
 pub enum Task {
     Help,
     Version,
-    File { input: Option<OsString>, output: Option<OsString> },
+    File { input: Option<OsString>, output: Option<OsString>, exact: bool },
     Read(Option<OsString>),
     Check(Option<OsString>),
 }
@@ -61,28 +65,34 @@ fn task(mut arguments: impl Iterator<Item = OsString>) -> Result<Task, String> {
     match command.as_bytes() {
         b"--help" => Ok(Task::Help),
         b"--version" => Ok(Task::Version),
-        b"file" => of_files(arguments, true, |input, output| Task::File { input, output }),
-        b"read" => of_files(arguments, false, |input, _| Task::Read(input)),
-        b"check" => of_files(arguments, false, |input, _| Task::Check(input)),
+        b"file" => {
+            of_files(arguments, true, |input, output, exact| Task::File { input, output, exact })
+        }
+        b"read" => of_files(arguments, false, |input, _, _| Task::Read(input)),
+        b"check" => of_files(arguments, false, |input, _, _| Task::Check(input)),
         _ => Err(format!("no such command: {}", shown(&command))),
     }
 }
 
-/// The task of a command by its input and output, where `-o` is perhaps taken.
+/// The task of a command by its input, its output and whether `--exact` is given; only the one that
+/// files takes the last two.
 fn of_files(
     mut arguments: impl Iterator<Item = OsString>,
-    takes_output: bool,
-    task: impl FnOnce(Option<OsString>, Option<OsString>) -> Task,
+    files: bool,
+    task: impl FnOnce(Option<OsString>, Option<OsString>, bool) -> Task,
 ) -> Result<Task, String> {
-    let (mut input, mut output, mut options) = (None, None, true);
+    let (mut input, mut output, mut exact, mut options) = (None, None, None, true);
     while let Some(argument) = arguments.next() {
         match argument.as_bytes() {
             b"--" if options => options = false,
             b"--help" if options => return Ok(Task::Help),
             b"--version" if options => return Ok(Task::Version),
-            b"-o" if options && takes_output => {
+            b"-o" if options && files => {
                 let file = arguments.next().ok_or("-o is given no FILE")?;
                 once(&mut output, file, "-o is given twice")?;
+            }
+            b"--exact" if options && files => {
+                once(&mut exact, argument, "--exact is given twice")?;
             }
             [b'-', _, ..] if options => {
                 return Err(format!("no such option: {}", shown(&argument)));
@@ -91,7 +101,7 @@ fn of_files(
         }
     }
     let named = |file: Option<OsString>| file.filter(|it| it != "-");
-    Ok(task(named(input), named(output)))
+    Ok(task(named(input), named(output), exact.is_some()))
 }
 
 /// Keeps an argument in its place, where there is none yet.

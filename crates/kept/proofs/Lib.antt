@@ -1,0 +1,5 @@
+pub mod Laws
+pub mod Lines
+pub mod Trims
+pub mod Exact
+pub mod FieldExact

@@ -1,0 +1,34 @@
+-- The same of a field of a page, as it came (document 01, 'Pages (added)'; the CR before its closing LF, document 02, One).
+use Prim.Native.Nat.{ℕ, _+_}
+use mathlib.Core.Bool.{Bool, true, false}
+use mathlib.Core.List.{List}
+use lib.Dec.{eqb}
+use lib.ListN.{take, drop, getD}
+use Rattle.party.specs.declared.PartyOption.{PartyOption}
+use Rattle.page_reader.specs.Pages.{runs, ReadOutcome, aRecord, theEnd, aRefusal, readAt, bodyPlace}
+use Rattle.kept.specs.declared.Causes.{Causes}
+use Rattle.kept.specs.Kept.{causesOf, noCauses}
+
+-- the field at a position as it came: tag and body up to the LF that closes it, or to the page's length
+abbrev pub cameAt : List ℕ → ℕ → List ℕ
+cameAt page at = take (runs (drop at page)) (drop at page)
+
+-- a CR stands between the body and the LF that closes the field; where no LF closes it, nothing stands after the body
+abbrev pub isClosingCr : List ℕ → ℕ → Bool
+isClosingCr page at = eqb (getD page (bodyPlace page at .start + bodyPlace page at .len) 0) 13
+
+-- the causes in the field at a position, that an option read with or without an account or identifier; a page trims nothing
+abbrev pub fieldCauses : PartyOption → Bool → List ℕ → ℕ → Causes
+fieldCauses o present page at = causesOf o present (readAt page at .body) false (isClosingCr page at)
+
+-- by what a read there, or the filing of its record, answers: only a record has a field that may be kept
+abbrev pub causesBy : List ℕ → ℕ → ReadOutcome → Causes
+causesBy page at (aRecord p) = fieldCauses (p .option) (p .present) page at
+causesBy page at theEnd = noCauses
+causesBy page at (aRefusal k n) = noCauses
+
+-- it gives a record
+abbrev pub isRecord : ReadOutcome → Bool
+isRecord (aRecord p) = true
+isRecord theEnd = false
+isRecord (aRefusal k n) = false

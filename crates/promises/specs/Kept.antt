@@ -1,0 +1,192 @@
+-- The smallest input of each cause by which a field is filed as other bytes than came, and wrong programs that are ruled out, each by
+-- computation.
+use mathlib.Core.Path.{_≡_, refl}
+use mathlib.Core.Bool.{true, false}
+use mathlib.Core.List.{List, [], _∷_, _++_}
+use Prim.Native.Nat.{ℕ, _+_, _*_}
+use lib.ListN.{replicate}
+use Rattle.errors.specs.Refusals.{accepted, refused}
+use Rattle.party.specs.declared.PartyOption.the-variants.{Field50NoOption, Field50A, Field50K, Field50L, Field59A, Field59F}
+use Rattle.party.specs.Limits.{optionAt}
+use Rattle.party.specs.Text.{padded, textOf, four}
+use Rattle.party.specs.Party.{said}
+use Rattle.swift_utils.specs.Bytes.{bytes, letter, digit, alphanumeric, signs, legal}
+use Rattle.swift_utils.specs.Checks.{parseSwiftChars, parseAccount, bicLength, parseBic}
+use Rattle.field_utils.specs.Lines.{onto, upto, starts, lines, withoutCr}
+use Rattle.field_utils.specs.Trim.{white, trimmedStart, keep, trimmedEnd, trimmed}
+use Rattle.field_utils.specs.Identifier.{isNumbered, secondSlash, identifierReply, parsePartyIdentifier}
+use Rattle.field_utils.specs.Names.{parseLine, parseLines, parseNameAndAddress}
+use Rattle.field_utils.specs.Tags.{tagOf}
+use Rattle.reader.specs.Reading.{partyOf}
+use Rattle.reader.specs.Options.{accountHead, shortAccountHead, afterHead, read}
+use Rattle.choices.specs.declared.Choice.the-variants.{Field50InstructingParty, Field50OrderingCustomerAFK}
+use Rattle.choices.specs.Detection.{anyNumbered, firstLine, lastLine, bicLike, testLine}
+use Rattle.choices.specs.Choices.{triedText, firstThat, parse, pickOf, parseWithVariant, isPicked, readText}
+use Rattle.writer.specs.Writing.{nameLines, writtenLines, joined, writtenBody, writtenField, pieces}
+use Rattle.writer.specs.Given.{isLine, areNames, isGiven}
+use Rattle.writer.specs.ReadBack.{endsCr, lastEmpty}
+use Rattle.page_reader.specs.Pages.{lineAt, isEnd, endsPage, runs, begins, tagIn, readField, readCase, readAt, bodyPlace}
+use Rattle.page_reader.specs.Reads.{readsFrom, reads}
+use Rattle.page_writer.specs.Adding.{anyCr, anyBoundary, laterBoundary, isCarried, writable, asked, recordReply, addReply, add, addIndex, close}
+use Rattle.page_writer.specs.Fold.{run}
+use Rattle.kept.specs.declared.Causes.{Causes}
+use Rattle.kept.specs.Kept.{hasCrLf, endsLf, causesOf, noCauses, Kept, keptOf, keptRead, keptParse, keptParseWithVariant, isKept}
+use Rattle.kept.specs.Fields.{cameAt, fieldCauses}
+use Rattle.yewdome.specs.Interface.{keptReadCode, keptParseCode, keptVariantCode, pageKept, pageFile}
+use Rattle.yewdome.specs.KeptPage.{areKept, fromOpening, lastAt, partyLines}
+
+-- what is told of a body that is accepted
+abbrev told : Causes → Kept
+told c = record { reply = accepted; causes = c }
+
+-- one cause alone
+abbrev innerCr : Causes
+innerCr = record { «inner_cr» = true; «last_lf» = false; «after_bic» = false; blanks = false; «closing_cr» = false }
+
+abbrev lastLf : Causes
+lastLf = record { «inner_cr» = false; «last_lf» = true; «after_bic» = false; blanks = false; «closing_cr» = false }
+
+abbrev afterBic : Causes
+afterBic = record { «inner_cr» = false; «last_lf» = false; «after_bic» = true; blanks = false; «closing_cr» = false }
+
+abbrev blanksAlone : Causes
+blanksAlone = record { «inner_cr» = false; «last_lf» = false; «after_bic» = false; blanks = true; «closing_cr» = false }
+
+abbrev closingCr : Causes
+closingCr = record { «inner_cr» = false; «last_lf» = false; «after_bic» = false; blanks = false; «closing_cr» = true }
+
+-- the smallest input at which each cause stands alone, and what is written of it
+pub record KeptSmallest : Type 0 where
+  pub inner-cr : keptRead Field50NoOption (bytes "\r\nA") ≡ told innerCr
+  pub inner-cr-written : writtenBody (said (read Field50NoOption (bytes "\r\nA") .party)) ≡ bytes "\nA"
+  pub last-lf : keptRead Field50NoOption (bytes "\n") ≡ told lastLf
+  pub last-lf-written : writtenBody (said (read Field50NoOption (bytes "\n") .party)) ≡ []
+  pub after-bic : keptRead Field50A (bytes "ABCDEFGH\nX") ≡ told afterBic
+  pub after-bic-written : writtenBody (said (read Field50A (bytes "ABCDEFGH\nX") .party)) ≡ bytes "ABCDEFGH"
+  pub blanks : keptParse Field50InstructingParty (bytes " A") ≡ told blanksAlone
+  pub blanks-written : writtenBody (said (parse Field50InstructingParty (bytes " A") .party)) ≡ bytes "A"
+  pub closing-cr : pageKept (bytes ":50:A\r\n") 0 ≡ 16 * 131072 + 7
+  pub closing-cr-came : cameAt (bytes ":50:A\r\n") 0 ≡ bytes ":50:A\r"
+  -- all that can stand together
+  pub together : keptRead Field59A (bytes "/\r\nABCDEFGH\nX\n") ≡ told (record { «inner_cr» = true; «last_lf» = true; «after_bic» = true; blanks = false; «closing_cr» = false })
+  -- and none
+  pub none : isKept Field50K (bytes "/12\nACME\nBERLIN") ≡ true
+
+pub kept-smallest : KeptSmallest
+unfolding padded textOf said letter digit alphanumeric signs legal parseSwiftChars parseAccount bicLength parseBic upto onto starts lines white trimmedStart keep trimmedEnd trimmed isNumbered secondSlash identifierReply parsePartyIdentifier parseLine parseLines parseNameAndAddress four partyOf accountHead shortAccountHead afterHead read anyNumbered firstLine lastLine bicLike firstThat testLine nameLines writtenLines joined writtenBody withoutCr lineAt isEnd endsPage runs begins tagIn readField readCase readAt bodyPlace parse tagOf hasCrLf endsLf causesOf keptOf
+kept-smallest = record {
+  inner-cr = refl;
+  inner-cr-written = refl;
+  last-lf = refl;
+  last-lf-written = refl;
+  after-bic = refl;
+  after-bic-written = refl;
+  blanks = refl;
+  blanks-written = refl;
+  closing-cr = refl;
+  closing-cr-came = refl;
+  together = refl;
+  none = refl;
+}
+
+pub record KeptRuledOut : Type 0 where
+  -- what is tried: trims in every choice, or at the start alone
+  pub tried-text-trims-all : triedText Field50OrderingCustomerAFK (bytes " A ") ≡ bytes " A "
+  pub tried-text-trims-the-start : triedText Field50InstructingParty (bytes "\t A \n") ≡ bytes "A"
+  -- by a letter: trims though the letter picks, or does not where it detects
+  pub read-text-trims-a-pick : readText Field50InstructingParty (bytes " A") 76 ≡ bytes " A"
+  pub read-text-keeps : readText Field50InstructingParty (bytes " A") 75 ≡ bytes "A"
+  -- an option's: takes any CR for one that is dropped, any LF for a last one, or any second line for one after a BIC
+  pub read-takes-any-cr : keptRead Field50L (bytes "A\rB\r") ≡ told noCauses
+  pub read-takes-any-lf : keptRead Field50K (bytes "A\nB") ≡ told noCauses
+  pub read-takes-any-line : keptRead Field50A (bytes "/1\nABCDEFGH") ≡ told noCauses
+  -- or tells causes of a body that is refused
+  pub read-tells-of-a-refusal : keptRead Field59F (bytes "2/A\n") ≡ record { reply = refused 6 1; causes = noCauses }
+  -- a choice's: tells blanks where nothing is trimmed, or looks for them in what is left
+  pub parse-trims-all : keptParse Field50OrderingCustomerAFK (bytes " A") ≡ told noCauses
+  pub parse-looks-within : keptParse Field50InstructingParty (bytes "A B") ≡ told noCauses
+  -- by a letter: tells blanks though the letter picks, or none though it detects
+  pub variant-trims-a-pick : keptParseWithVariant Field50InstructingParty (bytes " A") 76 ≡ told noCauses
+  pub variant-detects : keptParseWithVariant Field50InstructingParty (bytes " A") 75 ≡ told blanksAlone
+  -- a page's field: takes a CR that no LF follows for one, or leaves the CR of CR LF out
+  pub field-takes-any-cr : fieldCauses Field50L true (bytes ":50L:A\r") 0 ≡ noCauses
+  pub field-leaves-the-cr : fieldCauses Field50K false (bytes ":50K:A\r\n-\n") 0 ≡ closingCr
+  -- for C, an option's: reads by the first option where there is none, or tells causes for a refusal
+  pub kept-read-takes-11 : keptReadCode 11 (bytes "A") ≡ 41 * 65536
+  pub kept-read-hides-6 : keptReadCode 10 (bytes "2/A\n") ≡ 6 * 65536 + 1
+  -- a choice's: counts the choices from 1, or gives 0 where no option accepts
+  pub kept-parse-counts-from-1 : keptParseCode 0 (bytes " A") ≡ 8
+  pub kept-parse-hides-11 : keptParseCode 4 [] ≡ 11 * 65536
+  -- by a letter: tests 14 before 41, or detects though the letter picks
+  pub kept-variant-tests-14-first : keptVariantCode 7 (bytes "A") 48 ≡ 41 * 65536
+  pub kept-variant-detects : keptVariantCode 0 (bytes " A") 76 ≡ 0
+  -- a page's field: gives the causes and not how far the read moved, or tells a CR of the end line
+  pub page-kept-drops-the-rest : pageKept (bytes ":50A:ABCDEFGH\nX\r\n-\n") 0 ≡ (4 + 16) * 131072 + 17
+  pub page-kept-tells-the-end : pageKept (bytes "-\r\n") 0 ≡ 65536 + 3
+  -- a filer that drops a line and does not say so
+  pub page-file-drops-a-line : pageFile (bytes ":50A:ABCDEFGH\nX\n-\n") (replicate 19 0) (replicate 19 7)
+      ≡ record { code = 2 * 4294967296 + 16; bytes = bytes ":50A:ABCDEFGH\n-\n" ++ replicate 3 0; answers = (4 * 131072 + 16) ∷ (65536 + 2) ∷ replicate 17 7 }
+  -- one that takes a line's last bytes for its CR: as many bytes are written as were read, since no LF closes the field
+  pub page-file-counts-alone : pageFile (bytes ":50K:A\r\nB") (replicate 20 0) (replicate 10 7) .answers ≡ (1 * 131072 + 9) ∷ (17 * 65536 * 4294967296) ∷ replicate 8 7
+  -- one that tells causes of a record that it does not file
+  pub page-file-tells-of-a-refusal : pageFile (bytes ":50:A\r\n-\n") (replicate 7 0) (replicate 10 7) .answers ≡ (24 * 65536 * 4294967296 + 7) ∷ (65536 + 2) ∷ replicate 8 7
+
+pub kept-ruled-out : KeptRuledOut
+unfolding padded textOf said letter digit alphanumeric signs legal parseSwiftChars parseAccount bicLength parseBic upto onto starts lines white trimmedStart keep trimmedEnd trimmed isNumbered secondSlash identifierReply parsePartyIdentifier parseLine parseLines parseNameAndAddress four partyOf accountHead shortAccountHead afterHead read anyNumbered firstLine lastLine bicLike firstThat pickOf testLine nameLines writtenLines joined writtenBody writtenField pieces isLine areNames isGiven endsCr lastEmpty withoutCr lineAt isEnd endsPage runs begins tagIn readField readCase readAt bodyPlace isCarried writable asked recordReply addReply add addIndex close parse parseWithVariant isPicked anyCr anyBoundary laterBoundary tagOf run readsFrom optionAt hasCrLf endsLf causesOf keptOf
+kept-ruled-out = record {
+  tried-text-trims-all = refl;
+  tried-text-trims-the-start = refl;
+  read-text-trims-a-pick = refl;
+  read-text-keeps = refl;
+  read-takes-any-cr = refl;
+  read-takes-any-lf = refl;
+  read-takes-any-line = refl;
+  read-tells-of-a-refusal = refl;
+  parse-trims-all = refl;
+  parse-looks-within = refl;
+  variant-trims-a-pick = refl;
+  variant-detects = refl;
+  field-takes-any-cr = refl;
+  field-leaves-the-cr = refl;
+  kept-read-takes-11 = refl;
+  kept-read-hides-6 = refl;
+  kept-parse-counts-from-1 = refl;
+  kept-parse-hides-11 = refl;
+  kept-variant-tests-14-first = refl;
+  kept-variant-detects = refl;
+  page-kept-drops-the-rest = refl;
+  page-kept-tells-the-end = refl;
+  page-file-drops-a-line = refl;
+  page-file-counts-alone = refl;
+  page-file-tells-of-a-refusal = refl;
+}
+
+-- a page whose fields are kept, with a line before its first opening, the end line `-}` and more after it
+abbrev delivered : List ℕ
+delivered = bytes "{4:\n:50K:A\nB\n:50L: C\n-}\nrest\n"
+
+-- `kept-page` speaks of pages that there are, and no less is asked of them than it needs
+pub record KeptPages : Type 0 where
+  pub kept : areKept delivered (fromOpening (reads delivered)) ≡ true
+  pub lines : partyLines delivered ≡ bytes ":50K:A\nB\n:50L: C\n"
+  pub filed : pageFile delivered (replicate 22 0) (replicate 31 7) .bytes ≡ bytes ":50K:A\nB\n:50L: C\n-\n" ++ replicate 3 0
+  -- the last LF: where the end line has none, a buffer as long as the page may be too short
+  pub no-last-lf : areKept (bytes ":50:A\n-") (fromOpening (reads (bytes ":50:A\n-"))) ≡ true
+  pub too-short : pageFile (bytes ":50:A\n-") (replicate 7 0) (replicate 8 7) .answers ≡ (24 * 65536 * 4294967296 + 6) ∷ (65536 + 1) ∷ replicate 6 7
+  -- every field: one with a cause among others, one that is refused, and one that no end line follows
+  pub one-cause : areKept (bytes ":50:A\n:50:B\r\n-\n") (fromOpening (reads (bytes ":50:A\n:50:B\r\n-\n"))) ≡ false
+  pub one-refused : areKept (bytes ":50:A\n:50C:B\n-\n") (fromOpening (reads (bytes ":50:A\n:50C:B\n-\n"))) ≡ false
+  pub no-end : areKept (bytes ":50:A\n") (fromOpening (reads (bytes ":50:A\n"))) ≡ false
+
+pub kept-pages : KeptPages
+unfolding padded textOf said letter digit alphanumeric signs legal parseSwiftChars parseAccount bicLength parseBic upto onto starts lines isNumbered parseLine parseLines parseNameAndAddress four partyOf accountHead afterHead read nameLines writtenLines joined writtenBody writtenField pieces isLine areNames isGiven endsCr lastEmpty withoutCr lineAt isEnd endsPage runs begins tagIn readField readCase readAt bodyPlace isCarried writable asked recordReply addReply add addIndex close anyCr anyBoundary laterBoundary tagOf run readsFrom hasCrLf endsLf causesOf areKept lastAt
+kept-pages = record {
+  kept = refl;
+  lines = refl;
+  filed = refl;
+  no-last-lf = refl;
+  too-short = refl;
+  one-cause = refl;
+  one-refused = refl;
+  no-end = refl;
+}

@@ -1,0 +1,94 @@
+-- The causes as a number, and when the lengths of a field, as it came and as it was written, show that there are none. Assumes nothing.
+use Prim.Native.Nat.{ℕ, _+_, _*_, _≤_, _<_}
+use mathlib.Core.Path.{_≡_, refl, sym, ap, _∙_}
+use mathlib.Core.Bool.{Bool, true, false, not, _||_, false≢true}
+use mathlib.Core.List.{List, [], _∷_}
+use native.Mathlib.Omega.{arith}
+use lib.Dec.{ltb, eqb}
+use lib.ListN.{length, drop, getD, length-append}
+use lib.Seq.{length-take-le}
+use Rattle.errors.specs.Refusals.{Reply, accepted, refused}
+use Rattle.party.specs.declared.PartyOption.{PartyOption}
+use Rattle.party.specs.declared.Party.{Party}
+use Rattle.party.specs.Limits.{optionAt}
+use Rattle.party.specs.Party.{said}
+use Rattle.reader.specs.Reading.{Reading}
+use Rattle.writer.specs.Writing.{writtenField}
+use Rattle.page_reader.specs.Pages.{runs, ReadOutcome, aRecord, readAt}
+use Rattle.page_reader.proofs.Cases.{runs-most}
+use Rattle.page_reader.proofs.Records.{record-gave}
+use Rattle.kept.specs.declared.Causes.{Causes}
+use Rattle.kept.specs.Kept.{causesOf, isNone, Kept, keeping, keptOf}
+use Rattle.kept.specs.Fields.{fieldCauses, causesBy}
+use Rattle.kept.proofs.FieldExact.{field-less}
+use Rattle.yewdome.specs.Interface.{codeOf, cause, causesCode, keptCode}
+use Rattle.yewdome.specs.Code.{Named, WasFiled}
+
+-- ---- the number
+cause-most : (t : Bool) (n : ℕ) → cause t n ≤ n
+cause-most true n = omega arith
+cause-most false n = omega arith
+
+pub causes-most : (c : Causes) → causesCode c ≤ 31
+causes-most c =
+    omega (arith, cause-most (c .«inner_cr») 1, cause-most (c .«last_lf») 2, cause-most (c .«after_bic») 4, cause-most (c .blanks) 8, cause-most (c .«closing_cr») 16)
+
+-- it is 0 where there is none
+pub none-code : (c : Causes) → isNone c ≡ true → causesCode c ≡ 0
+none-code c = go (c .«inner_cr») (c .«last_lf») (c .«after_bic») (c .blanks) (c .«closing_cr»)
+  where
+    go : (p q r s t : Bool) → not (p || q || r || s || t) ≡ true → cause p 1 + cause q 2 + cause r 4 + cause s 8 + cause t 16 ≡ 0
+    go true q r s t e = absurd (false≢true e)
+    go false true r s t e = absurd (false≢true e)
+    go false false true s t e = absurd (false≢true e)
+    go false false false true t e = absurd (false≢true e)
+    go false false false false true e = absurd (false≢true e)
+    go false false false false false e = refl
+
+-- what is told of a body: 41, a refusal, or the causes
+module _ (known : Bool) (k : Kept) where
+  pub unknown-code : known ≡ false → 41 * 65536 ≡ keptCode known k
+  unknown-code n = rw n
+
+  pub refused-code : {a n : ℕ} → known ≡ true → k .reply ≡ refused a n → codeOf (refused a n) ≡ keptCode known k
+  refused-code t e = rw (t, e)
+
+  pub accepted-code : known ≡ true → k .reply ≡ accepted → causesCode (k .causes) ≡ keptCode known k
+  accepted-code t e = rw (t, e)
+
+-- its reply is the reading's
+pub kept-named : (r : Reading) (text body : List ℕ) → Named (r .reply) → Named (keptOf r text body .reply)
+unfolding keptOf
+kept-named r text body = go (r .reply)
+  where
+    c : Causes
+    c = causesOf (r .party .option) (r .party .present) text (ltb (length text) (length body)) false
+
+    go : (t : Reply) → Named t → Named (keeping t c .reply)
+    go accepted h = h
+    go (refused k n) h = h
+
+-- ---- a field that was filed with as many bytes as the read moved past, where more follows it
+module _ (page : List ℕ) (at : ℕ) (bytes : List ℕ) (moved written : ℕ) (f : WasFiled page at bytes moved written) where
+  abbrev p : Party
+  p = f .party
+
+  abbrev s : List ℕ
+  s = drop at page
+
+  -- the read ends within the page
+  pub filed-within : at + moved ≤ length page
+  filed-within = omega (arith, f .moves, record-gave page at p (f .read) .next)
+
+  -- the causes are those of the record in the bytes
+  pub filed-told : {o : PartyOption} {b : Bool} → o ≡ optionAt (getD bytes 0 0) → b ≡ eqb (getD bytes 1 0) 1 → fieldCauses o b page at ≡ causesBy page at (readAt page at .outcome)
+  filed-told q r = (λ i. fieldCauses ((q ∙ f .option) i) ((r ∙ f .present) i) page at) ∙ ap (causesBy page at) (sym (f .read))
+
+  pub filed-none : at + moved < length page → moved ≡ written → 0 ≡ causesCode (causesBy page at (readAt page at .outcome))
+  filed-none h e = sym (ap (λ (x : ReadOutcome). causesCode (causesBy page at x)) (f .read) ∙ go (isNone (causesBy page at (aRecord p))) refl)
+    where
+      go : (t : Bool) → isNone (causesBy page at (aRecord p)) ≡ t → causesCode (causesBy page at (aRecord p)) ≡ 0
+      go true n = none-code (causesBy page at (aRecord p)) n
+      go false n =
+          let k = field-less page at p (f .read) n in
+          absurd (omega (arith, k, h, e, f .moves, f .writes, record-gave page at p (f .read) .next, length-append (writtenField (said p)) (10 ∷ []), length-take-le (runs s) s (runs-most s)))

@@ -1,0 +1,395 @@
+-- A page whose fields are kept is filed as its very bytes, and a step of filing tells whether its field is. Assumes nothing.
+use Prim.Native.Nat.{ℕ, zero, suc, _+_, _-_, _≤_, _<_, min}
+use mathlib.Core.Path.{_≡_, refl, sym, ap, _∙_, subst}
+use mathlib.Core.Bool.{Bool, true, false, not, _&&_, _||_, false≢true, true≢false}
+use mathlib.Core.List.{List, [], _∷_, _++_, map, append-assoc, append-nil}
+use native.Mathlib.Omega.{arith}
+use lib.Dec.{eqb}
+use lib.ListN.{length, take, drop, getD, length-append, length-drop, length-take}
+use lib.Seq.{drop-drop, length-take-le}
+use native.Mathlib.Nat.{zero-add, suc-add}
+use borrow.Author.Tests.{eqb-true, eqb-false, eq-eqb, ne-eqb, le-leb, lt-ltb}
+use Rattle.errors.specs.Refusals.{Reply, accepted, refused}
+use Rattle.party.specs.declared.PartyOption.{PartyOption}
+use Rattle.party.specs.declared.Party.{Party}
+use Rattle.party.specs.Decides.{Decides}
+use Rattle.party.specs.Party.{Said, said}
+use Rattle.field_utils.specs.Lines.{withoutCr}
+use Rattle.field_utils.proofs.Tests.{both-left, both-right, either-left}
+use Rattle.reader.specs.Options.{read}
+use Rattle.writer.specs.Writing.{joined, writtenBody, writtenField, put}
+use Rattle.writer.specs.Given.{Given}
+use Rattle.writer.proofs.Relined.{All}
+use Rattle.writer.proofs.Back.{accepted-is}
+use Rattle.writer.proofs.Theorems.{necessary}
+use Rattle.page_reader.specs.Pages.{pageMost, lessCr, runs, ReadOutcome, aRecord, theEnd, aRefusal, PageRead, readField, readAt}
+use Rattle.page_reader.specs.Reads.{Read, readHere, isEnd, isLast, readsFrom, reads}
+use Rattle.page_reader.proofs.Cases.{runs-most}
+use Rattle.page_reader.proofs.Runs.{Closed, runs-closed}
+use Rattle.page_reader.proofs.Moves.{fieldAt}
+use Rattle.page_reader.proofs.Records.{Gave, refusal≢record, end≢record, record-gave, end-gave, end-first}
+use Rattle.page_writer.specs.Adding.{anyBoundary, isCarried, withLf, endLine, Filed, positionAfter, refusal, putting, asked, recordReply, addReply, freeBeside, add}
+use Rattle.page_writer.specs.WholePage.{OpenPage, addStep, Model, modelBy, modelStep, kept, pageOf}
+use Rattle.page_writer.specs.Beside.{Beside, noIndex}
+use Rattle.page_writer.specs.Fold.{Step, run}
+use Rattle.page_writer.specs.Demand3.{adds, acceptedAdds, closing, WholePage}
+use Rattle.page_writer.proofs.Pieces.{upToBoundary, runs-cut}
+use Rattle.page_writer.proofs.Structure.{Lined, Sound, page-tail, ending, reads as sound-reads}
+use Rattle.page_writer.proofs.Records.{tagged-lined}
+use Rattle.page_writer.proofs.Alone.{cut-weight, alone-most, alone-exact}
+use Rattle.page_writer.proofs.Invariant.{Fit, fieldsOf}
+use Rattle.page_writer.proofs.Addings.{position≢refusal}
+use Rattle.page_writer.proofs.Theorems.{whole-page}
+use Rattle.kept.specs.declared.Causes.{Causes}
+use Rattle.kept.specs.Kept.{endsLf, isNone}
+use Rattle.kept.specs.Fields.{cameAt, causesBy, isRecord}
+use Rattle.kept.proofs.Laws.{ends-by}
+use Rattle.kept.proofs.Lines.{joined-weight}
+use Rattle.kept.proofs.FieldExact.{field-exact}
+use Rattle.yewdome.specs.Filing.{recordOf, recordsIn, recordsOf, filedAs, fileOutcome, fileStep}
+use Rattle.yewdome.specs.Interface.{cause, causesCode, causedNumber}
+use Rattle.yewdome.specs.KeptPage.{FiledExact, isKeptRead, areKept, isStray, fromOpening, firstAt, lastAt, between, partyLines, FiledAsCame, KeptPage}
+use Rattle.yewdome.proofs.Causes.{none-code}
+
+-- ---- a list of which more is taken than one in front has
+take-over : {A : Type 0} (xs ys : List A) (n : ℕ) → take (length xs + n) (xs ++ ys) ≡ xs ++ take n ys
+take-over [] ys n = ap (λ (k : ℕ). take k ys) (zero-add n)
+take-over (x ∷ xs) ys n = ap (λ (k : ℕ). take k (x ∷ (xs ++ ys))) (suc-add (length xs) n) ∙ ap (_∷_ x) (take-over xs ys n)
+
+-- ---- a record that a reader gave is one that a reader can give
+given-by : (o : PartyOption) (body : List ℕ) {p : Party} → read o body .reply ≡ accepted → read o body .party ≡ p → Given p
+unfolding said
+given-by o body {p} e q =
+    let option : p .option ≡ o = ap (λ (x : Party). x .option) (sym q) ∙ ap (λ (s : Said). s .option) (accepted-is o body e .says) in
+    record { body = body; accepts = ap (λ (k : PartyOption). read k body .reply) option ∙ e; same = ap (λ (k : PartyOption). said (read k body .party)) option ∙ ap said q }
+
+-- ---- a field that is kept, and closed by an LF
+module _ (page : List ℕ) (at : ℕ) (p : Party) (q : readAt page at .outcome ≡ aRecord p) (n : isNone (causesBy page at (aRecord p)) ≡ true) (c : at + runs (drop at page) < length page) where
+  abbrev s : List ℕ
+  s = drop at page
+
+  abbrev g : Gave page at p
+  g = record-gave page at p q
+
+  abbrev field : List ℕ
+  field = writtenField (said p)
+
+  abbrev rest : List ℕ
+  rest = drop (suc (runs s)) s
+
+  given : Given p
+  given = given-by (g .option) (g .body) (g .accepts) (g .party)
+
+  same : field ≡ cameAt page at
+  same = field-exact page at p q .yes n
+
+  closed : Closed s (runs s)
+  closed = runs-closed s (omega (arith, c, length-drop at page))
+
+  field-length : length field ≡ runs s
+  field-length = ap length same ∙ length-take-le (runs s) s (runs-most s)
+
+  splits : s ≡ field ++ 10 ∷ rest
+  splits = closed .splits ∙ ap (λ (l : List ℕ). l ++ 10 ∷ rest) (sym same)
+
+  lined : Lined field
+  unfolding writtenField said
+  lined = tagged-lined (p .option) (writtenBody (said p))
+
+  -- no line of it after the first is an opening or end line, or it would have run less far
+  bounded : anyBoundary (lined .later) ≡ false
+  bounded = go (anyBoundary (lined .later)) refl
+    where
+      go : (t : Bool) → anyBoundary (lined .later) ≡ t → t ≡ false
+      go false e = refl
+      go true e =
+          let ls = lined .later in
+          let ran : runs s ≡ length (joined (lined .first ∷ upToBoundary ls)) =
+          ap runs (splits ∙ ap (λ (l : List ℕ). l ++ 10 ∷ rest) (lined .joins)) ∙ runs-cut (lined .first) ls rest (lined .lines) (closed .follows) in
+          absurd (omega (arith, ran, field-length, ap length (lined .joins), cut-weight ls e, joined-weight (lined .first ∷ ls) (omega arith), joined-weight (lined .first ∷ upToBoundary ls) (omega arith)))
+
+  -- read by itself it is the field that was read on the page
+  text-is : withoutCr field ≡ fieldAt page at
+  text-is =
+      let m : runs s ≡ at + runs s - at = omega arith in
+      ap withoutCr same ∙ ap (λ (k : ℕ). withoutCr (take k s)) m ∙ ap (λ (t : Bool). lessCr t (take (at + runs s - at) s)) (sym (lt-ltb (at + runs s) (length page) c))
+
+  sound : Sound (kept p)
+  sound = record {
+    lined = lined;
+    bounded = bounded;
+    gives = λ next. (p, ap (λ (t : List ℕ). readField t next .outcome) text-is ∙ g .gives next, refl);
+  }
+
+  -- so a page carries its record
+  pub field-fit : Fit p
+  field-fit = record { given = necessary p given; carried = go (isCarried (said p)) refl }
+    where
+      go : (t : Bool) → isCarried (said p) ≡ t → isCarried (said p) ≡ true
+      go true e = e
+      go false e = absurd (alone-exact p given .no e (sound-reads (ending []) refl (kept p ∷ []) (alone-most p given) (sound, tt)))
+
+  pub next-is : readAt page at .next ≡ at + length (withLf field)
+  next-is = omega (arith, g .next, c, field-length, length-append field (10 ∷ []))
+
+  pub field-part : (last : ℕ) → readAt page at .next ≤ last → withLf field ++ take (last - readAt page at .next) (drop (readAt page at .next) page) ≡ take (last - at) s
+  field-part last h =
+      let m : length (withLf field) + (last - readAt page at .next) ≡ last - at = omega (arith, next-is, h) in
+      let d : rest ≡ drop (readAt page at .next) page = drop-drop (suc (runs s)) at page ∙ ap (λ (k : ℕ). drop k page) (let z : at + suc (runs s) ≡ readAt page at .next = omega (arith, next-is, field-length, length-append field (10 ∷ [])) in z) in
+      let w : s ≡ withLf field ++ drop (readAt page at .next) page = splits ∙ sym (append-assoc field (10 ∷ []) rest) ∙ ap (_++_ (withLf field)) d in
+      sym (take-over (withLf field) (drop (readAt page at .next) page) (last - readAt page at .next)) ∙ ap (take (length (withLf field) + (last - readAt page at .next))) (sym w) ∙ ap (λ (k : ℕ). take k s) m
+
+-- ---- the reads of a page from a position on, of which all but the last give records of kept fields, and the last the end
+record Came (page : List ℕ) (at : ℕ) (rs : List Read) : Type 0 where
+  fields : fieldsOf (recordsIn rs) ≡ take (lastAt rs - at) (drop at page)
+  fit : All Fit (recordsIn rs)
+  onward : at ≤ lastAt rs
+  ended : readAt page (lastAt rs) .outcome ≡ theEnd
+
+ended-is : (x : ReadOutcome) → isEnd x ≡ true → x ≡ theEnd
+ended-is (aRecord p) e = absurd (false≢true e)
+ended-is theEnd e = refl
+ended-is (aRefusal k n) e = absurd (false≢true e)
+
+came-last : (page : List ℕ) (at : ℕ) → isEnd (readAt page at .outcome) ≡ true → Came page at (readHere page at ∷ [])
+unfolding recordsIn lastAt pageOf
+came-last page at e =
+    let q = ended-is (readAt page at .outcome) e in
+    let none : recordsIn (readHere page at ∷ []) ≡ [] = ap (λ (x : ReadOutcome). recordOf x []) q in
+    record {
+      fields = ap fieldsOf none ∙ ap (λ (k : ℕ). take k (drop at page)) (let z : 0 ≡ at - at = omega arith in z);
+      fit = subst (All Fit) (sym none) tt;
+      onward = omega arith;
+      ended = q;
+    }
+
+came-next : (page : List ℕ) (at : ℕ) → isKeptRead page (readHere page at) ≡ true → (r : Read) (rs : List Read) → Came page (readAt page at .next) (r ∷ rs) → Came page at (readHere page at ∷ r ∷ rs)
+unfolding recordsIn lastAt pageOf
+came-next page at e r rs w = go (readAt page at .outcome) refl
+  where
+    last : ℕ
+    last = lastAt (r ∷ rs)
+
+    go : (x : ReadOutcome) → readAt page at .outcome ≡ x → Came page at (readHere page at ∷ r ∷ rs)
+    go (aRecord p) q =
+        let told : isNone (causesBy page at (aRecord p)) ≡ true = ap (λ (x : ReadOutcome). isNone (causesBy page at x)) (sym q) ∙ both-right (isRecord (readAt page at .outcome)) (isNone (causesBy page at (readAt page at .outcome))) e in
+        let c : at + runs (drop at page) < length page = omega (arith, w .onward, end-gave page last (w .ended) .within, record-gave page at p q .next) in
+        let some : recordsIn (readHere page at ∷ r ∷ rs) ≡ p ∷ recordsIn (r ∷ rs) = ap (λ (x : ReadOutcome). recordOf x (recordsIn (r ∷ rs))) q in
+        record {
+          fields = ap fieldsOf some ∙ ap (_++_ (withLf (writtenField (said p)))) (w .fields) ∙ field-part page at p q told c last (w .onward);
+          fit = subst (All Fit) (sym some) (field-fit page at p q told c, w .fit);
+          onward = omega (arith, w .onward, next-is page at p q told c);
+          ended = w .ended;
+        }
+    go theEnd q = absurd (false≢true (ap isRecord (sym q) ∙ both-left (isRecord (readAt page at .outcome)) (isNone (causesBy page at (readAt page at .outcome))) e))
+    go (aRefusal k n) q = absurd (false≢true (ap isRecord (sym q) ∙ both-left (isRecord (readAt page at .outcome)) (isNone (causesBy page at (readAt page at .outcome))) e))
+
+came : (n : ℕ) (page : List ℕ) (at : ℕ) → areKept page (readsFrom n page at) ≡ true → Came page at (readsFrom n page at)
+unfolding readsFrom areKept
+came zero page at e = absurd (false≢true e)
+came (suc n) page at e = go (isLast r at) refl (readsFrom n page (r .next)) refl (came n page (r .next)) e
+  where
+    r : PageRead
+    r = readAt page at
+
+    go : (l : Bool) → isLast r at ≡ l → (rs : List Read) → readsFrom n page (r .next) ≡ rs → (areKept page (readsFrom n page (r .next)) ≡ true → Came page (r .next) (readsFrom n page (r .next)))
+        → areKept page (readHere page at ∷ elim l as (λ x. List Read) [ true ↦ [] | false ↦ readsFrom n page (r .next) ]) ≡ true
+        → Came page at (readHere page at ∷ elim l as (λ x. List Read) [ true ↦ [] | false ↦ readsFrom n page (r .next) ])
+    go true l rs q ih k = came-last page at k
+    go false l [] q ih k =
+        absurd (true≢false (sym (ap (λ (x : List Read). areKept page (readHere page at ∷ x)) (sym q) ∙ k) ∙ either-left (isEnd (r .outcome)) (eqb (r .next) at) l))
+    go false l (x ∷ rs) q ih k =
+        let both : (isKeptRead page (readHere page at) && areKept page (x ∷ rs)) ≡ true = ap (λ (y : List Read). areKept page (readHere page at ∷ y)) (sym q) ∙ k in
+        let w : Came page (r .next) (x ∷ rs) = subst (Came page (r .next)) q (ih (ap (areKept page) q ∙ both-right (isKeptRead page (readHere page at)) (areKept page (x ∷ rs)) both)) in
+        subst (λ (y : List Read). Came page at (readHere page at ∷ y)) (sym q) (came-next page at (both-left (isKeptRead page (readHere page at)) (areKept page (x ∷ rs)) both) x rs w)
+
+-- ---- the adds of records that a page carries, with room for all of them, are all accepted
+module _ (len : ℕ) where
+  fit-accepted : (p : Party) (at : ℕ) → Fit p → at + length (withLf (writtenField (said p))) + 2 ≤ min len pageMost → recordReply len at true (said p) ≡ accepted
+  unfolding recordReply asked
+  fit-accepted p at f h = rw (f .given, f .carried, le-leb (at + length (withLf (writtenField (said p))) + 2) (min len pageMost) h)
+
+  model-all : (ps : List Party) (m : Model) → All Fit ps → m .position + length (fieldsOf ps) + 2 ≤ min len pageMost → let r = run (modelStep len false) m ps .state in (r .list ≡ m .list ++ ps) × (r .position ≡ m .position + length (fieldsOf ps))
+  unfolding run pageOf
+  model-all [] m f h = (sym (append-nil (m .list)), omega arith)
+  model-all (p ∷ ps) m f h =
+      let text = withLf (writtenField (said p)) in
+      let n = length-append text (fieldsOf ps) in
+      let next : Model = record { list = m .list ++ p ∷ []; position = m .position + length text } in
+      let step : modelStep len false m p .state ≡ next = ap (λ (r : Reply). modelBy r m p .state) (fit-accepted p (m .position) (f .0) (omega (arith, h, n))) in
+      let later = model-all ps next (f .1) (omega (arith, h, n)) in
+      let whole : run (modelStep len false) (modelStep len false m p .state) ps .state ≡ run (modelStep len false) next ps .state = ap (λ (x : Model). run (modelStep len false) x ps .state) step in (
+        ap (λ (x : Model). x .list) whole ∙ later .0 ∙ append-assoc (m .list) (p ∷ []) ps,
+        omega (arith, ap (λ (x : Model). x .position) whole, later .1, n),
+      )
+
+-- ---- the reads from the first opening on
+record Opened (page : List ℕ) : Type 0 where
+  at : ℕ
+  rs : List Read
+  are : fromOpening (reads page) ≡ rs
+  records : recordsOf page ≡ recordsIn rs
+  first : firstAt rs ≡ at
+  came-at : Came page at rs
+
+-- from a position on
+opened-from : (page : List ℕ) (n at : ℕ) → fromOpening (reads page) ≡ readsFrom n page at → recordsOf page ≡ recordsIn (readsFrom n page at) → areKept page (fromOpening (reads page)) ≡ true → Opened page
+unfolding readsFrom areKept
+opened-from page n at q r e =
+    let k : areKept page (readsFrom n page at) ≡ true = ap (areKept page) (sym q) ∙ e in
+    record { at = at; rs = readsFrom n page at; are = q; records = r; first = first n k; came-at = came n page at k }
+  where
+    first : (n : ℕ) → areKept page (readsFrom n page at) ≡ true → firstAt (readsFrom n page at) ≡ at
+    first zero k = absurd (false≢true k)
+    first (suc n) k = refl
+
+stray-none : (x : ReadOutcome) (later : List Party) → isStray x ≡ true → recordOf x later ≡ later
+stray-none (aRecord p) later e = absurd (false≢true e)
+stray-none theEnd later e = refl
+stray-none (aRefusal k n) later e = refl
+
+opened : (page : List ℕ) → areKept page (fromOpening (reads page)) ≡ true → Opened page
+unfolding readsFrom recordsIn areKept
+opened page e = go (isStray (readAt page 0 .outcome)) refl (isLast (readAt page 0) 0) refl
+  where
+    next : ℕ
+    next = readAt page 0 .next
+
+    -- the reads after the first
+    tail : Bool → List Read
+    tail l = elim l as (λ x. List Read) [ true ↦ [] | false ↦ readsFrom (length page) page next ]
+
+    by : {t l : Bool} → isStray (readAt page 0 .outcome) ≡ t → isLast (readAt page 0) 0 ≡ l → fromOpening (reads page) ≡ (elim t as (λ x. List Read) [ true ↦ tail l | false ↦ reads page ])
+    by {t} {l} s q = (λ i. elim (s i) as (λ x. List Read) [ true ↦ tail (q i) | false ↦ reads page ])
+
+    go : (t : Bool) → isStray (readAt page 0 .outcome) ≡ t → (l : Bool) → isLast (readAt page 0) 0 ≡ l → Opened page
+    go false s l q = opened-from page (suc (length page)) 0 (by s q) refl e
+    go true s true q = absurd (false≢true (ap (areKept page) (sym (by s q)) ∙ e))
+    go true s false q =
+        opened-from page (length page) next (by s q) (ap (λ (b : Bool). recordOf (readAt page 0 .outcome) (recordsIn (tail b))) q ∙ stray-none (readAt page 0 .outcome) (recordsIn (readsFrom (length page) page next)) s) e
+
+-- ---- the page
+module _ (page buffer : List ℕ) (k : areKept page (fromOpening (reads page)) ≡ true) (lf : endsLf page ≡ true) (room : length page ≤ length buffer) where
+  abbrev o : Opened page
+  o = opened page k
+
+  abbrev ps : List Party
+  ps = recordsOf page
+
+  abbrev last : ℕ
+  last = lastAt (o .rs)
+
+  -- an LF closes the end line, so that it has two bytes
+  two : last + 2 ≤ length page
+  two = go (eqb (suc last) (length page)) refl
+    where
+      go : (t : Bool) → eqb (suc last) (length page) ≡ t → last + 2 ≤ length page
+      go true e =
+          let n : length page - 1 ≡ last = let z = eqb-true (suc last) (length page) e in omega (arith, z) in
+          let b : eqb (getD page last 0) 10 ≡ true = ap (λ (m : ℕ). eqb (getD page m 0) 10) (sym n) ∙ sym (ends-by page (λ z. omega (arith, z, end-gave page last (o .came-at .ended) .within))) ∙ lf in
+          absurd (omega (arith, eqb-true (getD page last 0) 10 b, end-first page last (o .came-at .ended)))
+      go false e = let z = eqb-false (suc last) (length page) e in let w = end-gave page last (o .came-at .ended) .within in next w z
+        where
+          next : last < length page → (suc last ≡ length page → ⊥) → last + 2 ≤ length page
+          next w z = omega (arith, w, z)
+
+  part-is : partyLines page ≡ fieldsOf ps
+  part-is =
+      ap (between page) (o .are) ∙ ap (λ (f : ℕ). take (last - f) (drop f page)) (o .first) ∙ sym (o .came-at .fields) ∙ ap fieldsOf (sym (o .records))
+
+  all-fit : All Fit ps
+  all-fit = subst (All Fit) (sym (o .records)) (o .came-at .fit)
+
+  fields-length : length (fieldsOf ps) + 2 ≤ min (length buffer) pageMost
+  fields-length =
+      let m = end-gave page last (o .came-at .ended) .most in
+      omega (arith, two, room, m, ap length (ap fieldsOf (o .records) ∙ o .came-at .fields), length-take (last - o .at) (drop (o .at) page))
+
+  w : WholePage noIndex ps buffer
+  w = whole-page noIndex tt ps buffer
+
+  filed : (acceptedAdds noIndex ps buffer ≡ ps) × (adds noIndex ps buffer .state .position ≡ length (fieldsOf ps))
+  filed =
+      let m = model-all (length buffer) ps (record { list = []; position = 0 }) all-fit (omega (arith, fields-length)) in
+      (w .list ∙ m .0, w .position ∙ (m .1 ∙ zero-add (length (fieldsOf ps))))
+
+  answers : closing noIndex ps buffer .answer ≡ positionAfter (length (partyLines page) + 2)
+  answers = w .closes (omega (arith, fields-length)) ∙ ap (λ (n : ℕ). positionAfter (n + 2)) (filed .1 ∙ ap length (sym part-is))
+
+  as-came : FiledAsCame page buffer
+  as-came =
+      let c = w .closed answers in
+      record {
+        answer = answers;
+        bytes = c .bytes ∙ ap (λ (x : List Party). pageOf (map kept x) endLine) (filed .0) ∙ page-tail (map kept ps) endLine ∙ ap (λ (x : List ℕ). x ++ endLine) (sym part-is);
+        after = c .after;
+      }
+
+-- a page whose fields are kept is filed as its very bytes, from its first opening to its end line
+pub kept-page : (page buffer : List ℕ) → KeptPage page buffer
+kept-page page buffer = as-came page buffer
+
+-- ---- a step
+none-by : (c : Causes) → isNone c ≡ false → (causesCode c ≡ 0 → ⊥)
+none-by c = go (c .«inner_cr») (c .«last_lf») (c .«after_bic») (c .blanks) (c .«closing_cr»)
+  where
+    go : (p q r s t : Bool) → not (p || q || r || s || t) ≡ false → (cause p 1 + cause q 2 + cause r 4 + cause s 8 + cause t 16 ≡ 0 → ⊥)
+    go true q r s t e z = omega (arith, z)
+    go false true r s t e z = omega (arith, z)
+    go false false true s t e z = omega (arith, z)
+    go false false false true t e z = omega (arith, z)
+    go false false false false true e z = omega (arith, z)
+    go false false false false false e z = true≢false e
+
+-- the number of the causes is 0 exactly where there is none
+code-is : (c : Causes) → eqb (causesCode c) 0 ≡ isNone c
+code-is c = go (isNone c) refl
+  where
+    go : (t : Bool) → isNone c ≡ t → eqb (causesCode c) 0 ≡ isNone c
+    go true e = eq-eqb (causesCode c) 0 (none-code c e) ∙ sym e
+    go false e = ne-eqb (causesCode c) 0 (none-by c e) ∙ sym e
+
+-- what an accepted add puts
+add-puts : (buffer : List ℕ) (at : ℕ) (b : Beside) (s : Said) {n : ℕ} → add buffer at b s .answer ≡ positionAfter n → add buffer at b s .buffer ≡ put buffer at (withLf (writtenField s))
+unfolding add
+add-puts buffer at b s e = go (addReply buffer at (freeBeside b) s) e
+  where
+    go : (r : Reply) {n : ℕ} → putting r buffer at (withLf (writtenField s)) .answer ≡ positionAfter n → putting r buffer at (withLf (writtenField s)) .buffer ≡ put buffer at (withLf (writtenField s))
+    go accepted q = refl
+    go (refused k n) q = absurd (position≢refusal (sym q))
+
+module _ (page : List ℕ) (s : OpenPage) (at : ℕ) (p : Party) where
+  abbrev step : ReadOutcome → Step OpenPage ReadOutcome
+  step x = fileOutcome s x
+
+  -- the read gave the record, and the add took it
+  record Took : Type 0 where
+    reads : readAt page at .outcome ≡ aRecord p
+    puts : step (readAt page at .outcome) .state .buffer ≡ put (s .buffer) (s .position) (withLf (writtenField (said p)))
+
+  took : step (readAt page at .outcome) .answer ≡ aRecord p → Took
+  took e = go (readAt page at .outcome) refl e
+    where
+      added : (q : Party) → readAt page at .outcome ≡ aRecord q → (f : Filed) → addStep s q .answer ≡ f → filedAs f q ≡ aRecord p → Took
+      added q r (positionAfter n) a t =
+          let same : q ≡ p = cc in
+          record {
+            reads = r ∙ ap aRecord same;
+            puts = ap (λ (x : ReadOutcome). step x .state .buffer) r ∙ add-puts (s .buffer) (s .position) (s .index) (said q) a ∙ ap (λ (x : Party). put (s .buffer) (s .position) (withLf (writtenField (said x)))) same;
+          }
+      added q r (refusal k n) a t = absurd (refusal≢record t)
+
+      go : (x : ReadOutcome) → readAt page at .outcome ≡ x → step x .answer ≡ aRecord p → Took
+      go (aRecord q) r t = added q r (addStep s q .answer) refl t
+      go theEnd r t = absurd (end≢record t)
+      go (aRefusal k n) r t = absurd (refusal≢record t)
+
+  -- a step of filing tells by its answer whether the field that it puts on the new page is the field as it came
+  pub filed-exact : fileStep s (readHere page at) .answer ≡ aRecord p → FiledExact page s at p
+  filed-exact e =
+      let t = took e in
+      record {
+        puts = t .puts;
+        tells = ap (causedNumber page (readHere page at)) e;
+        exact = subst (λ (b : Bool). Decides b (writtenField (said p) ≡ cameAt page at)) (sym (code-is (causesBy page at (aRecord p)))) (field-exact page at p (t .reads));
+      }

@@ -1,0 +1,81 @@
+-- Filing says what it keeps, and a page whose fields are kept is filed as its very bytes. Document 01 has the read and the add ('Pages
+-- (added)'); that the archive has the line that went out is clause 9.2's. The theorems are `filed-exact` and `kept-page`,
+-- proofs/KeptPage.antt.
+use Prim.Native.Nat.{ℕ, _+_, _*_, _-_, _≤_}
+use mathlib.Core.Path.{_≡_}
+use mathlib.Core.Bool.{Bool, true, false, _&&_}
+use mathlib.Core.List.{List, [], _∷_, _++_}
+use lib.Dec.{eqb}
+use lib.ListN.{length, take, drop}
+use Rattle.party.specs.declared.Party.{Party}
+use Rattle.party.specs.Decides.{Decides}
+use Rattle.party.specs.Party.{said}
+use Rattle.writer.specs.Writing.{writtenField, put}
+use Rattle.page_reader.specs.Pages.{ReadOutcome, aRecord, theEnd, aRefusal, readAt}
+use Rattle.page_reader.specs.Reads.{Read, readHere, isEnd, reads}
+use Rattle.page_writer.specs.Beside.{noIndex}
+use Rattle.page_writer.specs.Adding.{withLf, endLine, positionAfter}
+use Rattle.page_writer.specs.WholePage.{OpenPage}
+use Rattle.page_writer.specs.Demand3.{closing}
+use Rattle.kept.specs.Kept.{endsLf, isNone}
+use Rattle.kept.specs.Fields.{cameAt, causesBy, isRecord}
+use Rattle.yewdome.specs.Filing.{recordsOf}
+use Rattle.yewdome.specs.Interface.{causesCode, numberStep}
+
+-- ---- a step
+-- a step of filing that files the record of the read at a position: the field that it puts on the new page is the field as it came exactly
+-- when the causes that its answer tells are 0
+pub record FiledExact (page : List ℕ) (s : OpenPage) (at : ℕ) (p : Party) : Type 0 where
+  pub puts : numberStep page s (readHere page at) .state .buffer ≡ put (s .buffer) (s .position) (withLf (writtenField (said p)))
+  pub tells : numberStep page s (readHere page at) .answer ≡ causesCode (causesBy page at (aRecord p)) * 131072 + (readAt page at .next - at)
+  pub exact : Decides (eqb (causesCode (causesBy page at (aRecord p))) 0) (writtenField (said p) ≡ cameAt page at)
+
+-- ---- a page
+-- a read gives the record of a field that is kept
+abbrev pub isKeptRead : List ℕ → Read → Bool
+isKeptRead page r = isRecord (r .gave .outcome) && isNone (causesBy page (r .at) (r .gave .outcome))
+
+-- every field is kept: all reads but the last give such a record, and the last gives the end
+unfoldable pub areKept : List ℕ → List Read → Bool
+areKept page [] = false
+areKept page (r ∷ []) = isEnd (r .gave .outcome)
+areKept page (r ∷ q ∷ rs) = isKeptRead page r && areKept page (q ∷ rs)
+
+-- a read of what stands before the first opening
+abbrev pub isStray : ReadOutcome → Bool
+isStray (aRecord p) = false
+isStray theEnd = false
+isStray (aRefusal k n) = eqb k 16
+
+-- the reads of a page from its first opening on
+abbrev pub fromOpening : List Read → List Read
+fromOpening [] = []
+fromOpening (r ∷ rs) = elim (isStray (r .gave .outcome)) [ true ↦ rs | false ↦ r ∷ rs ]
+
+-- where the first of reads is, and the last
+abbrev pub firstAt : List Read → ℕ
+firstAt [] = 0
+firstAt (r ∷ rs) = r .at
+
+unfoldable pub lastAt : List Read → ℕ
+lastAt [] = 0
+lastAt (r ∷ []) = r .at
+lastAt (r ∷ q ∷ rs) = lastAt (q ∷ rs)
+
+-- the bytes of a page from the first of reads to the last
+abbrev pub between : List ℕ → List Read → List ℕ
+between page rs = take (lastAt rs - firstAt rs) (drop (firstAt rs) page)
+
+-- the bytes of a page from its first opening to its end line
+abbrev pub partyLines : List ℕ → List ℕ
+partyLines page = between page (fromOpening (reads page))
+
+-- what filing the records that reading a page gives leaves: those very bytes, our end line, and after it the buffer as it was
+pub record FiledAsCame (page buffer : List ℕ) : Type 0 where
+  pub answer : closing noIndex (recordsOf page) buffer .answer ≡ positionAfter (length (partyLines page) + 2)
+  pub bytes : take (length (partyLines page) + 2) (closing noIndex (recordsOf page) buffer .buffer) ≡ partyLines page ++ endLine
+  pub after : drop (length (partyLines page) + 2) (closing noIndex (recordsOf page) buffer .buffer) ≡ drop (length (partyLines page) + 2) buffer
+
+-- where every field is kept, so that its lines end in LF alone, and the page ends in LF, in a buffer as long as the page
+abbrev pub KeptPage : List ℕ → List ℕ → Type 0
+KeptPage page buffer = areKept page (fromOpening (reads page)) ≡ true → endsLf page ≡ true → length page ≤ length buffer → FiledAsCame page buffer
