@@ -4,7 +4,6 @@ use choices::read_text;
 use choices::tried_text;
 use errors::Outcome;
 use field_utils::lines::count_lines;
-use page_reader::body_at;
 use page_reader::body_place;
 use party::PartyOption;
 use party::limits_of;
@@ -12,9 +11,10 @@ use reader::Answer;
 ghost use mathlib.Core.Path.{_≡_};
 ghost use mathlib.Core.Bool.{_&&_};
 ghost use lib.Dec.{eqb};
+ghost use lib.ListN.{getD};
 ghost use Rattle.reader.specs.Reading.{toldAnswer};
 ghost use Rattle.kept.specs.Kept.{hasCrLf, endsLf, bicLine, isAfterBic, causesOf, noCauses, keptOf, keptRead, keptParse, keptParseWithVariant, toldKept};
-ghost use Rattle.kept.specs.Fields.{isClosingCr, fieldCauses};
+ghost use Rattle.kept.specs.Fields.{fieldCauses};
 
 // By which causes the written field is other bytes than came; none where all are false.
 pub struct Causes {
@@ -162,27 +162,23 @@ pub fn parse_with_variant(choice: Choice, body: &[u8], letter: u8) -> Kept
     )
 }
 
-// Whether a CR stands between the body of the field at a position and the LF that closes it.
-fn is_closing_cr(page: &[u8], at: usize) -> bool
-    ensures { λ r. ⌜ r ≡ isClosingCr (now (page .entry)) at ⌝ }
+// Whether a CR stands at a place.
+fn is_cr_at(page: &[u8], at: usize) -> bool
+    ensures { λ r. ⌜ r ≡ eqb (getD (now (page .entry)) at 0) 13 ⌝ }
 {
-    let place = body_place(page, at);
-    let end = place.start + place.len;
-    if page.len() <= end {
+    if page.len() <= at {
         return false;
     }
-    page[end] == b'\r'
+    page[at] == b'\r'
 }
 
 // The causes in the field of a page at a position, that an option read with or without an account or identifier.
 pub fn field_causes(option: PartyOption, present: bool, page: &[u8], at: usize) -> Causes
     ensures { λ r. ⌜ r ≡ fieldCauses option present (now (page .entry)) at ⌝ }
 {
-    causes_of(
-        option,
-        present,
-        body_at(page, at),
-        false,
-        is_closing_cr(page, at),
-    )
+    let place = body_place(page, at);
+    let start = place.start;
+    let end = start + place.len;
+    let closing_cr = is_cr_at(page, end);
+    causes_of(option, present, &page[start..end], false, closing_cr)
 }

@@ -22,7 +22,7 @@ use Rattle.kept.specs.Kept.{causesOf, isNone, Kept, keeping, keptOf}
 use Rattle.kept.specs.Fields.{fieldCauses, causesBy}
 use Rattle.kept.proofs.FieldExact.{field-less}
 use Rattle.yewdome.specs.Interface.{codeOf, cause, causesCode, keptCode}
-use Rattle.yewdome.specs.Code.{Named, WasFiled}
+use Rattle.yewdome.specs.Code.{Named, WasRead, WasFiled}
 
 -- ---- the number
 cause-most : (t : Bool) (n : ℕ) → cause t n ≤ n
@@ -68,27 +68,28 @@ kept-named r text body = go (r .reply)
     go accepted h = h
     go (refused k n) h = h
 
+-- ---- the causes of the record in the bytes that it was read into
+pub read-told : (page : List ℕ) (at : ℕ) (bytes : List ℕ) → WasRead page at bytes → {o : PartyOption} {b : Bool} → o ≡ optionAt (getD bytes 0 0) → b ≡ eqb (getD bytes 1 0) 1
+    → fieldCauses o b page at ≡ causesBy page at (readAt page at .outcome)
+read-told page at bytes w q r = (λ i. fieldCauses ((q ∙ w .option) i) ((r ∙ w .present) i) page at) ∙ ap (causesBy page at) (sym (w .read))
+
 -- ---- a field that was filed with as many bytes as the read moved past, where more follows it
 module _ (page : List ℕ) (at : ℕ) (bytes : List ℕ) (moved written : ℕ) (f : WasFiled page at bytes moved written) where
   abbrev p : Party
-  p = f .party
+  p = f .was .party
 
   abbrev s : List ℕ
   s = drop at page
 
   -- the read ends within the page
   pub filed-within : at + moved ≤ length page
-  filed-within = omega (arith, f .moves, record-gave page at p (f .read) .next)
-
-  -- the causes are those of the record in the bytes
-  pub filed-told : {o : PartyOption} {b : Bool} → o ≡ optionAt (getD bytes 0 0) → b ≡ eqb (getD bytes 1 0) 1 → fieldCauses o b page at ≡ causesBy page at (readAt page at .outcome)
-  filed-told q r = (λ i. fieldCauses ((q ∙ f .option) i) ((r ∙ f .present) i) page at) ∙ ap (causesBy page at) (sym (f .read))
+  filed-within = omega (arith, f .moves, record-gave page at p (f .was .read) .next)
 
   pub filed-none : at + moved < length page → moved ≡ written → 0 ≡ causesCode (causesBy page at (readAt page at .outcome))
-  filed-none h e = sym (ap (λ (x : ReadOutcome). causesCode (causesBy page at x)) (f .read) ∙ go (isNone (causesBy page at (aRecord p))) refl)
+  filed-none h e = sym (ap (λ (x : ReadOutcome). causesCode (causesBy page at x)) (f .was .read) ∙ go (isNone (causesBy page at (aRecord p))) refl)
     where
       go : (t : Bool) → isNone (causesBy page at (aRecord p)) ≡ t → causesCode (causesBy page at (aRecord p)) ≡ 0
       go true n = none-code (causesBy page at (aRecord p)) n
       go false n =
-          let k = field-less page at p (f .read) n in
-          absurd (omega (arith, k, h, e, f .moves, f .writes, record-gave page at p (f .read) .next, length-append (writtenField (said p)) (10 ∷ []), length-take-le (runs s) s (runs-most s)))
+          let k = field-less page at p (f .was .read) n in
+          absurd (omega (arith, k, h, e, f .moves, f .writes, record-gave page at p (f .was .read) .next, length-append (writtenField (said p)) (10 ∷ []), length-take-le (runs s) s (runs-most s)))

@@ -22,9 +22,8 @@ use Rattle.page_writer.specs.declared.Filed.{Filed as FiledAt}
 use Rattle.page_writer.specs.Beside.{Beside}
 use Rattle.page_writer.specs.Adding.{isCarried, writable, hasSpace, withLf, endLine, positionAfter, Call, putting, recordSpace, asked, recordReply, addReply, freeBeside, add, addIndex, close, toldFiled, toldCall}
 use Rattle.page_writer.proofs.Addings.{position≢refusal, reply-space}
-use Rattle.kept.specs.Fields.{causesBy}
 use Rattle.flat.specs.Flat.{unflatten}
-use Rattle.yewdome.specs.Interface.{Called, codeOf, lentReply, recordReply as lentRecordReply, readCode, readBytes, readInto, askedRead, pageRead, causedCode, pageKept, filedCode, filed, pageAdd, pageAddIndex}
+use Rattle.yewdome.specs.Interface.{Called, codeOf, lentReply, recordReply as lentRecordReply, readCode, readBytes, readInto, askedRead, pageRead, filedCode, filed, pageAdd, pageAddIndex}
 use Rattle.yewdome.specs.Code.{Named, Within}
 use Rattle.yewdome.proofs.LineBounds.{must-line, must-then, read-line}
 
@@ -113,13 +112,6 @@ module _ (page : List ℕ) (at : ℕ) where
         let tells : (record { code = readCode o (r .next - at); bytes = readBytes o bytes }) ≡ readInto (toldRead r (readAt page at .body)) at bytes = rw q in
         let passed : readInto (readAt page at) at bytes ≡ pageRead page at bytes = rw p in
         tells ∙ (ap (λ (y : PageRead). readInto y at bytes) e ∙ passed)
-
-    -- the same with the causes
-    pub reads-kept : {x : OutcomeAt} → r .outcome ≡ x → let o = toldOutcome x (r .party) in causedCode o (r .next - at) (causesBy page at o) ≡ pageKept page at
-    reads-kept {x = x} q =
-        let o = toldOutcome x (r .party) in
-        let tells : causedCode o (r .next - at) (causesBy page at o) ≡ causedCode (toldOutcome (r .outcome) (r .party)) (r .next - at) (causesBy page at (toldOutcome (r .outcome) (r .party))) = rw q in
-        tells ∙ ap (λ (y : PageRead). causedCode (y .outcome) (y .next - at) (causesBy page at (y .outcome))) e
 
   -- 42
   pub short : (bytes : List ℕ) (t : Reply) {n : ℕ} → n ≡ codeOf t → (n ≡ 0 → ⊥) → (record { code = n * 4294967296; bytes = bytes }) ≡ readInto (askedRead t (readAt page at) at) at bytes

@@ -59,15 +59,19 @@ stepBy files page s r =
 abbrev pub walkBy : Bool → List ℕ → List ℕ → Run OpenPage ℕ
 walkBy files page buffer = run (stepBy files page) (openPage buffer 0) (reads page)
 
--- a record that was read into bytes and filed: the bytes that the read moved past, and those that were written
-pub record WasFiled (page : List ℕ) (at : ℕ) (bytes : List ℕ) (moved written : ℕ) : Type 0 where
+-- a record that was read into bytes
+pub record WasRead (page : List ℕ) (at : ℕ) (bytes : List ℕ) : Type 0 where
   pub party : Party
   pub read : readAt page at .outcome ≡ aRecord party
   pub room : recordSize ≤ length bytes
   pub option : optionAt (getD bytes 0 0) ≡ party .option
   pub present : eqb (getD bytes 1 0) 1 ≡ party .present
+
+-- and filed: the bytes that the read moved past, and those that were written
+pub record WasFiled (page : List ℕ) (at : ℕ) (bytes : List ℕ) (moved written : ℕ) : Type 0 where
+  pub was : WasRead page at bytes
   pub moves : readAt page at .next ≡ at + moved
-  pub writes : written ≡ length (withLf (writtenField (said party)))
+  pub writes : written ≡ length (withLf (writtenField (said (was .party))))
 
 -- a step of the code, with the buffer that it left
 abbrev pub toldStep : Stepped → List ℕ → Step OpenPage ℕ

@@ -42,7 +42,7 @@ ghost use Rattle.kept.specs.Kept.{toldKept};
 ghost use Rattle.kept.specs.Fields.{causesBy};
 ghost use Rattle.yewdome.specs.Filing.{openPage};
 ghost use Rattle.yewdome.specs.Interface.{codeOf, lentReply, recordReply, given, partyRead, choiceAt, partyParse, partyParseWithVariant, profileRead, profileParse, profileParseWithVariant, measuredCode, partyMeasure, partyPlace, pageRead, cause as causeOf, causesCode, keptCode, keptReadCode, keptParseCode, keptVariantCode, pageKept, pageLookUp, pageBody, filedCode, pageAdd, pageAddIndex, pageClose, pageAnswers, pageFile};
-ghost use Rattle.yewdome.specs.Code.{Named, Measurable, Within, stepBy, WasFiled, toldStep, Walks};
+ghost use Rattle.yewdome.specs.Code.{Named, Measurable, Within, stepBy, WasRead, WasFiled, toldStep, Walks};
 
 // The interface's own numbers, × 65,536: 41 no such option or choice, 42 a lent record of under 241 bytes, 43 too few numbers lent for
 // answers. Document 01 has none of them.
@@ -406,28 +406,30 @@ pub extern "C" fn yewdome_kept_parse_with_variant(choice: u8, body: &[u8], lette
     )
 }
 
-// What `yewdome_page_read` gives at a position, without storing a record, and where that is one the causes of its field × 131,072 beside it.
+// The causes in a field that was read into bytes.
+fn record_causes(page: &[u8], at: usize, bytes: &[u8]) -> u32
+    requires { ⌜ WasRead (now page) at (now bytes) ⌝ }
+    ensures { λ r. ⌜ r ≡ causesCode (causesBy (now (page .entry)) at (readAt (now (page .entry)) at .outcome)) ⌝ }
+{
+    let option = option_at(bytes[0] as usize);
+    causes_code(field_causes(option, bytes[1] == 1, page, at))
+}
+
+// What `yewdome_page_read` gives at a position and, where that is a record, which is stored nowhere, the causes of its field × 131,072.
 #[no_mangle]
 pub extern "C" fn yewdome_page_kept(page: &[u8], at: usize) -> u64
     ensures { λ r. ⌜ r ≡ pageKept (now (page .entry)) at ⌝ }
 {
-    let got = read_at(page, at);
-    let moved = (got.next - at) as u64;
-    let outcome = got.outcome;
-    match outcome {
-        ReadOutcome::Record => {
-            let party = got.party;
-            let option = party.option;
-            let causes = causes_code(field_causes(option, party.present, page, at));
-            (causes as u64) * 131072 + moved
-        }
-        ReadOutcome::End => 65536 + moved,
-        ReadOutcome::Refused(e) => (code(e) as u64) * 4294967296 + moved,
+    let mut record = [0; RECORD_SIZE];
+    let answer = yewdome_page_read(page, at, &mut record);
+    if 65536 <= answer {
+        return answer;
     }
+    (record_causes(page, at, &record) as u64) * 131072 + answer
 }
 
-// The causes in a field that was read into bytes and filed, by the bytes that the read moved past and those that were written. Where more
-// follows the field and they are as many, nothing was left off.
+// The causes in one that was filed besides, by the bytes that the read moved past and those that were written. Where more follows the field
+// and they are as many, nothing was left off.
 fn filed_causes(page: &[u8], at: usize, bytes: &[u8], moved: usize, written: usize) -> u32
     requires { ⌜ WasFiled (now page) at (now bytes) moved written ⌝ }
     ensures { λ r. ⌜ r ≡ causesCode (causesBy (now (page .entry)) at (readAt (now (page .entry)) at .outcome)) ⌝ }
@@ -437,8 +439,7 @@ fn filed_causes(page: &[u8], at: usize, bytes: &[u8], moved: usize, written: usi
             return 0;
         }
     }
-    let option = option_at(bytes[0] as usize);
-    causes_code(field_causes(option, bytes[1] == 1, page, at))
+    record_causes(page, at, bytes)
 }
 
 // What a step of the loop over a page gives: its answer, and the position after it on the new page.
