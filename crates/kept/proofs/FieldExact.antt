@@ -1,4 +1,4 @@
--- The written field of a page's record is the field as it came exactly when it has no cause. Assumes nothing.
+-- The written field of a page's record is the field as it came exactly when it is kept. Assumes nothing.
 use mathlib.Core.Path.{_≡_, refl, sym, _∙_, ap, subst}
 use mathlib.Core.Bool.{Bool, true, false, not, _&&_, and-true, false≢true, true≢false}
 use mathlib.Core.List.{List, [], _∷_, _++_, append-assoc}
@@ -19,13 +19,13 @@ use Rattle.writer.specs.ReadBack.{endsCr}
 use Rattle.writer.proofs.Relined.{cr-kept}
 use Rattle.writer.proofs.Back.{accepted-is}
 use Rattle.page_reader.specs.declared.BodyPlace.{BodyPlace}
-use Rattle.page_reader.specs.Pages.{lessCr, runs, aRecord, readAt}
+use Rattle.page_reader.specs.Pages.{lessCr, runs, ReadOutcome, aRecord, readAt}
 use Rattle.page_reader.proofs.Cases.{runs-most}
 use Rattle.page_reader.proofs.Runs.{runs-closed}
 use Rattle.page_reader.proofs.Moves.{fieldAt}
 use Rattle.page_reader.proofs.Records.{Gave, record-gave}
 use Rattle.kept.specs.Kept.{isAfterBic, causesOf, isNone}
-use Rattle.kept.specs.Fields.{cameAt, isClosingCr, causesBy}
+use Rattle.kept.specs.Fields.{cameAt, isClosingCr, causesBy, isRecord}
 use Rattle.kept.specs.Claims.{FieldExact}
 use Rattle.kept.proofs.Exact.{isPlain, Compared, option-reads, none-is, Left, decided, lesser}
 
@@ -141,7 +141,7 @@ module _ (page : List ℕ) (at : ℕ) (p : Party) (q : readAt page at .outcome �
   left : Left (fieldAt page at) (cameAt page at) (isClosingCr page at)
   left = subst (Left (fieldAt page at) (cameAt page at)) (sym closing) (field-left page at (g .within))
 
-  field-decided : Decides (isNone (causesBy page at (aRecord p))) (writtenField (said p) ≡ cameAt page at)
+  pub field-decided : Decides (isNone (causesBy page at (aRecord p))) (writtenField (said p) ≡ cameAt page at)
   field-decided =
       subst (λ (b : Bool). Decides b (writtenField (said p) ≡ cameAt page at)) (sym none-told)
       (decided (fieldAt page at) (writtenField (said p)) (cameAt page at) plain (isClosingCr page at) field-compared left)
@@ -150,6 +150,7 @@ module _ (page : List ℕ) (at : ℕ) (p : Party) (q : readAt page at .outcome �
   pub field-less : isNone (causesBy page at (aRecord p)) ≡ false → length (writtenField (said p)) < length (cameAt page at)
   field-less e = lesser (fieldAt page at) (writtenField (said p)) (cameAt page at) plain (isClosingCr page at) field-compared left (sym none-told ∙ e)
 
--- the written field is the field as it came exactly when it has no cause
+-- the written field is the field as it came exactly when it is kept
 pub field-exact : (page : List ℕ) (at : ℕ) → FieldExact page at
-field-exact page at p q = field-decided page at p q
+field-exact page at p q =
+    subst (λ (x : ReadOutcome). Decides (isRecord x && isNone (causesBy page at x)) (writtenField (said p) ≡ cameAt page at)) (sym q) (field-decided page at p q)

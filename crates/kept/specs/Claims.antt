@@ -14,8 +14,8 @@ use Rattle.choices.specs.declared.Choice.{Choice}
 use Rattle.choices.specs.Choices.{parse, parseWithVariant}
 use Rattle.writer.specs.Writing.{writtenBody, writtenField}
 use Rattle.page_reader.specs.Pages.{aRecord, readAt}
-use Rattle.kept.specs.Kept.{isNone, Kept, isKeptBy, keptRead, keptParse, keptParseWithVariant}
-use Rattle.kept.specs.Fields.{cameAt, causesBy}
+use Rattle.kept.specs.Kept.{Kept, isKeptBy, keptRead, keptParse, keptParseWithVariant}
+use Rattle.kept.specs.Fields.{cameAt, isKeptAt}
 
 -- a reading of a body, and what is told of it: where it accepts, the written body of its record is the body exactly when that is kept
 abbrev pub IsExact : List ℕ → Reading → Kept → Type 0
@@ -27,6 +27,6 @@ pub record KeptExact (body : List ℕ) : Type 0 where
   pub detected : (choice : Choice) → IsExact body (parse choice body) (keptParse choice body)
   pub by-letter : (choice : Choice) (letter : ℕ) → IsExact body (parseWithVariant choice body letter) (keptParseWithVariant choice body letter)
 
--- a field of a page, at a position where a read gives a record: the record's written field is the field as it came exactly when it has no cause
+-- a field of a page, at a position where a read gives a record: the record's written field is the field as it came exactly when it is kept
 abbrev pub FieldExact : List ℕ → ℕ → Type 0
-FieldExact page at = (p : Party) → readAt page at .outcome ≡ aRecord p → Decides (isNone (causesBy page at (aRecord p))) (writtenField (said p) ≡ cameAt page at)
+FieldExact page at = (p : Party) → readAt page at .outcome ≡ aRecord p → Decides (isKeptAt page at) (writtenField (said p) ≡ cameAt page at)

@@ -1,13 +1,13 @@
 -- The same of a field of a page, as it came (document 01, 'Pages (added)'; the CR before its closing LF, document 02, One).
 use Prim.Native.Nat.{ℕ, _+_}
-use mathlib.Core.Bool.{Bool, true, false}
+use mathlib.Core.Bool.{Bool, true, false, _&&_}
 use mathlib.Core.List.{List}
 use lib.Dec.{eqb}
 use lib.ListN.{take, drop, getD}
 use Rattle.party.specs.declared.PartyOption.{PartyOption}
 use Rattle.page_reader.specs.Pages.{runs, ReadOutcome, aRecord, theEnd, aRefusal, readAt, bodyPlace}
 use Rattle.kept.specs.declared.Causes.{Causes}
-use Rattle.kept.specs.Kept.{causesOf, noCauses}
+use Rattle.kept.specs.Kept.{causesOf, noCauses, isNone}
 
 -- the field at a position as it came: tag and body up to the LF that closes it, or to the page's length
 abbrev pub cameAt : List ℕ → ℕ → List ℕ
@@ -32,3 +32,7 @@ abbrev pub isRecord : ReadOutcome → Bool
 isRecord (aRecord p) = true
 isRecord theEnd = false
 isRecord (aRefusal k n) = false
+
+-- the field at a position is kept: a read there gives a record, and there is no cause
+abbrev pub isKeptAt : List ℕ → ℕ → Bool
+isKeptAt page at = isRecord (readAt page at .outcome) && isNone (causesBy page at (readAt page at .outcome))

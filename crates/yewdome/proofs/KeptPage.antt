@@ -42,13 +42,13 @@ use Rattle.page_writer.proofs.Addings.{position≢refusal}
 use Rattle.page_writer.proofs.Theorems.{whole-page}
 use Rattle.kept.specs.declared.Causes.{Causes}
 use Rattle.kept.specs.Kept.{endsLf, isNone}
-use Rattle.kept.specs.Fields.{cameAt, causesBy, isRecord}
+use Rattle.kept.specs.Fields.{cameAt, causesBy, isRecord, isKeptAt}
 use Rattle.kept.proofs.Laws.{ends-by}
 use Rattle.kept.proofs.Lines.{joined-weight}
-use Rattle.kept.proofs.FieldExact.{field-exact}
+use Rattle.kept.proofs.FieldExact.{field-decided}
 use Rattle.yewdome.specs.Filing.{recordOf, recordsIn, recordsOf, filedAs, fileOutcome, fileStep}
 use Rattle.yewdome.specs.Interface.{cause, causesCode, causedNumber}
-use Rattle.yewdome.specs.KeptPage.{FiledExact, isKeptRead, areKept, isStray, fromOpening, firstAt, lastAt, between, partyLines, FiledAsCame, KeptPage}
+use Rattle.yewdome.specs.KeptPage.{FiledExact, areKept, isStray, fromOpening, firstAt, lastAt, between, partyLines, FiledAsCame, KeptPage}
 use Rattle.yewdome.proofs.Causes.{none-code}
 
 -- ---- a list of which more is taken than one in front has
@@ -81,7 +81,7 @@ module _ (page : List ℕ) (at : ℕ) (p : Party) (q : readAt page at .outcome �
   given = given-by (g .option) (g .body) (g .accepts) (g .party)
 
   same : field ≡ cameAt page at
-  same = field-exact page at p q .yes n
+  same = field-decided page at p q .yes n
 
   closed : Closed s (runs s)
   closed = runs-closed s (omega (arith, c, length-drop at page))
@@ -163,7 +163,7 @@ came-last page at e =
       ended = q;
     }
 
-came-next : (page : List ℕ) (at : ℕ) → isKeptRead page (readHere page at) ≡ true → (r : Read) (rs : List Read) → Came page (readAt page at .next) (r ∷ rs) → Came page at (readHere page at ∷ r ∷ rs)
+came-next : (page : List ℕ) (at : ℕ) → isKeptAt page at ≡ true → (r : Read) (rs : List Read) → Came page (readAt page at .next) (r ∷ rs) → Came page at (readHere page at ∷ r ∷ rs)
 unfolding recordsIn lastAt pageOf
 came-next page at e r rs w = go (readAt page at .outcome) refl
   where
@@ -199,9 +199,9 @@ came (suc n) page at e = go (isLast r at) refl (readsFrom n page (r .next)) refl
     go false l [] q ih k =
         absurd (true≢false (sym (ap (λ (x : List Read). areKept page (readHere page at ∷ x)) (sym q) ∙ k) ∙ either-left (isEnd (r .outcome)) (eqb (r .next) at) l))
     go false l (x ∷ rs) q ih k =
-        let both : (isKeptRead page (readHere page at) && areKept page (x ∷ rs)) ≡ true = ap (λ (y : List Read). areKept page (readHere page at ∷ y)) (sym q) ∙ k in
-        let w : Came page (r .next) (x ∷ rs) = subst (Came page (r .next)) q (ih (ap (areKept page) q ∙ both-right (isKeptRead page (readHere page at)) (areKept page (x ∷ rs)) both)) in
-        subst (λ (y : List Read). Came page at (readHere page at ∷ y)) (sym q) (came-next page at (both-left (isKeptRead page (readHere page at)) (areKept page (x ∷ rs)) both) x rs w)
+        let both : (isKeptAt page at && areKept page (x ∷ rs)) ≡ true = ap (λ (y : List Read). areKept page (readHere page at ∷ y)) (sym q) ∙ k in
+        let w : Came page (r .next) (x ∷ rs) = subst (Came page (r .next)) q (ih (ap (areKept page) q ∙ both-right (isKeptAt page at) (areKept page (x ∷ rs)) both)) in
+        subst (λ (y : List Read). Came page at (readHere page at ∷ y)) (sym q) (came-next page at (both-left (isKeptAt page at) (areKept page (x ∷ rs)) both) x rs w)
 
 -- ---- the adds of records that a page carries, with room for all of them, are all accepted
 module _ (len : ℕ) where
@@ -391,5 +391,5 @@ module _ (page : List ℕ) (s : OpenPage) (at : ℕ) (p : Party) where
       record {
         puts = t .puts;
         tells = ap (causedNumber page (readHere page at)) e;
-        exact = subst (λ (b : Bool). Decides b (writtenField (said p) ≡ cameAt page at)) (sym (code-is (causesBy page at (aRecord p)))) (field-exact page at p (t .reads));
+        exact = subst (λ (b : Bool). Decides b (writtenField (said p) ≡ cameAt page at)) (sym (code-is (causesBy page at (aRecord p)))) (field-decided page at p (t .reads));
       }

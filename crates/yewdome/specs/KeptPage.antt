@@ -17,8 +17,8 @@ use Rattle.page_writer.specs.Beside.{noIndex}
 use Rattle.page_writer.specs.Adding.{withLf, endLine, positionAfter}
 use Rattle.page_writer.specs.WholePage.{OpenPage}
 use Rattle.page_writer.specs.Demand3.{closing}
-use Rattle.kept.specs.Kept.{endsLf, isNone}
-use Rattle.kept.specs.Fields.{cameAt, causesBy, isRecord}
+use Rattle.kept.specs.Kept.{endsLf}
+use Rattle.kept.specs.Fields.{cameAt, causesBy, isKeptAt}
 use Rattle.yewdome.specs.Filing.{recordsOf}
 use Rattle.yewdome.specs.Interface.{causesCode, numberStep}
 
@@ -31,15 +31,11 @@ pub record FiledExact (page : List ℕ) (s : OpenPage) (at : ℕ) (p : Party) : 
   pub exact : Decides (eqb (causesCode (causesBy page at (aRecord p))) 0) (writtenField (said p) ≡ cameAt page at)
 
 -- ---- a page
--- a read gives the record of a field that is kept
-abbrev pub isKeptRead : List ℕ → Read → Bool
-isKeptRead page r = isRecord (r .gave .outcome) && isNone (causesBy page (r .at) (r .gave .outcome))
-
--- every field is kept: all reads but the last give such a record, and the last gives the end
+-- every field is kept: the one at each read but the last, which gives the end
 unfoldable pub areKept : List ℕ → List Read → Bool
 areKept page [] = false
 areKept page (r ∷ []) = isEnd (r .gave .outcome)
-areKept page (r ∷ q ∷ rs) = isKeptRead page r && areKept page (q ∷ rs)
+areKept page (r ∷ q ∷ rs) = isKeptAt page (r .at) && areKept page (q ∷ rs)
 
 -- a read of what stands before the first opening
 abbrev pub isStray : ReadOutcome → Bool
