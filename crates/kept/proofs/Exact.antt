@@ -29,6 +29,7 @@ use Rattle.choices.proofs.Every.{each, parse-by}
 use Rattle.writer.specs.Writing.{nameLines, writtenLines, joined, writtenBody}
 use Rattle.writer.specs.Sender.{readLines, Leads}
 use Rattle.writer.proofs.Relined.{weight, lines-rest}
+use Rattle.writer.proofs.Weights.{joined-weight, lines-weight}
 use Rattle.writer.proofs.Sizes.{weight-append}
 use Rattle.writer.proofs.Sayings.{saidWith, saying}
 use Rattle.writer.proofs.Facts.{Facts}
@@ -38,7 +39,7 @@ use Rattle.kept.specs.Kept.{hasCrLf, endsLf, bicLine, isAfterBic, causes
 use Rattle.kept.specs.Claims.{IsExact, KeptExact}
 use Rattle.kept.proofs.Laws.{after-none, after-by}
 use Rattle.kept.proofs.Trims.{trimmed-most, trimmed-same}
-use Rattle.kept.proofs.Lines.{joined-weight, lines-weight, crlf-weight, lf-weight, lines-same}
+use Rattle.kept.proofs.Lines.{crlf-weight, lf-weight, lines-same}
 
 -- ---- the lines that an option reads are the lines of the body
 one-line : (x : List ℕ) → Line x → 0 < length x → lines x ≡ x ∷ []

@@ -20,7 +20,8 @@ use Rattle.reader.specs.Options.{read, foundBy}
 use Rattle.writer.specs.Writing.{writtenLines, joined, writtenBody, writtenField, pieces}
 use Rattle.writer.specs.Given.{Given}
 use Rattle.writer.specs.ReadBack.{endsCr}
-use Rattle.writer.proofs.Relined.{weight, relined, relined-most, cr-kept, cr-shorter, lines-joined}
+use Rattle.writer.proofs.Relined.{weight, cr-kept, cr-shorter}
+use Rattle.writer.proofs.Weights.{joined-weight, lines-weight}
 use Rattle.writer.proofs.Sayings.{saying}
 use Rattle.writer.specs.Sender.{readLines}
 use Rattle.writer.proofs.Necessary.{light}
@@ -35,17 +36,6 @@ use Rattle.page_writer.proofs.Structure.{opens-cut, lined-page, ending,
 use Rattle.page_writer.proofs.Records.{joined-front, front-lined, tagged-lined, tag-less, later-none, not-back, record-accepted, field-read, kept-sound}
 
 -- ---- what is read of a text weighs no more than the text
-weight-joined : (l : List ℕ) (ls : List (List ℕ)) → weight (l ∷ ls) ≡ suc (length (joined (l ∷ ls)))
-unfolding joined
-weight-joined l [] = omega arith
-weight-joined l (m ∷ ls) = let k = length-append l (10 ∷ joined (m ∷ ls)) in let h = weight-joined m ls in omega arith
-
-lines-weight : (x : List ℕ) → weight (lines x) ≤ suc (length x)
-lines-weight x =
-    let p = pieces-of x in
-    let q : lines x ≡ relined (p .first ∷ p .later) = ap lines (p .joins) ∙ lines-joined (p .first ∷ p .later) (p .lines) in
-    omega (arith, ap weight q, relined-most (p .first ∷ p .later), weight-joined (p .first) (p .later), ap length (p .joins))
-
 read-weight : (layout : Layout) (x : List ℕ) → weight (readLines layout x) ≤ suc (length x)
 read-weight BicOnly x = omega arith
 read-weight TextOnly x = omega arith
@@ -78,13 +68,13 @@ module _ (body : List ℕ) where
   cut-shorter m =
       let cut = joined (p .first ∷ upToBoundary (p .later)) in
       let k : anyBoundary (p .later) ≡ true = ap laterBoundary (sym (p .are)) ∙ m in
-      omega (arith, withoutCr-short cut, cut-weight (p .later) k, weight-joined (p .first) (upToBoundary (p .later)), weight-joined (p .first) (p .later), ap length (p .joins))
+      omega (arith, withoutCr-short cut, cut-weight (p .later) k, joined-weight (p .first ∷ upToBoundary (p .later)) (omega arith), joined-weight (p .first ∷ p .later) (omega arith), ap length (p .joins))
 
 -- ---- a text shorter than a record's written body does not give the record: what is read of it weighs less than the written lines
 short-not : (layout : Layout) (ls : List (List ℕ)) (x : List ℕ) → length x < length (joined ls) → weight ls ≤ weight (readLines layout x) → ⊥
 unfolding joined
 short-not layout [] x k h = omega arith
-short-not layout (l ∷ ls) x k h = omega (arith, k, h, weight-joined l ls, read-weight layout x)
+short-not layout (l ∷ ls) x k h = omega (arith, k, h, joined-weight (l ∷ ls) (omega arith), read-weight layout x)
 
 -- ---- the field alone on a page
 module _ (p : Party) (g : Given p) where

@@ -11,18 +11,13 @@ use Rattle.field_utils.specs.Lines.{upto, onto, isEmpty}
 use Rattle.field_utils.proofs.Tests.{none-more, Line, either-left, either-right}
 use Rattle.writer.specs.Writing.{joined, pieces}
 use Rattle.writer.proofs.Relined.{All, pieces-joined}
+use Rattle.writer.proofs.Weights.{joined-onto}
 use Rattle.page_reader.specs.Pages.{lineAt, isBoundary, runs}
 use Rattle.page_reader.proofs.Runs.{first-line, line-all, no-lf, line-at, lf-at, followed, followed-is, runs-stop, runs-on}
 use Rattle.page_writer.specs.Adding.{anyBoundary}
 use lib.Seq.{take-at}
 
 -- ---- any text is its pieces joined, and they are lines
-joined-onto : (b : ℕ) (ls : List (List ℕ)) → 0 < length ls → joined (onto b ls) ≡ b ∷ joined ls
-unfolding joined onto
-joined-onto b [] h = absurd (omega arith)
-joined-onto b (l ∷ []) h = refl
-joined-onto b (l ∷ m ∷ ls) h = refl
-
 pub record Pieces (text : List ℕ) : Type 0 where
   pub first : List ℕ
   pub later : List (List ℕ)

@@ -5,6 +5,7 @@ pub mod Names
 pub mod Records
 pub mod Pairs
 pub mod Relined
+pub mod Weights
 pub mod Sayings
 pub mod NamePasses
 pub mod HeadPasses

@@ -20,6 +20,7 @@ use Rattle.reader.specs.Options.{read}
 use Rattle.writer.specs.Writing.{joined, writtenBody, writtenField, put}
 use Rattle.writer.specs.Given.{Given}
 use Rattle.writer.proofs.Relined.{All}
+use Rattle.writer.proofs.Weights.{joined-weight}
 use Rattle.writer.proofs.Back.{accepted-is}
 use Rattle.writer.proofs.Theorems.{necessary}
 use Rattle.page_reader.specs.Pages.{pageMost, lessCr, runs, ReadOutcome, aRecord, theEnd, aRefusal, PageRead, readField, readAt}
@@ -44,7 +45,6 @@ use Rattle.kept.specs.declared.Causes.{Causes}
 use Rattle.kept.specs.Kept.{endsLf, isNone}
 use Rattle.kept.specs.Fields.{cameAt, causesBy, isRecord, isKeptAt}
 use Rattle.kept.proofs.Laws.{ends-by}
-use Rattle.kept.proofs.Lines.{joined-weight}
 use Rattle.kept.proofs.FieldExact.{field-decided}
 use Rattle.yewdome.specs.Filing.{recordOf, recordsIn, recordsOf, filedAs, fileOutcome, fileStep}
 use Rattle.yewdome.specs.Interface.{cause, causesCode, causedNumber}
