@@ -53,6 +53,7 @@ causesOf o present text blanks closing = record {
 abbrev pub noCauses : Causes
 noCauses = record { «inner_cr» = false; «last_lf» = false; «after_bic» = false; blanks = false; «closing_cr» = false }
 
+-- there is none
 abbrev pub isNone : Causes → Bool
 isNone c = not (c .«inner_cr» || c .«last_lf» || c .«after_bic» || c .blanks || c .«closing_cr»)
 
@@ -62,6 +63,7 @@ pub record Kept : Type 0 where
   pub reply : Reply
   pub causes : Causes
 
+-- a refusal has none
 abbrev pub keeping : Reply → Causes → Kept
 keeping accepted c = record { reply = accepted; causes = c }
 keeping (refused k n) c = record { reply = refused k n; causes = noCauses }

@@ -170,7 +170,7 @@ pub record KeptPages : Type 0 where
   pub kept : areKept delivered (fromOpening (reads delivered)) ≡ true
   pub lines : partyLines delivered ≡ bytes ":50K:A\nB\n:50L: C\n"
   pub filed : pageFile delivered (replicate 22 0) (replicate 31 7) .bytes ≡ bytes ":50K:A\nB\n:50L: C\n-\n" ++ replicate 3 0
-  -- the last LF: where the end line has none, a buffer as long as the page may be too short
+  -- space: where the end line has no LF, a buffer as long as the page may be too short
   pub no-last-lf : areKept (bytes ":50:A\n-") (fromOpening (reads (bytes ":50:A\n-"))) ≡ true
   pub too-short : pageFile (bytes ":50:A\n-") (replicate 7 0) (replicate 8 7) .answers ≡ (24 * 65536 * 4294967296 + 6) ∷ (65536 + 1) ∷ replicate 6 7
   -- every field: one with a cause among others, one that is refused, and one that no end line follows

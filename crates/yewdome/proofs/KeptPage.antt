@@ -8,7 +8,7 @@ use lib.Dec.{eqb}
 use lib.ListN.{length, take, drop, getD, length-append, length-drop, length-take}
 use lib.Seq.{drop-drop, length-take-le}
 use native.Mathlib.Nat.{zero-add, suc-add}
-use borrow.Author.Tests.{eqb-true, eqb-false, eq-eqb, ne-eqb, le-leb, lt-ltb}
+use borrow.Author.Tests.{eqb-true, eqb-false, eq-eqb, ne-eqb, le-leb, leb-true, lt-ltb}
 use Rattle.errors.specs.Refusals.{Reply, accepted, refused}
 use Rattle.party.specs.declared.PartyOption.{PartyOption}
 use Rattle.party.specs.declared.Party.{Party}
@@ -29,7 +29,7 @@ use Rattle.page_reader.proofs.Cases.{runs-most}
 use Rattle.page_reader.proofs.Runs.{Closed, runs-closed}
 use Rattle.page_reader.proofs.Moves.{fieldAt}
 use Rattle.page_reader.proofs.Records.{Gave, refusal≢record, end≢record, record-gave, end-gave, end-first}
-use Rattle.page_writer.specs.Adding.{anyBoundary, isCarried, withLf, endLine, Filed, positionAfter, refusal, putting, asked, recordReply, addReply, freeBeside, add}
+use Rattle.page_writer.specs.Adding.{anyBoundary, isCarried, hasSpace, withLf, endLine, Filed, positionAfter, refusal, putting, asked, recordReply, addReply, freeBeside, add}
 use Rattle.page_writer.specs.WholePage.{OpenPage, addStep, Model, modelBy, modelStep, kept, pageOf}
 use Rattle.page_writer.specs.Beside.{Beside, noIndex}
 use Rattle.page_writer.specs.Fold.{Step, run}
@@ -48,7 +48,7 @@ use Rattle.kept.proofs.Laws.{ends-by}
 use Rattle.kept.proofs.FieldExact.{field-decided}
 use Rattle.yewdome.specs.Filing.{recordOf, recordsIn, recordsOf, filedAs, fileOutcome, fileStep}
 use Rattle.yewdome.specs.Interface.{cause, causesCode, causedNumber}
-use Rattle.yewdome.specs.KeptPage.{FiledExact, areKept, isStray, fromOpening, firstAt, lastAt, between, partyLines, FiledAsCame, KeptPage}
+use Rattle.yewdome.specs.KeptPage.{FiledExact, areKept, isStray, fromOpening, firstAt, lastAt, between, partyLines, FiledAsCame, KeptPage, KeptSpace}
 use Rattle.yewdome.proofs.Causes.{none-code}
 
 -- ---- a list of which more is taken than one in front has
@@ -269,7 +269,7 @@ opened page e = go (isStray (readAt page 0 .outcome)) refl (isLast (readAt page 
         opened-from page (length page) next (by s q) (ap (λ (b : Bool). recordOf (readAt page 0 .outcome) (recordsIn (tail b))) q ∙ stray-none (readAt page 0 .outcome) (recordsIn (readsFrom (length page) page next)) s) e
 
 -- ---- the page
-module _ (page buffer : List ℕ) (k : areKept page (fromOpening (reads page)) ≡ true) (lf : endsLf page ≡ true) (room : length page ≤ length buffer) where
+module _ (page : List ℕ) (k : areKept page (fromOpening (reads page)) ≡ true) where
   abbrev o : Opened page
   o = opened page k
 
@@ -279,20 +279,6 @@ module _ (page buffer : List ℕ) (k : areKept page (fromOpening (reads page)) �
   abbrev last : ℕ
   last = lastAt (o .rs)
 
-  -- an LF closes the end line, so that it has two bytes
-  two : last + 2 ≤ length page
-  two = go (eqb (suc last) (length page)) refl
-    where
-      go : (t : Bool) → eqb (suc last) (length page) ≡ t → last + 2 ≤ length page
-      go true e =
-          let n : length page - 1 ≡ last = let z = eqb-true (suc last) (length page) e in omega (arith, z) in
-          let b : eqb (getD page last 0) 10 ≡ true = ap (λ (m : ℕ). eqb (getD page m 0) 10) (sym n) ∙ sym (ends-by page (λ z. omega (arith, z, end-gave page last (o .came-at .ended) .within))) ∙ lf in
-          absurd (omega (arith, eqb-true (getD page last 0) 10 b, end-first page last (o .came-at .ended)))
-      go false e = let z = eqb-false (suc last) (length page) e in let w = end-gave page last (o .came-at .ended) .within in next w z
-        where
-          next : last < length page → (suc last ≡ length page → ⊥) → last + 2 ≤ length page
-          next w z = omega (arith, w, z)
-
   part-is : partyLines page ≡ fieldsOf ps
   part-is =
       ap (between page) (o .are) ∙ ap (λ (f : ℕ). take (last - f) (drop f page)) (o .first) ∙ sym (o .came-at .fields) ∙ ap fieldsOf (sym (o .records))
@@ -300,34 +286,57 @@ module _ (page buffer : List ℕ) (k : areKept page (fromOpening (reads page)) �
   all-fit : All Fit ps
   all-fit = subst (All Fit) (sym (o .records)) (o .came-at .fit)
 
-  fields-length : length (fieldsOf ps) + 2 ≤ min (length buffer) pageMost
-  fields-length =
-      let m = end-gave page last (o .came-at .ended) .most in
-      omega (arith, two, room, m, ap length (ap fieldsOf (o .records) ∙ o .came-at .fields), length-take (last - o .at) (drop (o .at) page))
+  -- an LF closes the end line, so that it has two bytes
+  two : endsLf page ≡ true → last + 2 ≤ length page
+  two lf = go (eqb (suc last) (length page)) refl
+    where
+      w : last < length page
+      w = end-gave page last (o .came-at .ended) .within
 
-  w : WholePage noIndex ps buffer
-  w = whole-page noIndex tt ps buffer
+      go : (t : Bool) → eqb (suc last) (length page) ≡ t → last + 2 ≤ length page
+      go true e =
+          let n : length page - 1 ≡ last = let z = eqb-true (suc last) (length page) e in omega (arith, z) in
+          let b : eqb (getD page last 0) 10 ≡ true = ap (λ (m : ℕ). eqb (getD page m 0) 10) (sym n) ∙ sym (ends-by page (λ z. omega (arith, z, w))) ∙ lf in
+          absurd (omega (arith, eqb-true (getD page last 0) 10 b, end-first page last (o .came-at .ended)))
+      go false e = let z = eqb-false (suc last) (length page) e in omega (arith, w, z)
 
-  filed : (acceptedAdds noIndex ps buffer ≡ ps) × (adds noIndex ps buffer .state .position ≡ length (fieldsOf ps))
-  filed =
-      let m = model-all (length buffer) ps (record { list = []; position = 0 }) all-fit (omega (arith, fields-length)) in
-      (w .list ∙ m .0, w .position ∙ (m .1 ∙ zero-add (length (fieldsOf ps))))
+  module _ (buffer : List ℕ) where
+    kept-space-by : endsLf page ≡ true → length page ≤ length buffer → hasSpace (length buffer) (length (partyLines page) + 2) ≡ true
+    kept-space-by lf room =
+        le-leb (length (partyLines page) + 2) (min (length buffer) pageMost)
+        (omega (arith, two lf, room, end-gave page last (o .came-at .ended) .most, ap length (part-is ∙ ap fieldsOf (o .records) ∙ o .came-at .fields), length-take (last - o .at) (drop (o .at) page)))
 
-  answers : closing noIndex ps buffer .answer ≡ positionAfter (length (partyLines page) + 2)
-  answers = w .closes (omega (arith, fields-length)) ∙ ap (λ (n : ℕ). positionAfter (n + 2)) (filed .1 ∙ ap length (sym part-is))
+    module _ (space : hasSpace (length buffer) (length (partyLines page) + 2) ≡ true) where
+      fields-length : length (fieldsOf ps) + 2 ≤ min (length buffer) pageMost
+      fields-length = let n = leb-true (length (partyLines page) + 2) (min (length buffer) pageMost) space in omega (arith, n, ap length part-is)
 
-  as-came : FiledAsCame page buffer
-  as-came =
-      let c = w .closed answers in
-      record {
-        answer = answers;
-        bytes = c .bytes ∙ ap (λ (x : List Party). pageOf (map kept x) endLine) (filed .0) ∙ page-tail (map kept ps) endLine ∙ ap (λ (x : List ℕ). x ++ endLine) (sym part-is);
-        after = c .after;
-      }
+      w : WholePage noIndex ps buffer
+      w = whole-page noIndex tt ps buffer
 
--- a page whose fields are kept is filed as its very bytes, from its first opening to its end line
+      filed : (acceptedAdds noIndex ps buffer ≡ ps) × (adds noIndex ps buffer .state .position ≡ length (fieldsOf ps))
+      filed =
+          let m = model-all (length buffer) ps (record { list = []; position = 0 }) all-fit (omega (arith, fields-length)) in
+          (w .list ∙ m .0, w .position ∙ (m .1 ∙ zero-add (length (fieldsOf ps))))
+
+      answers : closing noIndex ps buffer .answer ≡ positionAfter (length (partyLines page) + 2)
+      answers = w .closes (omega (arith, fields-length)) ∙ ap (λ (n : ℕ). positionAfter (n + 2)) (filed .1 ∙ ap length (sym part-is))
+
+      as-came : FiledAsCame page buffer
+      as-came =
+          let c = w .closed answers in
+          record {
+            answer = answers;
+            bytes = c .bytes ∙ ap (λ (x : List Party). pageOf (map kept x) endLine) (filed .0) ∙ page-tail (map kept ps) endLine ∙ ap (λ (x : List ℕ). x ++ endLine) (sym part-is);
+            after = c .after;
+          }
+
+-- a page whose fields are kept is filed as its very bytes, from its first opening to its end line, with space for them
 pub kept-page : (page buffer : List ℕ) → KeptPage page buffer
-kept-page page buffer = as-came page buffer
+kept-page page buffer k = as-came page k buffer
+
+-- which there is in a buffer as long as the page, where that ends in LF
+pub kept-space : (page buffer : List ℕ) → KeptSpace page buffer
+kept-space page buffer k = kept-space-by page k buffer
 
 -- ---- a step
 none-by : (c : Causes) → isNone c ≡ false → (causesCode c ≡ 0 → ⊥)

@@ -1,6 +1,6 @@
 -- Filing says what it keeps, and a page whose fields are kept is filed as its very bytes. Document 01 has the read and the add ('Pages
--- (added)'); that the archive has the line that went out is clause 9.2's. The theorems are `filed-exact` and `kept-page`,
--- proofs/KeptPage.antt.
+-- (added)'); that the archive has the line that went out is clause 9.2's. The theorems are `filed-exact`, `kept-page`
+-- and `kept-space`, proofs/KeptPage.antt.
 use Prim.Native.Nat.{ℕ, _+_, _*_, _-_, _≤_}
 use mathlib.Core.Path.{_≡_}
 use mathlib.Core.Bool.{Bool, true, false, _&&_}
@@ -14,7 +14,7 @@ use Rattle.writer.specs.Writing.{writtenField, put}
 use Rattle.page_reader.specs.Pages.{ReadOutcome, aRecord, theEnd, aRefusal, readAt}
 use Rattle.page_reader.specs.Reads.{Read, readHere, isEnd, reads}
 use Rattle.page_writer.specs.Beside.{noIndex}
-use Rattle.page_writer.specs.Adding.{withLf, endLine, positionAfter}
+use Rattle.page_writer.specs.Adding.{hasSpace, withLf, endLine, positionAfter}
 use Rattle.page_writer.specs.WholePage.{OpenPage}
 use Rattle.page_writer.specs.Demand3.{closing}
 use Rattle.kept.specs.Kept.{endsLf}
@@ -48,11 +48,12 @@ abbrev pub fromOpening : List Read → List Read
 fromOpening [] = []
 fromOpening (r ∷ rs) = elim (isStray (r .gave .outcome)) [ true ↦ rs | false ↦ r ∷ rs ]
 
--- where the first of reads is, and the last
+-- where the first of reads is
 abbrev pub firstAt : List Read → ℕ
 firstAt [] = 0
 firstAt (r ∷ rs) = r .at
 
+-- and the last
 unfoldable pub lastAt : List Read → ℕ
 lastAt [] = 0
 lastAt (r ∷ []) = r .at
@@ -72,6 +73,10 @@ pub record FiledAsCame (page buffer : List ℕ) : Type 0 where
   pub bytes : take (length (partyLines page) + 2) (closing noIndex (recordsOf page) buffer .buffer) ≡ partyLines page ++ endLine
   pub after : drop (length (partyLines page) + 2) (closing noIndex (recordsOf page) buffer .buffer) ≡ drop (length (partyLines page) + 2) buffer
 
--- where every field is kept, so that its lines end in LF alone, and the page ends in LF, in a buffer as long as the page
+-- so it is where every field is kept, and there is space for these bytes and the end line, else 24
 abbrev pub KeptPage : List ℕ → List ℕ → Type 0
-KeptPage page buffer = areKept page (fromOpening (reads page)) ≡ true → endsLf page ≡ true → length page ≤ length buffer → FiledAsCame page buffer
+KeptPage page buffer = areKept page (fromOpening (reads page)) ≡ true → hasSpace (length buffer) (length (partyLines page) + 2) ≡ true → FiledAsCame page buffer
+
+-- there is, where every line ends in LF, which of kept fields needs to be said of the last line alone, in a buffer as long as the page
+abbrev pub KeptSpace : List ℕ → List ℕ → Type 0
+KeptSpace page buffer = areKept page (fromOpening (reads page)) ≡ true → endsLf page ≡ true → length page ≤ length buffer → hasSpace (length buffer) (length (partyLines page) + 2) ≡ true
