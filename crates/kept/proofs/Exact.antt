@@ -29,8 +29,8 @@ use Rattle.choices.proofs.Every.{each, parse-by}
 use Rattle.writer.specs.Writing.{nameLines, writtenLines, joined, writtenBody}
 use Rattle.writer.specs.Sender.{readLines, Leads}
 use Rattle.writer.proofs.Relined.{weight, lines-rest}
-use Rattle.writer.proofs.Weights.{joined-weight, lines-weight}
-use Rattle.writer.proofs.Sizes.{weight-append}
+use Rattle.writer.proofs.Weights.{lines-weight}
+use Rattle.writer.proofs.Sizes.{weight-append, joined-length}
 use Rattle.writer.proofs.Sayings.{saidWith, saying}
 use Rattle.writer.proofs.Facts.{Facts}
 use Rattle.writer.proofs.Necessary.{letters-free}
@@ -161,7 +161,7 @@ compared : (text : List ℕ) (ws : List (List ℕ)) (after : Bool) → Parts tex
 compared text ws after p = go (hasCrLf text) (endsLf text) after refl refl (p .later)
   where
     weighs : suc (length (joined ws)) + weight (p .rest) ≡ weight (lines text)
-    weighs = omega (arith, joined-weight ws (p .some), weight-append ws (p .rest), ap weight (p .are))
+    weighs = omega (arith, joined-length ws (p .some), weight-append ws (p .rest), ap weight (p .are))
 
     shorter : length (joined ws) < length text → Compared text (joined ws) false
     shorter n = record { most = omega (arith, n); same = λ e. absurd (false≢true e); less = λ e. n }

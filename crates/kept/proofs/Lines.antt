@@ -9,9 +9,10 @@ use lib.ListN.{length}
 use borrow.Author.Tests.{ne-eqb}
 use Rattle.field_utils.specs.Lines.{onto, starts, lines}
 use Rattle.field_utils.proofs.Tests.{either-left, either-right}
+use Rattle.reader.proofs.LineCounts.{lines-some}
 use Rattle.writer.specs.Writing.{joined}
 use Rattle.writer.proofs.Relined.{weight}
-use Rattle.writer.proofs.Weights.{onto-weight, joined-onto, empty-joined, First, lf, cr, byte, first, some-line, lines-weight}
+use Rattle.writer.proofs.Weights.{onto-weight, joined-onto, empty-joined, First, lf, cr, byte, first, lines-weight}
 use Rattle.kept.specs.Kept.{hasCrLf, endsLf}
 
 -- their weight is less than the text's, where a CR stands before an LF ..
@@ -35,7 +36,7 @@ crlf-weight (b ∷ l) c = go (first b l) (crlf-weight l)
         let n : eqb b 13 ≡ false = ne-eqb b 13 (λ f. omega (arith, e, f)) in
         omega (arith, ap weight q, ih (later (rw n)))
     go (cr e q) ih = omega (arith, ap weight q, lines-weight l)
-    go (byte e q) ih = omega (arith, ap weight q, onto-weight b (lines l) (some-line l (some (later e))), ih (later e))
+    go (byte e q) ih = omega (arith, ap weight q, onto-weight b (lines l) (lines-some l (some (later e))), ih (later e))
 
 -- .. or there is a last LF
 pub lf-weight : (x : List ℕ) → endsLf x ≡ true → weight (lines x) ≤ length x
@@ -47,7 +48,7 @@ lf-weight (b ∷ a ∷ l) c = go (first b (a ∷ l)) (lf-weight (a ∷ l) c)
     go : First b (a ∷ l) → weight (lines (a ∷ l)) ≤ length (a ∷ l) → weight (lines (b ∷ a ∷ l)) ≤ suc (length (a ∷ l))
     go (lf e q) h = omega (arith, ap weight q, h)
     go (cr e q) h = omega (arith, ap weight q, h)
-    go (byte e q) h = omega (arith, ap weight q, onto-weight b (lines (a ∷ l)) (some-line (a ∷ l) (omega arith)), h)
+    go (byte e q) h = omega (arith, ap weight q, onto-weight b (lines (a ∷ l)) (lines-some (a ∷ l) (omega arith)), h)
 
 -- joined, they are the text where neither is so
 pub lines-same : (x : List ℕ) → hasCrLf x ≡ false → endsLf x ≡ false → joined (lines x) ≡ x
@@ -55,7 +56,7 @@ unfolding hasCrLf endsLf lines joined onto starts
 lines-same [] c d = refl
 lines-same (b ∷ []) c d = rw (d, lines) (rw (and-false (eqb b 13)))
 lines-same (b ∷ a ∷ l) c d =
-    go (first b (a ∷ l)) (lines-same (a ∷ l) (either-right (eqb b 13 && starts 10 (a ∷ l)) (hasCrLf (a ∷ l)) c) d) (some-line (a ∷ l) (omega arith))
+    go (first b (a ∷ l)) (lines-same (a ∷ l) (either-right (eqb b 13 && starts 10 (a ∷ l)) (hasCrLf (a ∷ l)) c) d) (lines-some (a ∷ l) (omega arith))
   where
     go : First b (a ∷ l) → joined (lines (a ∷ l)) ≡ a ∷ l → 0 < length (lines (a ∷ l)) → joined (lines (b ∷ a ∷ l)) ≡ b ∷ a ∷ l
     go (lf e q) h n = ap joined q ∙ empty-joined (lines (a ∷ l)) n ∙ ap (_∷_ 10) h ∙ ap (λ (y : ℕ). y ∷ a ∷ l) (sym e)

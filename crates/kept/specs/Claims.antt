@@ -21,7 +21,7 @@ use Rattle.kept.specs.Fields.{cameAt, isKeptAt}
 abbrev pub IsExact : List ℕ → Reading → Kept → Type 0
 IsExact body r k = r .reply ≡ accepted → Decides (isKeptBy k) (writtenBody (said (r .party)) ≡ body)
 
--- every reader: by an option, by a choice that detects, by a choice and a letter
+-- every reader: by an option, by a choice that detects, by a choice and a letter; the network profile changes no record of theirs
 pub record KeptExact (body : List ℕ) : Type 0 where
   pub option : (o : PartyOption) → IsExact body (read o body) (keptRead o body)
   pub detected : (choice : Choice) → IsExact body (parse choice body) (keptParse choice body)

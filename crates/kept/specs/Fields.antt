@@ -13,7 +13,7 @@ use Rattle.kept.specs.Kept.{causesOf, noCauses, isNone}
 abbrev pub cameAt : List ℕ → ℕ → List ℕ
 cameAt page at = take (runs (drop at page)) (drop at page)
 
--- a CR stands between the body and the LF that closes the field; where no LF closes it, nothing stands after the body
+-- of a field: a CR stands between its body and the LF that closes it; where no LF closes it, nothing stands after the body
 abbrev pub isClosingCr : List ℕ → ℕ → Bool
 isClosingCr page at = eqb (getD page (bodyPlace page at .start + bodyPlace page at .len) 0) 13
 

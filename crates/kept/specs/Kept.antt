@@ -1,5 +1,6 @@
--- When the written body of a record is the very body that came, and by which causes it is not. Each cause is something that document 01
--- leaves off in reading (field_utils.rs, field50.rs, field59.rs, 'Choices'); that there are no others is `kept-exact`, proofs/Exact.antt.
+-- When the written body of a record is the very body that came, and by which causes it is not. Each cause is something that reading leaves
+-- off (document 01, field_utils.rs, field50.rs, field59.rs, 'Choices'; on a page document 02, One); that there are no others is `kept-exact`,
+-- proofs/Exact.antt.
 use Prim.Native.Nat.{ℕ}
 use mathlib.Core.Bool.{Bool, true, false, not, _&&_, _||_}
 use mathlib.Core.List.{List, [], _∷_}

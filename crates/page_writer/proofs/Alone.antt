@@ -21,7 +21,8 @@ use Rattle.writer.specs.Writing.{writtenLines, joined, writtenBody, writtenFiel
 use Rattle.writer.specs.Given.{Given}
 use Rattle.writer.specs.ReadBack.{endsCr}
 use Rattle.writer.proofs.Relined.{weight, cr-kept, cr-shorter}
-use Rattle.writer.proofs.Weights.{joined-weight, lines-weight}
+use Rattle.writer.proofs.Weights.{lines-weight}
+use Rattle.writer.proofs.Sizes.{joined-length}
 use Rattle.writer.proofs.Sayings.{saying}
 use Rattle.writer.specs.Sender.{readLines}
 use Rattle.writer.proofs.Necessary.{light}
@@ -68,13 +69,13 @@ module _ (body : List ℕ) where
   cut-shorter m =
       let cut = joined (p .first ∷ upToBoundary (p .later)) in
       let k : anyBoundary (p .later) ≡ true = ap laterBoundary (sym (p .are)) ∙ m in
-      omega (arith, withoutCr-short cut, cut-weight (p .later) k, joined-weight (p .first ∷ upToBoundary (p .later)) (omega arith), joined-weight (p .first ∷ p .later) (omega arith), ap length (p .joins))
+      omega (arith, withoutCr-short cut, cut-weight (p .later) k, joined-length (p .first ∷ upToBoundary (p .later)) (omega arith), joined-length (p .first ∷ p .later) (omega arith), ap length (p .joins))
 
 -- ---- a text shorter than a record's written body does not give the record: what is read of it weighs less than the written lines
 short-not : (layout : Layout) (ls : List (List ℕ)) (x : List ℕ) → length x < length (joined ls) → weight ls ≤ weight (readLines layout x) → ⊥
 unfolding joined
 short-not layout [] x k h = omega arith
-short-not layout (l ∷ ls) x k h = omega (arith, k, h, joined-weight (l ∷ ls) (omega arith), read-weight layout x)
+short-not layout (l ∷ ls) x k h = omega (arith, k, h, joined-length (l ∷ ls) (omega arith), read-weight layout x)
 
 -- ---- the field alone on a page
 module _ (p : Party) (g : Given p) where

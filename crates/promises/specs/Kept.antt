@@ -32,8 +32,8 @@ use Rattle.page_writer.specs.Fold.{run}
 use Rattle.kept.specs.declared.Causes.{Causes}
 use Rattle.kept.specs.Kept.{hasCrLf, endsLf, causesOf, noCauses, Kept, keptOf, keptRead, keptParse, keptParseWithVariant, isKept}
 use Rattle.kept.specs.Fields.{cameAt, fieldCauses}
-use Rattle.yewdome.specs.Interface.{keptReadCode, keptParseCode, keptVariantCode, pageKept, pageFile}
-use Rattle.yewdome.specs.KeptPage.{areKept, fromOpening, lastAt, partyLines}
+use Rattle.yewdome.specs.Interface.{keptReadCode, keptParseCode, keptVariantCode, pageKept, fileNumbers, pageFile}
+use Rattle.yewdome.specs.KeptPage.{areKept, fromOpening, lastAt, partyLines, arePlain, answersFrom}
 
 -- what is told of a body that is accepted
 abbrev told : Causes → Kept
@@ -69,8 +69,13 @@ pub record KeptSmallest : Type 0 where
   pub closing-cr-came : cameAt (bytes ":50:A\r\n") 0 ≡ bytes ":50:A\r"
   -- all that can stand together
   pub together : keptRead Field59A (bytes "/\r\nABCDEFGH\nX\n") ≡ told (record { «inner_cr» = true; «last_lf» = true; «after_bic» = true; blanks = false; «closing_cr» = false })
-  -- and none
+  -- as numbers, on a page
+  pub told-apart : pageKept (bytes ":50:A\r\nB\n") 0 ≡ 1 * 131072 + 9
+  pub told-apart-2 : pageKept (bytes ":50:A\n\n-\n") 0 ≡ 2 * 131072 + 7
+  -- and none; a body with one is not kept, and neither is one that is refused
   pub none : isKept Field50K (bytes "/12\nACME\nBERLIN") ≡ true
+  pub one : isKept Field50K (bytes "ACME\n") ≡ false
+  pub refused-body : isKept Field59A (bytes "A") ≡ false
 
 pub kept-smallest : KeptSmallest
 unfolding padded textOf said letter digit alphanumeric signs legal parseSwiftChars parseAccount bicLength parseBic upto onto starts lines white trimmedStart keep trimmedEnd trimmed isNumbered secondSlash identifierReply parsePartyIdentifier parseLine parseLines parseNameAndAddress four partyOf accountHead shortAccountHead afterHead read anyNumbered firstLine lastLine bicLike firstThat testLine nameLines writtenLines joined writtenBody withoutCr lineAt isEnd endsPage runs begins tagIn readField readCase readAt bodyPlace parse tagOf hasCrLf endsLf causesOf keptOf
@@ -86,7 +91,11 @@ kept-smallest = record {
   closing-cr = refl;
   closing-cr-came = refl;
   together = refl;
+  told-apart = refl;
+  told-apart-2 = refl;
   none = refl;
+  one = refl;
+  refused-body = refl;
 }
 
 pub record KeptRuledOut : Type 0 where
@@ -126,7 +135,7 @@ pub record KeptRuledOut : Type 0 where
   -- a filer that drops a line and does not say so
   pub page-file-drops-a-line : pageFile (bytes ":50A:ABCDEFGH\nX\n-\n") (replicate 19 0) (replicate 19 7)
       ≡ record { code = 2 * 4294967296 + 16; bytes = bytes ":50A:ABCDEFGH\n-\n" ++ replicate 3 0; answers = (4 * 131072 + 16) ∷ (65536 + 2) ∷ replicate 17 7 }
-  -- one that takes a line's last bytes for its CR: as many bytes are written as were read, since no LF closes the field
+  -- one that compares lengths alone: as many bytes are written as the read moved past, since no LF closes the field
   pub page-file-counts-alone : pageFile (bytes ":50K:A\r\nB") (replicate 20 0) (replicate 10 7) .answers ≡ (1 * 131072 + 9) ∷ (17 * 65536 * 4294967296) ∷ replicate 8 7
   -- one that tells causes of a record that it does not file
   pub page-file-tells-of-a-refusal : pageFile (bytes ":50:A\r\n-\n") (replicate 7 0) (replicate 10 7) .answers ≡ (24 * 65536 * 4294967296 + 7) ∷ (65536 + 2) ∷ replicate 8 7
@@ -165,7 +174,7 @@ kept-ruled-out = record {
 abbrev delivered : List ℕ
 delivered = bytes "{4:\n:50K:A\nB\n:50L: C\n-}\nrest\n"
 
--- `kept-page` speaks of pages that there are, and no less is asked of them than it needs
+-- `kept-page` speaks of pages that there are, needs space, and does not speak of a page of which a field is not kept
 pub record KeptPages : Type 0 where
   pub kept : areKept delivered (fromOpening (reads delivered)) ≡ true
   pub lines : partyLines delivered ≡ bytes ":50K:A\nB\n:50L: C\n"
@@ -173,13 +182,21 @@ pub record KeptPages : Type 0 where
   -- space: where the end line has no LF, a buffer as long as the page may be too short
   pub no-last-lf : areKept (bytes ":50:A\n-") (fromOpening (reads (bytes ":50:A\n-"))) ≡ true
   pub too-short : pageFile (bytes ":50:A\n-") (replicate 7 0) (replicate 8 7) .answers ≡ (24 * 65536 * 4294967296 + 6) ∷ (65536 + 1) ∷ replicate 6 7
-  -- every field: one with a cause among others, one that is refused, and one that no end line follows
+  -- of a page without a field it does
+  pub no-field : areKept (bytes "-\n") (fromOpening (reads (bytes "-\n"))) ≡ true
+  -- every field: one with a cause among others, one that is refused, also before all others, and one that no end line follows
   pub one-cause : areKept (bytes ":50:A\n:50:B\r\n-\n") (fromOpening (reads (bytes ":50:A\n:50:B\r\n-\n"))) ≡ false
   pub one-refused : areKept (bytes ":50:A\n:50C:B\n-\n") (fromOpening (reads (bytes ":50:A\n:50C:B\n-\n"))) ≡ false
+  pub first-refused : areKept (bytes ":50C:B\n:50:A\n-\n") (fromOpening (reads (bytes ":50C:B\n:50:A\n-\n"))) ≡ false
   pub no-end : areKept (bytes ":50:A\n") (fromOpening (reads (bytes ":50:A\n"))) ≡ false
+  -- `told-page` speaks of answers that there are, and of none that tell a cause, a refusal or no end
+  pub told : arePlain (answersFrom delivered (fileNumbers delivered (replicate 22 0) .answers)) ≡ true
+  pub told-cause : arePlain (answersFrom (bytes ":50:A\r\n-\n") (fileNumbers (bytes ":50:A\r\n-\n") (replicate 22 0) .answers)) ≡ false
+  pub told-refusal : arePlain (answersFrom (bytes ":50C:B\n-\n") (fileNumbers (bytes ":50C:B\n-\n") (replicate 22 0) .answers)) ≡ false
+  pub told-no-end : arePlain (answersFrom (bytes ":50:A\n") (fileNumbers (bytes ":50:A\n") (replicate 22 0) .answers)) ≡ false
 
 pub kept-pages : KeptPages
-unfolding padded textOf said letter digit alphanumeric signs legal parseSwiftChars parseAccount bicLength parseBic upto onto starts lines isNumbered parseLine parseLines parseNameAndAddress four partyOf accountHead afterHead read nameLines writtenLines joined writtenBody writtenField pieces isLine areNames isGiven endsCr lastEmpty withoutCr lineAt isEnd endsPage runs begins tagIn readField readCase readAt bodyPlace isCarried writable asked recordReply addReply add addIndex close anyCr anyBoundary laterBoundary tagOf run readsFrom hasCrLf endsLf causesOf areKept lastAt
+unfolding padded textOf said letter digit alphanumeric signs legal parseSwiftChars parseAccount bicLength parseBic upto onto starts lines isNumbered parseLine parseLines parseNameAndAddress four partyOf accountHead afterHead read nameLines writtenLines joined writtenBody writtenField pieces isLine areNames isGiven endsCr lastEmpty withoutCr lineAt isEnd endsPage runs begins tagIn readField readCase readAt bodyPlace isCarried writable asked recordReply addReply add addIndex close anyCr anyBoundary laterBoundary tagOf run readsFrom hasCrLf endsLf causesOf areKept lastAt arePlain
 kept-pages = record {
   kept = refl;
   lines = refl;
@@ -187,6 +204,12 @@ kept-pages = record {
   no-last-lf = refl;
   too-short = refl;
   one-cause = refl;
+  no-field = refl;
   one-refused = refl;
+  first-refused = refl;
   no-end = refl;
+  told = refl;
+  told-cause = refl;
+  told-refusal = refl;
+  told-no-end = refl;
 }

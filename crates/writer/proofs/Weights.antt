@@ -1,14 +1,14 @@
 -- The lines of a text and their weight: its bytes, and one a line. Assumes nothing.
 use mathlib.Core.Path.{_≡_, refl, _∙_, ap}
-use mathlib.Core.Bool.{Bool, true, false, _&&_, false≢true}
+use mathlib.Core.Bool.{Bool, true, false, _&&_}
 use mathlib.Core.List.{List, [], _∷_}
 use Prim.Native.Nat.{ℕ, suc, _≤_, _<_}
 use native.Mathlib.Omega.{arith}
 use lib.Dec.{eqb}
-use lib.ListN.{length, length-append}
+use lib.ListN.{length}
 use borrow.Author.Tests.{eqb-true}
 use Rattle.field_utils.specs.Lines.{onto, starts, lines}
-use Rattle.field_utils.proofs.Tests.{both-right}
+use Rattle.reader.proofs.LineCounts.{lines-some}
 use Rattle.writer.specs.Writing.{joined}
 use Rattle.writer.proofs.Relined.{weight}
 
@@ -29,12 +29,6 @@ unfolding joined
 empty-joined [] h = absurd (omega arith)
 empty-joined (l ∷ ls) h = refl
 
-pub joined-weight : (ls : List (List ℕ)) → 0 < length ls → weight ls ≡ suc (length (joined ls))
-unfolding joined
-joined-weight [] h = absurd (omega arith)
-joined-weight (l ∷ []) h = omega arith
-joined-weight (l ∷ m ∷ ls) h = omega (arith, length-append l (10 ∷ joined (m ∷ ls)), joined-weight (m ∷ ls) (omega arith))
-
 -- ---- the first byte of a text: an LF, a CR before one, or neither
 module _ (b : ℕ) (l : List ℕ) where
   abbrev pub isCrLf : Bool
@@ -54,26 +48,6 @@ module _ (b : ℕ) (l : List ℕ) where
       go false true e f = cr f (rw (e, lines) (rw f))
       go false false e f = byte f (rw (e, lines) (rw f))
 
-starts-some : (c : ℕ) (l : List ℕ) → starts c l ≡ true → 0 < length l
-unfolding starts
-starts-some c [] e = absurd (false≢true e)
-starts-some c (a ∷ l) e = omega arith
-
--- a text with a byte has a line
-pub some-line : (x : List ℕ) → 0 < length x → 0 < length (lines x)
-unfolding onto
-some-line [] h = absurd (omega arith)
-some-line (b ∷ l) h = go (first b l) (some-line l)
-  where
-    onto-some : (ls : List (List ℕ)) → 0 < length (onto b ls)
-    onto-some [] = omega arith
-    onto-some (m ∷ ls) = omega arith
-
-    go : First b l → (0 < length l → 0 < length (lines l)) → 0 < length (lines (b ∷ l))
-    go (lf e q) ih = omega (arith, ap length q)
-    go (cr e q) ih = omega (arith, ap length q, ih (starts-some 10 l (both-right (eqb b 13) (starts 10 l) e)))
-    go (byte e q) ih = omega (arith, ap length q, onto-some (lines l))
-
 -- ---- their weight
 pub lines-weight : (x : List ℕ) → weight (lines x) ≤ suc (length x)
 unfolding lines onto
@@ -84,4 +58,4 @@ lines-weight (b ∷ l) = go (first b l) l refl (lines-weight l)
     go (lf e q) m n h = omega (arith, ap weight q, h)
     go (cr e q) m n h = omega (arith, ap weight q, h)
     go (byte e q) [] n h = let z : weight (lines (b ∷ l)) ≡ 2 = ap weight (q ∙ ap (λ (y : List ℕ). onto b (lines y)) n) in omega (arith, z)
-    go (byte e q) (a ∷ m) n h = omega (arith, ap weight q, onto-weight b (lines l) (some-line l (omega (arith, ap length n))), h)
+    go (byte e q) (a ∷ m) n h = omega (arith, ap weight q, onto-weight b (lines l) (lines-some l (omega (arith, ap length n))), h)

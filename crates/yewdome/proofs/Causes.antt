@@ -1,12 +1,13 @@
 -- The causes as a number, and when the lengths of a field, as it came and as it was written, show that there are none. Assumes nothing.
 use Prim.Native.Nat.{ℕ, _+_, _*_, _≤_, _<_}
 use mathlib.Core.Path.{_≡_, refl, sym, ap, _∙_}
-use mathlib.Core.Bool.{Bool, true, false, not, _||_, false≢true}
+use mathlib.Core.Bool.{Bool, true, false, not, _||_}
 use mathlib.Core.List.{List, [], _∷_}
 use native.Mathlib.Omega.{arith}
 use lib.Dec.{ltb, eqb}
 use lib.ListN.{length, drop, getD, length-append}
 use lib.Seq.{length-take-le}
+use borrow.Author.Tests.{eqb-true, ne-eqb}
 use Rattle.errors.specs.Refusals.{Reply, accepted, refused}
 use Rattle.party.specs.declared.PartyOption.{PartyOption}
 use Rattle.party.specs.declared.Party.{Party}
@@ -21,6 +22,7 @@ use Rattle.kept.specs.declared.Causes.{Causes}
 use Rattle.kept.specs.Kept.{causesOf, isNone, Kept, keeping, keptOf}
 use Rattle.kept.specs.Fields.{fieldCauses, causesBy}
 use Rattle.kept.proofs.FieldExact.{field-less}
+use Rattle.flat.specs.Flat.{bit}
 use Rattle.yewdome.specs.Interface.{codeOf, cause, causesCode, keptCode}
 use Rattle.yewdome.specs.Code.{Named, WasRead, WasFiled}
 
@@ -33,17 +35,56 @@ pub causes-most : (c : Causes) → causesCode c ≤ 31
 causes-most c =
     omega (arith, cause-most (c .«inner_cr») 1, cause-most (c .«last_lf») 2, cause-most (c .«after_bic») 4, cause-most (c .blanks) 8, cause-most (c .«closing_cr») 16)
 
--- it is 0 where there is none
-pub none-code : (c : Causes) → isNone c ≡ true → causesCode c ≡ 0
-none-code c = go (c .«inner_cr») (c .«last_lf») (c .«after_bic») (c .blanks) (c .«closing_cr»)
+-- it is 0 exactly where there is none
+pub code-none : (c : Causes) → eqb (causesCode c) 0 ≡ isNone c
+code-none c = go (c .«inner_cr») (c .«last_lf») (c .«after_bic») (c .blanks) (c .«closing_cr»)
   where
-    go : (p q r s t : Bool) → not (p || q || r || s || t) ≡ true → cause p 1 + cause q 2 + cause r 4 + cause s 8 + cause t 16 ≡ 0
-    go true q r s t e = absurd (false≢true e)
-    go false true r s t e = absurd (false≢true e)
-    go false false true s t e = absurd (false≢true e)
-    go false false false true t e = absurd (false≢true e)
-    go false false false false true e = absurd (false≢true e)
-    go false false false false false e = refl
+    sum : Bool → Bool → Bool → Bool → Bool → ℕ
+    sum p q r s t = cause p 1 + cause q 2 + cause r 4 + cause s 8 + cause t 16
+
+    go : (p q r s t : Bool) → eqb (sum p q r s t) 0 ≡ not (p || q || r || s || t)
+    go true q r s t = ne-eqb (sum true q r s t) 0 (λ z. omega (arith, z))
+    go false true r s t = ne-eqb (sum false true r s t) 0 (λ z. omega (arith, z))
+    go false false true s t = ne-eqb (sum false false true s t) 0 (λ z. omega (arith, z))
+    go false false false true t = ne-eqb (sum false false false true t) 0 (λ z. omega (arith, z))
+    go false false false false true = refl
+    go false false false false false = refl
+
+-- no two causes tell the same number
+cause-bit : (t : Bool) (n : ℕ) → cause t n ≡ n * bit t
+cause-bit true n = omega arith
+cause-bit false n = omega arith
+
+bit-most : (t : Bool) → bit t ≤ 1
+bit-most true = omega arith
+bit-most false = omega arith
+
+bit-one : (t u : Bool) → bit t ≡ bit u → t ≡ u
+bit-one true true e = refl
+bit-one true false e = absurd (omega (arith, e))
+bit-one false true e = absurd (omega (arith, e))
+bit-one false false e = refl
+
+-- a bit, and twice what the other bits make
+lower : (a b m n : ℕ) → a ≤ 1 → b ≤ 1 → a + 2 * m ≡ b + 2 * n → (a ≡ b) × (m ≡ n)
+lower a b m n h k e = (omega (arith, h, k, e), omega (arith, h, k, e))
+
+pub causes-one : (c d : Causes) → causesCode c ≡ causesCode d → c ≡ d
+causes-one c d e =
+    let w1 = lower (bit (c .«inner_cr»)) (bit (d .«inner_cr»)) _ _ (bit-most (c .«inner_cr»)) (bit-most (d .«inner_cr»)) (told c ∙ e ∙ sym (told d)) in
+    let w2 = lower (bit (c .«last_lf»)) (bit (d .«last_lf»)) _ _ (bit-most (c .«last_lf»)) (bit-most (d .«last_lf»)) (w1 .1) in
+    let w3 = lower (bit (c .«after_bic»)) (bit (d .«after_bic»)) _ _ (bit-most (c .«after_bic»)) (bit-most (d .«after_bic»)) (w2 .1) in
+    let w4 = lower (bit (c .blanks)) (bit (d .blanks)) _ _ (bit-most (c .blanks)) (bit-most (d .blanks)) (w3 .1) in
+    λ i. record {
+      «inner_cr» = bit-one (c .«inner_cr») (d .«inner_cr») (w1 .0) i;
+      «last_lf» = bit-one (c .«last_lf») (d .«last_lf») (w2 .0) i;
+      «after_bic» = bit-one (c .«after_bic») (d .«after_bic») (w3 .0) i;
+      blanks = bit-one (c .blanks) (d .blanks) (w4 .0) i;
+      «closing_cr» = bit-one (c .«closing_cr») (d .«closing_cr») (w4 .1) i;
+    }
+  where
+    told : (c : Causes) → bit (c .«inner_cr») + 2 * (bit (c .«last_lf») + 2 * (bit (c .«after_bic») + 2 * (bit (c .blanks) + 2 * bit (c .«closing_cr»)))) ≡ causesCode c
+    told c = omega (arith, cause-bit (c .«inner_cr») 1, cause-bit (c .«last_lf») 2, cause-bit (c .«after_bic») 4, cause-bit (c .blanks) 8, cause-bit (c .«closing_cr») 16)
 
 -- what is told of a body: 41, a refusal, or the causes
 module _ (known : Bool) (k : Kept) where
@@ -89,7 +130,7 @@ module _ (page : List ℕ) (at : ℕ) (bytes : List ℕ) (moved written : ℕ) (
   filed-none h e = sym (ap (λ (x : ReadOutcome). causesCode (causesBy page at x)) (f .was .read) ∙ go (isNone (causesBy page at (aRecord p))) refl)
     where
       go : (t : Bool) → isNone (causesBy page at (aRecord p)) ≡ t → causesCode (causesBy page at (aRecord p)) ≡ 0
-      go true n = none-code (causesBy page at (aRecord p)) n
+      go true n = eqb-true (causesCode (causesBy page at (aRecord p))) 0 (code-none (causesBy page at (aRecord p)) ∙ n)
       go false n =
           let k = field-less page at p (f .was .read) n in
           absurd (omega (arith, k, h, e, f .moves, f .writes, record-gave page at p (f .was .read) .next, length-append (writtenField (said p)) (10 ∷ []), length-take-le (runs s) s (runs-most s)))

@@ -1,60 +1,56 @@
 -- A page whose fields are kept is filed as its very bytes, and a step of filing tells whether its field is. Assumes nothing.
-use Prim.Native.Nat.{ℕ, zero, suc, _+_, _-_, _≤_, _<_, min}
+use Prim.Native.Nat.{ℕ, zero, suc, _+_, _-_, _/_, _≤_, _<_, min}
 use mathlib.Core.Path.{_≡_, refl, sym, ap, _∙_, subst}
-use mathlib.Core.Bool.{Bool, true, false, not, _&&_, _||_, false≢true, true≢false}
+use mathlib.Core.Bool.{Bool, true, false, _&&_, false≢true, true≢false}
 use mathlib.Core.List.{List, [], _∷_, _++_, map, append-assoc, append-nil}
 use native.Mathlib.Omega.{arith}
-use lib.Dec.{eqb}
+use lib.Dec.{ltb, eqb}
 use lib.ListN.{length, take, drop, getD, length-append, length-drop, length-take}
-use lib.Seq.{drop-drop, length-take-le}
-use native.Mathlib.Nat.{zero-add, suc-add}
-use borrow.Author.Tests.{eqb-true, eqb-false, eq-eqb, ne-eqb, le-leb, leb-true, lt-ltb}
-use Rattle.errors.specs.Refusals.{Reply, accepted, refused}
+use lib.Seq.{drop-drop, length-take-le, take-append-add}
+use borrow.Author.Tests.{eqb-true, eqb-false, eq-eqb, ltb-true, le-leb, leb-true, lt-ltb}
+use Rattle.errors.specs.Refusals.{Reply, accepted}
 use Rattle.party.specs.declared.PartyOption.{PartyOption}
 use Rattle.party.specs.declared.Party.{Party}
 use Rattle.party.specs.Decides.{Decides}
 use Rattle.party.specs.Party.{Said, said}
 use Rattle.field_utils.specs.Lines.{withoutCr}
-use Rattle.field_utils.proofs.Tests.{both-left, both-right, either-left}
+use Rattle.field_utils.proofs.Tests.{both-left, both-right, both, either-left}
 use Rattle.reader.specs.Options.{read}
 use Rattle.writer.specs.Writing.{joined, writtenBody, writtenField, put}
 use Rattle.writer.specs.Given.{Given}
 use Rattle.writer.proofs.Relined.{All}
-use Rattle.writer.proofs.Weights.{joined-weight}
+use Rattle.writer.proofs.Sizes.{joined-length}
 use Rattle.writer.proofs.Back.{accepted-is}
 use Rattle.writer.proofs.Theorems.{necessary}
 use Rattle.page_reader.specs.Pages.{pageMost, lessCr, runs, ReadOutcome, aRecord, theEnd, aRefusal, PageRead, readField, readAt}
 use Rattle.page_reader.specs.Reads.{Read, readHere, isEnd, isLast, readsFrom, reads}
 use Rattle.page_reader.proofs.Cases.{runs-most}
 use Rattle.page_reader.proofs.Runs.{Closed, runs-closed}
-use Rattle.page_reader.proofs.Moves.{fieldAt}
+use Rattle.page_reader.proofs.Moves.{fieldAt, next-most}
 use Rattle.page_reader.proofs.Records.{Gave, refusal≢record, end≢record, record-gave, end-gave, end-first}
-use Rattle.page_writer.specs.Adding.{anyBoundary, isCarried, hasSpace, withLf, endLine, Filed, positionAfter, refusal, putting, asked, recordReply, addReply, freeBeside, add}
-use Rattle.page_writer.specs.WholePage.{OpenPage, addStep, Model, modelBy, modelStep, kept, pageOf}
-use Rattle.page_writer.specs.Beside.{Beside, noIndex}
-use Rattle.page_writer.specs.Fold.{Step, run}
+use Rattle.page_writer.specs.Adding.{anyBoundary, isCarried, hasSpace, withLf, endLine, Filed, positionAfter, refusal, asked, recordReply}
+use Rattle.page_writer.specs.WholePage.{OpenPage, addStep, isAccepted, Model, modelBy, modelStep, kept, pageOf}
+use Rattle.page_writer.specs.Beside.{noIndex}
+use Rattle.page_writer.specs.Fold.{Step, run, acceptedOf}
 use Rattle.page_writer.specs.Demand3.{adds, acceptedAdds, closing, WholePage}
 use Rattle.page_writer.proofs.Pieces.{upToBoundary, runs-cut}
 use Rattle.page_writer.proofs.Structure.{Lined, Sound, page-tail, ending, reads as sound-reads}
 use Rattle.page_writer.proofs.Records.{tagged-lined}
 use Rattle.page_writer.proofs.Alone.{cut-weight, alone-most, alone-exact}
 use Rattle.page_writer.proofs.Invariant.{Fit, fieldsOf}
-use Rattle.page_writer.proofs.Addings.{position≢refusal}
-use Rattle.page_writer.proofs.Theorems.{whole-page}
-use Rattle.kept.specs.declared.Causes.{Causes}
+use Rattle.page_writer.proofs.Theorems.{closing-within, whole-page}
 use Rattle.kept.specs.Kept.{endsLf, isNone}
 use Rattle.kept.specs.Fields.{cameAt, causesBy, isRecord, isKeptAt}
 use Rattle.kept.proofs.Laws.{ends-by}
 use Rattle.kept.proofs.FieldExact.{field-decided}
-use Rattle.yewdome.specs.Filing.{recordOf, recordsIn, recordsOf, filedAs, fileOutcome, fileStep}
-use Rattle.yewdome.specs.Interface.{cause, causesCode, causedNumber}
-use Rattle.yewdome.specs.KeptPage.{FiledExact, areKept, isStray, fromOpening, firstAt, lastAt, between, partyLines, FiledAsCame, KeptPage, KeptSpace}
-use Rattle.yewdome.proofs.Causes.{none-code}
-
--- ---- a list of which more is taken than one in front has
-take-over : {A : Type 0} (xs ys : List A) (n : ℕ) → take (length xs + n) (xs ++ ys) ≡ xs ++ take n ys
-take-over [] ys n = ap (λ (k : ℕ). take k ys) (zero-add n)
-take-over (x ∷ xs) ys n = ap (λ (k : ℕ). take k (x ∷ (xs ++ ys))) (suc-add (length xs) n) ∙ ap (_∷_ x) (take-over xs ys n)
+use Rattle.yewdome.specs.Filing.{recordOf, recordsIn, recordsOf, filedAs, fileOutcome, fileStep, openPage}
+use Rattle.yewdome.specs.Interface.{causesCode, causedNumber, numberStep, fileNumbers}
+use Rattle.yewdome.specs.Code.{Named}
+use Rattle.yewdome.specs.KeptPage.{FiledStep, FiledExact, areKept, isStray, fromOpening, firstAt, lastAt, between, partyLines, FiledAsCame, KeptPage, KeptSpace, arePlain, answersFrom, ToldPage}
+use Rattle.yewdome.proofs.Pages.{add-taken, replyOf, page-line}
+use Rattle.yewdome.proofs.Walks.{named-by, ended-by, answer-end}
+use Rattle.yewdome.proofs.Theorems.{high}
+use Rattle.yewdome.proofs.Causes.{code-none}
 
 -- ---- a record that a reader gave is one that a reader can give
 given-by : (o : PartyOption) (body : List ℕ) {p : Party} → read o body .reply ≡ accepted → read o body .party ≡ p → Given p
@@ -106,7 +102,7 @@ module _ (page : List ℕ) (at : ℕ) (p : Party) (q : readAt page at .outcome �
           let ls = lined .later in
           let ran : runs s ≡ length (joined (lined .first ∷ upToBoundary ls)) =
           ap runs (splits ∙ ap (λ (l : List ℕ). l ++ 10 ∷ rest) (lined .joins)) ∙ runs-cut (lined .first) ls rest (lined .lines) (closed .follows) in
-          absurd (omega (arith, ran, field-length, ap length (lined .joins), cut-weight ls e, joined-weight (lined .first ∷ ls) (omega arith), joined-weight (lined .first ∷ upToBoundary ls) (omega arith)))
+          absurd (omega (arith, ran, field-length, ap length (lined .joins), cut-weight ls e, joined-length (lined .first ∷ ls) (omega arith), joined-length (lined .first ∷ upToBoundary ls) (omega arith)))
 
   -- read by itself it is the field that was read on the page
   text-is : withoutCr field ≡ fieldAt page at
@@ -137,7 +133,7 @@ module _ (page : List ℕ) (at : ℕ) (p : Party) (q : readAt page at .outcome �
       let m : length (withLf field) + (last - readAt page at .next) ≡ last - at = omega (arith, next-is, h) in
       let d : rest ≡ drop (readAt page at .next) page = drop-drop (suc (runs s)) at page ∙ ap (λ (k : ℕ). drop k page) (let z : at + suc (runs s) ≡ readAt page at .next = omega (arith, next-is, field-length, length-append field (10 ∷ [])) in z) in
       let w : s ≡ withLf field ++ drop (readAt page at .next) page = splits ∙ sym (append-assoc field (10 ∷ []) rest) ∙ ap (_++_ (withLf field)) d in
-      sym (take-over (withLf field) (drop (readAt page at .next) page) (last - readAt page at .next)) ∙ ap (take (length (withLf field) + (last - readAt page at .next))) (sym w) ∙ ap (λ (k : ℕ). take k s) m
+      sym (take-append-add (withLf field) (drop (readAt page at .next) page) (last - readAt page at .next)) ∙ ap (take (length (withLf field) + (last - readAt page at .next))) (sym w) ∙ ap (λ (k : ℕ). take k s) m
 
 -- ---- the reads of a page from a position on, of which all but the last give records of kept fields, and the last the end
 record Came (page : List ℕ) (at : ℕ) (rs : List Read) : Type 0 where
@@ -248,25 +244,27 @@ stray-none (aRecord p) later e = absurd (false≢true e)
 stray-none theEnd later e = refl
 stray-none (aRefusal k n) later e = refl
 
+-- the reads after the first, by whether that is the last
+abbrev tailBy : List ℕ → Bool → List Read
+tailBy page l = elim l as (λ x. List Read) [ true ↦ [] | false ↦ readsFrom (length page) page (readAt page 0 .next) ]
+
+opening-by : (page : List ℕ) {t l : Bool} → isStray (readAt page 0 .outcome) ≡ t → isLast (readAt page 0) 0 ≡ l → fromOpening (reads page) ≡ (elim t as (λ x. List Read) [ true ↦ tailBy page l | false ↦ reads page ])
+unfolding readsFrom
+opening-by page s q = λ i. elim (s i) as (λ x. List Read) [ true ↦ tailBy page (q i) | false ↦ reads page ]
+
+stray-records : (page : List ℕ) → isStray (readAt page 0 .outcome) ≡ true → isLast (readAt page 0) 0 ≡ false → recordsOf page ≡ recordsIn (tailBy page false)
+unfolding readsFrom recordsIn
+stray-records page s q =
+    ap (λ (b : Bool). recordOf (readAt page 0 .outcome) (recordsIn (tailBy page b))) q ∙ stray-none (readAt page 0 .outcome) (recordsIn (tailBy page false)) s
+
 opened : (page : List ℕ) → areKept page (fromOpening (reads page)) ≡ true → Opened page
-unfolding readsFrom recordsIn areKept
+unfolding areKept
 opened page e = go (isStray (readAt page 0 .outcome)) refl (isLast (readAt page 0) 0) refl
   where
-    next : ℕ
-    next = readAt page 0 .next
-
-    -- the reads after the first
-    tail : Bool → List Read
-    tail l = elim l as (λ x. List Read) [ true ↦ [] | false ↦ readsFrom (length page) page next ]
-
-    by : {t l : Bool} → isStray (readAt page 0 .outcome) ≡ t → isLast (readAt page 0) 0 ≡ l → fromOpening (reads page) ≡ (elim t as (λ x. List Read) [ true ↦ tail l | false ↦ reads page ])
-    by {t} {l} s q = (λ i. elim (s i) as (λ x. List Read) [ true ↦ tail (q i) | false ↦ reads page ])
-
     go : (t : Bool) → isStray (readAt page 0 .outcome) ≡ t → (l : Bool) → isLast (readAt page 0) 0 ≡ l → Opened page
-    go false s l q = opened-from page (suc (length page)) 0 (by s q) refl e
-    go true s true q = absurd (false≢true (ap (areKept page) (sym (by s q)) ∙ e))
-    go true s false q =
-        opened-from page (length page) next (by s q) (ap (λ (b : Bool). recordOf (readAt page 0 .outcome) (recordsIn (tail b))) q ∙ stray-none (readAt page 0 .outcome) (recordsIn (readsFrom (length page) page next)) s) e
+    go false s l q = opened-from page (suc (length page)) 0 (opening-by page s q) refl e
+    go true s true q = absurd (false≢true (ap (areKept page) (sym (opening-by page s q)) ∙ e))
+    go true s false q = opened-from page (length page) (readAt page 0 .next) (opening-by page s q) (stray-records page s q) e
 
 -- ---- the page
 module _ (page : List ℕ) (k : areKept page (fromOpening (reads page)) ≡ true) where
@@ -306,67 +304,44 @@ module _ (page : List ℕ) (k : areKept page (fromOpening (reads page)) ≡ true
         le-leb (length (partyLines page) + 2) (min (length buffer) pageMost)
         (omega (arith, two lf, room, end-gave page last (o .came-at .ended) .most, ap length (part-is ∙ ap fieldsOf (o .records) ∙ o .came-at .fields), length-take (last - o .at) (drop (o .at) page)))
 
-    module _ (space : hasSpace (length buffer) (length (partyLines page) + 2) ≡ true) where
-      fields-length : length (fieldsOf ps) + 2 ≤ min (length buffer) pageMost
-      fields-length = let n = leb-true (length (partyLines page) + 2) (min (length buffer) pageMost) space in omega (arith, n, ap length part-is)
-
+    -- where all were added, the closed page is their fields
+    module _ (all : acceptedAdds noIndex ps buffer ≡ ps) (closable : 2 ≤ length buffer) where
       w : WholePage noIndex ps buffer
       w = whole-page noIndex tt ps buffer
 
-      filed : (acceptedAdds noIndex ps buffer ≡ ps) × (adds noIndex ps buffer .state .position ≡ length (fieldsOf ps))
-      filed =
-          let m = model-all (length buffer) ps (record { list = []; position = 0 }) all-fit (omega (arith, fields-length)) in
-          (w .list ∙ m .0, w .position ∙ (m .1 ∙ zero-add (length (fieldsOf ps))))
+      abbrev to : ℕ
+      to = adds noIndex ps buffer .state .position + 2
 
-      answers : closing noIndex ps buffer .answer ≡ positionAfter (length (partyLines page) + 2)
-      answers = w .closes (omega (arith, fields-length)) ∙ ap (λ (n : ℕ). positionAfter (n + 2)) (filed .1 ∙ ap length (sym part-is))
+      bytes : take to (closing noIndex ps buffer .buffer) ≡ partyLines page ++ endLine
+      bytes =
+          w .closed (w .closes closable) .bytes ∙ ap (λ (x : List Party). pageOf (map kept x) endLine) all ∙ page-tail (map kept ps) endLine ∙ ap (λ (x : List ℕ). x ++ endLine) (sym part-is)
+
+      ends : to ≡ length (partyLines page) + 2
+      ends = omega (arith, ap length bytes, length-append (partyLines page) endLine, length-take to (closing noIndex ps buffer .buffer), closing-within noIndex tt ps buffer (w .closes closable))
 
       as-came : FiledAsCame page buffer
-      as-came =
-          let c = w .closed answers in
-          record {
-            answer = answers;
-            bytes = c .bytes ∙ ap (λ (x : List Party). pageOf (map kept x) endLine) (filed .0) ∙ page-tail (map kept ps) endLine ∙ ap (λ (x : List ℕ). x ++ endLine) (sym part-is);
-            after = c .after;
-          }
+      as-came = record {
+        answer = w .closes closable ∙ ap positionAfter ends;
+        bytes = ap (λ (n : ℕ). take n (closing noIndex ps buffer .buffer)) (sym ends) ∙ bytes;
+        after = ap (λ (n : ℕ). drop n (closing noIndex ps buffer .buffer)) (sym ends) ∙ w .closed (w .closes closable) .after ∙ ap (λ (n : ℕ). drop n buffer) ends;
+      }
+
+    -- with space for all, all are
+    spaced : hasSpace (length buffer) (length (partyLines page) + 2) ≡ true → FiledAsCame page buffer
+    spaced space =
+        let n = leb-true (length (partyLines page) + 2) (min (length buffer) pageMost) space in
+        let m = model-all (length buffer) ps (record { list = []; position = 0 }) all-fit (omega (arith, n, ap length part-is)) in
+        as-came (whole-page noIndex tt ps buffer .list ∙ m .0) (omega (arith, n))
 
 -- a page whose fields are kept is filed as its very bytes, from its first opening to its end line, with space for them
 pub kept-page : (page buffer : List ℕ) → KeptPage page buffer
-kept-page page buffer k = as-came page k buffer
+kept-page page buffer k = spaced page k buffer
 
 -- which there is in a buffer as long as the page, where that ends in LF
 pub kept-space : (page buffer : List ℕ) → KeptSpace page buffer
 kept-space page buffer k = kept-space-by page k buffer
 
 -- ---- a step
-none-by : (c : Causes) → isNone c ≡ false → (causesCode c ≡ 0 → ⊥)
-none-by c = go (c .«inner_cr») (c .«last_lf») (c .«after_bic») (c .blanks) (c .«closing_cr»)
-  where
-    go : (p q r s t : Bool) → not (p || q || r || s || t) ≡ false → (cause p 1 + cause q 2 + cause r 4 + cause s 8 + cause t 16 ≡ 0 → ⊥)
-    go true q r s t e z = omega (arith, z)
-    go false true r s t e z = omega (arith, z)
-    go false false true s t e z = omega (arith, z)
-    go false false false true t e z = omega (arith, z)
-    go false false false false true e z = omega (arith, z)
-    go false false false false false e z = true≢false e
-
--- the number of the causes is 0 exactly where there is none
-code-is : (c : Causes) → eqb (causesCode c) 0 ≡ isNone c
-code-is c = go (isNone c) refl
-  where
-    go : (t : Bool) → isNone c ≡ t → eqb (causesCode c) 0 ≡ isNone c
-    go true e = eq-eqb (causesCode c) 0 (none-code c e) ∙ sym e
-    go false e = ne-eqb (causesCode c) 0 (none-by c e) ∙ sym e
-
--- what an accepted add puts
-add-puts : (buffer : List ℕ) (at : ℕ) (b : Beside) (s : Said) {n : ℕ} → add buffer at b s .answer ≡ positionAfter n → add buffer at b s .buffer ≡ put buffer at (withLf (writtenField s))
-unfolding add
-add-puts buffer at b s e = go (addReply buffer at (freeBeside b) s) e
-  where
-    go : (r : Reply) {n : ℕ} → putting r buffer at (withLf (writtenField s)) .answer ≡ positionAfter n → putting r buffer at (withLf (writtenField s)) .buffer ≡ put buffer at (withLf (writtenField s))
-    go accepted q = refl
-    go (refused k n) q = absurd (position≢refusal (sym q))
-
 module _ (page : List ℕ) (s : OpenPage) (at : ℕ) (p : Party) where
   abbrev step : ReadOutcome → Step OpenPage ReadOutcome
   step x = fileOutcome s x
@@ -374,6 +349,8 @@ module _ (page : List ℕ) (s : OpenPage) (at : ℕ) (p : Party) where
   -- the read gave the record, and the add took it
   record Took : Type 0 where
     reads : readAt page at .outcome ≡ aRecord p
+    position : ℕ
+    adds-it : addStep s p .answer ≡ positionAfter position
     puts : step (readAt page at .outcome) .state .buffer ≡ put (s .buffer) (s .position) (withLf (writtenField (said p)))
 
   took : step (readAt page at .outcome) .answer ≡ aRecord p → Took
@@ -384,7 +361,9 @@ module _ (page : List ℕ) (s : OpenPage) (at : ℕ) (p : Party) where
           let same : q ≡ p = cc in
           record {
             reads = r ∙ ap aRecord same;
-            puts = ap (λ (x : ReadOutcome). step x .state .buffer) r ∙ add-puts (s .buffer) (s .position) (s .index) (said q) a ∙ ap (λ (x : Party). put (s .buffer) (s .position) (withLf (writtenField (said x)))) same;
+            position = n;
+            adds-it = ap (λ (x : Party). addStep s x .answer) (sym same) ∙ a;
+            puts = ap (λ (x : ReadOutcome). step x .state .buffer) r ∙ add-taken (s .buffer) (s .position) (s .index) (said q) a .1 ∙ ap (λ (x : Party). put (s .buffer) (s .position) (withLf (writtenField (said x)))) same;
           }
       added q r (refusal k n) a t = absurd (refusal≢record t)
 
@@ -393,12 +372,131 @@ module _ (page : List ℕ) (s : OpenPage) (at : ℕ) (p : Party) where
       go theEnd r t = absurd (end≢record t)
       go (aRefusal k n) r t = absurd (refusal≢record t)
 
-  -- a step of filing tells by its answer whether the field that it puts on the new page is the field as it came
-  pub filed-exact : fileStep s (readHere page at) .answer ≡ aRecord p → FiledExact page s at p
-  filed-exact e =
+  filed-step : step (readAt page at .outcome) .answer ≡ aRecord p → FiledStep page s at p
+  filed-step e =
       let t = took e in
+      let k = causesCode (causesBy page at (aRecord p)) in
       record {
         puts = t .puts;
-        tells = ap (causedNumber page (readHere page at)) e;
-        exact = subst (λ (b : Bool). Decides b (writtenField (said p) ≡ cameAt page at)) (sym (code-is (causesBy page at (aRecord p)))) (field-decided page at p (t .reads));
+        tells = ap (λ (x : ReadOutcome). causedNumber page (readHere page at) x / 131072) e ∙ high 131072 k (readAt page at .next - at) (omega (arith, next-most page at));
+        exact = subst (λ (b : Bool). Decides b (writtenField (said p) ≡ cameAt page at)) (sym (code-none (causesBy page at (aRecord p)))) (field-decided page at p (t .reads));
       }
+
+-- a step of filing tells by its answer whether the field that it puts on the new page is the field as it came
+pub filed-exact : (page : List ℕ) (s : OpenPage) (at : ℕ) → FiledExact page s at
+filed-exact page s at p e = filed-step page s at p e
+
+-- ---- the answers of filing: where they are plain, every field is kept and every record was added
+module _ (page : List ℕ) where
+  record Plain (s : OpenPage) (rs : List Read) : Type 0 where
+    kept-all : areKept page rs ≡ true
+    all-added : acceptedOf (recordsIn rs) (map isAccepted (run addStep s (recordsIn rs) .answers)) ≡ recordsIn rs
+
+  plain-last : (s : OpenPage) (at : ℕ) → isEnd (readAt page at .outcome) ≡ true → Plain s (readHere page at ∷ [])
+  unfolding recordsIn areKept run acceptedOf
+  plain-last s at e =
+      let none : recordsIn (readHere page at ∷ []) ≡ [] = ap (λ (x : ReadOutcome). recordOf x []) (ended-is (readAt page at .outcome) e) in
+      record { kept-all = e; all-added = ap (λ (ps : List Party). acceptedOf ps (map isAccepted (run addStep s ps .answers))) none ∙ sym none }
+
+  plain-next : (s : OpenPage) (at : ℕ) (p : Party) → readAt page at .outcome ≡ aRecord p → isKeptAt page at ≡ true → {n : ℕ} → addStep s p .answer ≡ positionAfter n → (r : Read) (rs : List Read)
+      → Plain (addStep s p .state) (r ∷ rs) → Plain s (readHere page at ∷ r ∷ rs)
+  unfolding recordsIn areKept run acceptedOf
+  plain-next s at p q k a r rs w =
+      let ps = recordsIn (r ∷ rs) in
+      let some : recordsIn (readHere page at ∷ r ∷ rs) ≡ p ∷ ps = ap (λ (x : ReadOutcome). recordOf x ps) q in
+      let added : acceptedOf (p ∷ ps) (map isAccepted (run addStep s (p ∷ ps) .answers)) ≡ p ∷ ps =
+      ap (λ (f : Filed). acceptedOf (p ∷ ps) (isAccepted f ∷ map isAccepted (run addStep (addStep s p .state) ps .answers))) a ∙ ap (_∷_ p) (w .all-added) in
+      record {
+        kept-all = both (isKeptAt page at) (areKept page (r ∷ rs)) k (w .kept-all);
+        all-added = ap (λ (xs : List Party). acceptedOf xs (map isAccepted (run addStep s xs .answers))) some ∙ added ∙ sym some;
+      }
+
+  -- a number below 65,536 is that of a record that was filed, and has no cause
+  plain-step : (s : OpenPage) (at : ℕ) → numberStep page s (readHere page at) .answer < 65536 → (p : Party) × Took page s at p × (isKeptAt page at ≡ true)
+  plain-step s at h = go (fileStep s (readHere page at) .answer) refl
+    where
+      number : {x : ReadOutcome} → fileStep s (readHere page at) .answer ≡ x → numberStep page s (readHere page at) .answer ≡ causedNumber page (readHere page at) x
+      number e = ap (causedNumber page (readHere page at)) e
+
+      go : (x : ReadOutcome) → fileStep s (readHere page at) .answer ≡ x → (p : Party) × Took page s at p × (isKeptAt page at ≡ true)
+      go (aRecord p) e =
+          let t = took page s at p e in
+          let c = causesBy page at (aRecord p) in
+          let none : causesCode c ≡ 0 = omega (arith, h, number e) in
+          let keeps : isNone c ≡ true = sym (code-none c) ∙ eq-eqb (causesCode c) 0 none in
+          (p, t, ap (λ (x : ReadOutcome). isRecord x && isNone (causesBy page at x)) (t .reads) ∙ keeps)
+      go theEnd e = absurd (omega (arith, h, number e))
+      go (aRefusal k n) e = absurd (omega (arith, h, number e, subst (λ (x : ReadOutcome). Named (replyOf x)) e (named-by true s (readAt page at .outcome) (page-line page at)) .0))
+
+  plain-end : (s : OpenPage) (at : ℕ) → eqb (numberStep page s (readHere page at) .answer / 65536) 1 ≡ true → isEnd (readAt page at .outcome) ≡ true
+  plain-end s at h =
+      sym (ended-by true s (readAt page at .outcome))
+      ∙ answer-end page at true (fileStep s (readHere page at) .answer) (named-by true s (readAt page at .outcome) (page-line page at)) (eqb-true (numberStep page s (readHere page at) .answer / 65536) 1 h)
+
+  -- the numbers of a run over reads
+  abbrev numbers : OpenPage → List Read → List ℕ
+  numbers s rs = run (numberStep page) s rs .answers
+
+  plain : (n at : ℕ) (s : OpenPage) → arePlain (numbers s (readsFrom n page at)) ≡ true → Plain s (readsFrom n page at)
+  unfolding readsFrom run arePlain
+  plain zero at s e = absurd (false≢true e)
+  plain (suc n) at s e = go (isLast (readAt page at) at) refl (readsFrom n page (readAt page at .next)) refl (plain n (readAt page at .next)) e
+    where
+      next : ℕ
+      next = readAt page at .next
+
+      tail : Bool → List Read
+      tail l = elim l as (λ x. List Read) [ true ↦ [] | false ↦ readsFrom n page next ]
+
+      more : (r : Read) (rs : List Read) → ((t : OpenPage) → arePlain (numbers t (r ∷ rs)) ≡ true → Plain t (r ∷ rs)) → arePlain (numbers s (readHere page at ∷ r ∷ rs)) ≡ true → Plain s (readHere page at ∷ r ∷ rs)
+      more r rs ih k =
+          let c = numberStep page s (readHere page at) in
+          let w = plain-step s at (ltb-true (c .answer) 65536 (both-left (ltb (c .answer) 65536) (arePlain (numbers (c .state) (r ∷ rs))) k)) in
+          let later = ih (c .state) (both-right (ltb (c .answer) 65536) (arePlain (numbers (c .state) (r ∷ rs))) k) in
+          plain-next s at (w .0) (w .1 .reads) (w .2) (w .1 .adds-it) r rs (subst (λ (t : OpenPage). Plain t (r ∷ rs)) (ap (λ (x : ReadOutcome). fileOutcome s x .state) (w .1 .reads)) later)
+
+      go : (l : Bool) → isLast (readAt page at) at ≡ l → (rs : List Read) → readsFrom n page next ≡ rs → ((t : OpenPage) → arePlain (numbers t (readsFrom n page next)) ≡ true → Plain t (readsFrom n page next))
+          → arePlain (numbers s (readHere page at ∷ tail l)) ≡ true → Plain s (readHere page at ∷ tail l)
+      go true l rs q ih k = plain-last s at (plain-end s at k)
+      go false l [] q ih k = subst (λ (rs : List Read). Plain s (readHere page at ∷ rs)) (sym q) (plain-last s at (plain-end s at (ap (λ (rs : List Read). arePlain (numbers s (readHere page at ∷ rs))) (sym q) ∙ k)))
+      go false l (r ∷ rs) q ih k =
+          subst (λ (x : List Read). Plain s (readHere page at ∷ x)) (sym q)
+          (more r rs (subst (λ (x : List Read). (t : OpenPage) → arePlain (numbers t x) ≡ true → Plain t x) q ih) (ap (λ (x : List Read). arePlain (numbers s (readHere page at ∷ x))) (sym q) ∙ k))
+
+-- ---- the page that the answers tell
+module _ (page buffer : List ℕ) (closable : 2 ≤ length buffer) where
+  abbrev start : OpenPage
+  start = openPage buffer 0
+
+  told-by : (rs : List Read) → fromOpening (reads page) ≡ rs → recordsOf page ≡ recordsIn rs → Plain page start rs → FiledAsCame page buffer
+  told-by rs q r w =
+      as-came page (ap (areKept page) q ∙ w .kept-all) buffer
+      (ap (λ (ps : List Party). acceptedOf ps (map isAccepted (run addStep start ps .answers))) r ∙ w .all-added ∙ sym r) closable
+
+  -- what stands before the first opening is not filed
+  stray-state : (x : ReadOutcome) → isStray x ≡ true → fileOutcome start x .state ≡ start
+  stray-state (aRecord p) e = absurd (false≢true e)
+  stray-state theEnd e = refl
+  stray-state (aRefusal k n) e = refl
+
+  told : arePlain (answersFrom page (fileNumbers page buffer .answers)) ≡ true → FiledAsCame page buffer
+  unfolding readsFrom run arePlain
+  told e = go (isStray (readAt page 0 .outcome)) refl (isLast (readAt page 0) 0) refl
+    where
+      answers : List ℕ
+      answers = fileNumbers page buffer .answers
+
+      by : {t : Bool} → isStray (readAt page 0 .outcome) ≡ t → arePlain (elim t as (λ x. List ℕ) [ true ↦ drop 1 answers | false ↦ answers ]) ≡ true
+      by q = ap (λ (t : Bool). arePlain (elim t as (λ x. List ℕ) [ true ↦ drop 1 answers | false ↦ answers ])) (sym q) ∙ e
+
+      later : {l : Bool} → isStray (readAt page 0 .outcome) ≡ true → isLast (readAt page 0) 0 ≡ l → arePlain (numbers page start (tailBy page l)) ≡ true
+      later {l} t q = (λ i. arePlain (numbers page (sym (stray-state (readAt page 0 .outcome) t) i) (tailBy page (sym q i)))) ∙ by t
+
+      go : (t : Bool) → isStray (readAt page 0 .outcome) ≡ t → (l : Bool) → isLast (readAt page 0) 0 ≡ l → FiledAsCame page buffer
+      go false t l q = told-by (reads page) (opening-by page t q) refl (plain page (suc (length page)) 0 start (by t))
+      go true t true q = absurd (false≢true (later t q))
+      go true t false q = told-by (tailBy page false) (opening-by page t q) (stray-records page t q) (plain page (length page) (readAt page 0 .next) start (later t q))
+
+-- a page of which the answers tell that every field was filed as it came is filed as its very bytes
+pub told-page : (page buffer : List ℕ) → ToldPage page buffer
+told-page page buffer e closable = told page buffer closable e

@@ -12,7 +12,7 @@ use Rattle.errors.proofs.Replies.{must-held, then-second, then-assoc}
 use Rattle.party.specs.declared.Party.{Party}
 use Rattle.party.specs.Party.{Said, said}
 use Rattle.reader.specs.Options.{read}
-use Rattle.writer.specs.Writing.{writtenField}
+use Rattle.writer.specs.Writing.{writtenField, put}
 use Rattle.writer.specs.Given.{isGiven}
 use Rattle.page_reader.specs.declared.PageRead.{PageRead as Read}
 use Rattle.page_reader.specs.declared.ReadOutcome.{ReadOutcome as OutcomeAt}
@@ -45,13 +45,16 @@ add-within buffer at b s =
     (must-then space 24 0 (must (freeBeside b) 31 0) (omega arith) (omega arith) (must-line (freeBeside b) 31 0 (omega arith) (omega arith)))))))
     (λ e. omega (arith, reply-space (length buffer) at (freeBeside b) s (then-second (must (writable buffer at) 21 0) _ e)))
 
--- an accepted add is past the field and its LF
-pub add-position : (buffer : List ℕ) (at : ℕ) (b : Beside) (s : Said) {to : ℕ} → add buffer at b s .answer ≡ positionAfter to → to ≡ at + length (withLf (writtenField s))
+-- an accepted add puts the field and its LF, and is past them
+pub add-taken : (buffer : List ℕ) (at : ℕ) (b : Beside) (s : Said) {to : ℕ} → add buffer at b s .answer ≡ positionAfter to → let text = withLf (writtenField s) in (to ≡ at + length text) × (add buffer at b s .buffer ≡ put buffer at text)
 unfolding add
-add-position buffer at b s {to} e = go (addReply buffer at (freeBeside b) s) e
+add-taken buffer at b s {to} e = go (addReply buffer at (freeBeside b) s) e
   where
-    go : (r : Reply) → putting r buffer at (withLf (writtenField s)) .answer ≡ positionAfter to → to ≡ at + length (withLf (writtenField s))
-    go accepted q = cc
+    text : List ℕ
+    text = withLf (writtenField s)
+
+    go : (r : Reply) → putting r buffer at text .answer ≡ positionAfter to → (to ≡ at + length text) × (putting r buffer at text .buffer ≡ put buffer at text)
+    go accepted q = (cc, refl)
     go (refused k n) q = absurd (position≢refusal (sym q))
 
 pub close-within : (buffer : List ℕ) (at : ℕ) → Within (close buffer at .answer)

@@ -27,7 +27,7 @@ use Rattle.flat.proofs.Laws.{stored-whole}
 use Rattle.yewdome.specs.Filing.{openPage, filedAs}
 use Rattle.yewdome.specs.Interface.{Called, recordReply, readCode, readBytes, readInto, pageRead, causesCode, causedNumber, pageKept, filedCode, filed, pageAdd}
 use Rattle.yewdome.specs.Code.{Named, Within, stepBy, WasRead, WasFiled}
-use Rattle.yewdome.proofs.Pages.{add-within, add-position, adds, replyOf, page-line, onward-from}
+use Rattle.yewdome.proofs.Pages.{add-within, add-taken, adds, replyOf, page-line, onward-from}
 use Rattle.yewdome.proofs.Theorems.{page-loads}
 
 -- a record that was stored passes the tests of a lent one
@@ -160,7 +160,7 @@ module _ {page : List ℕ} {at n : ℕ} {into : List ℕ} (g : Given page at n i
         where
           go : (f : Filed) → c .answer ≡ f → (position ≤ added) × WasFiled page at into n (added - position)
           go (positionAfter to) q =
-              let w : to ≡ position + length (withLf (writtenField (said p))) = add-position now position noIndex (said p) q in
+              let w : to ≡ position + length (withLf (writtenField (said p))) = add-taken now position noIndex (said p) q .0 in
               let f = was-read l i in
               let one : aRecord p ≡ aRecord (f .party) = sym (is-record l .1) ∙ f .read in
               let same : p ≡ f .party = cc in

@@ -34,7 +34,7 @@ filed-named : (f : Filed) (p : Party) → Within f → Named (replyOf (filedAs f
 filed-named (positionAfter n) p h = tt
 filed-named (refusal k n) p h = h
 
-named-by : (files : Bool) (s : OpenPage) (x : ReadOutcome) → Named (replyOf x) → Named (replyOf (outcomeBy files s x .answer))
+pub named-by : (files : Bool) (s : OpenPage) (x : ReadOutcome) → Named (replyOf x) → Named (replyOf (outcomeBy files s x .answer))
 named-by true s (aRecord p) h = filed-named (add (s .buffer) (s .position) (s .index) (said p) .answer) p (add-within (s .buffer) (s .position) (s .index) (said p))
 named-by true s theEnd h = tt
 named-by true s (aRefusal k n) h = h
@@ -45,7 +45,7 @@ filed-ended : (f : Filed) (p : Party) → isEnd (filedAs f p) ≡ false
 filed-ended (positionAfter n) p = refl
 filed-ended (refusal k n) p = refl
 
-ended-by : (files : Bool) (s : OpenPage) (x : ReadOutcome) → isEnd (outcomeBy files s x .answer) ≡ isEnd x
+pub ended-by : (files : Bool) (s : OpenPage) (x : ReadOutcome) → isEnd (outcomeBy files s x .answer) ≡ isEnd x
 ended-by true s (aRecord p) = filed-ended (add (s .buffer) (s .position) (s .index) (said p) .answer) p
 ended-by true s theEnd = refl
 ended-by true s (aRefusal k n) = refl
@@ -92,7 +92,7 @@ module _ (page : List ℕ) (at : ℕ) where
   answer-moved true (aRefusal k n) = read-moved (aRefusal k n) past past-few
   answer-moved false x = read-moved x past past-few
 
-  answer-end : (files : Bool) (x : ReadOutcome) → Named (replyOf x) → answerBy files page (readHere page at) x / 65536 ≡ 1 → isEnd x ≡ true
+  pub answer-end : (files : Bool) (x : ReadOutcome) → Named (replyOf x) → answerBy files page (readHere page at) x / 65536 ≡ 1 → isEnd x ≡ true
   answer-end true (aRecord p) n e = let k = causesCode (causesBy page at (aRecord p)) in absurd (omega (arith, sym (caused-high k) ∙ e))
   answer-end true theEnd n e = refl
   answer-end true (aRefusal k l) n e = code-end past past-few (aRefusal k l) n e

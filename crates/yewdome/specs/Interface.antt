@@ -145,47 +145,6 @@ askedRead (refused k n) r at = bodiless (aRefusal k n) at
 abbrev pub pageRead : List ℕ → ℕ → List ℕ → Called
 pageRead page at bytes = readInto (askedRead (lentReply (length bytes) true) (readAt page at) at) at bytes
 
--- ---- what is kept
--- a cause's number, where it is told
-abbrev pub cause : Bool → ℕ → ℕ
-cause true n = n
-cause false n = 0
-
--- the causes as a number, a bit for each
-abbrev pub causesCode : Causes → ℕ
-causesCode c = cause (c .«inner_cr») 1 + cause (c .«last_lf») 2 + cause (c .«after_bic») 4 + cause (c .blanks) 8 + cause (c .«closing_cr») 16
-
--- what is told of a body by an option or choice that is known or not: 41, the reading's refusal, or the causes
-abbrev pub keptCode : Bool → Kept → ℕ
-keptCode known k = codeOr (must known 41 0 then k .reply) (causesCode (k .causes))
-
--- `yewdome_kept_read`
-abbrev pub keptReadCode : ℕ → List ℕ → ℕ
-keptReadCode option body = keptCode (leb option 10) (keptRead (optionAt option) body)
-
--- `yewdome_kept_parse`
-abbrev pub keptParseCode : ℕ → List ℕ → ℕ
-keptParseCode choice body = keptCode (leb choice 6) (keptParse (choiceAt choice) body)
-
--- `yewdome_kept_parse_with_variant`
-abbrev pub keptVariantCode : ℕ → List ℕ → ℕ → ℕ
-keptVariantCode choice body letter = keptCode (leb choice 6) (keptParseWithVariant (choiceAt choice) body letter)
-
--- a read of a page, or the filing of its record, as a number: a record has its field's causes × 131,072 beside the bytes moved past
-abbrev pub causedCode : ReadOutcome → ℕ → Causes → ℕ
-causedCode (aRecord p) moved c = causesCode c * 131072 + moved
-causedCode theEnd moved c = readCode theEnd moved
-causedCode (aRefusal k n) moved c = readCode (aRefusal k n) moved
-
--- an answer to a read with these causes
-abbrev pub causedNumber : List ℕ → Read → ReadOutcome → ℕ
-causedNumber page r x = causedCode x (r .gave .next - r .at) (causesBy page (r .at) x)
-
--- `yewdome_page_kept`
-abbrev pub pageKept : List ℕ → ℕ → ℕ
-pageKept page at = causedNumber page (readHere page at) (readAt page at .outcome)
-
--- ---- an index
 -- a lookup, in these terms: the read at the field's position, or a refusal, which moves past no byte
 abbrev pub lookedInto : Looked → List ℕ → Called
 lookedInto (found r) bytes = readInto (r .gave) (r .at) bytes
@@ -229,6 +188,46 @@ pageAddIndex bytes buffer at b = askedBeside (recordReply bytes) (addIndex buffe
 -- `yewdome_page_close`
 abbrev pub pageClose : List ℕ → ℕ → Called
 pageClose buffer at = filed (close buffer at)
+
+-- ---- what is kept
+-- a cause's number, where it is told
+abbrev pub cause : Bool → ℕ → ℕ
+cause true n = n
+cause false n = 0
+
+-- the causes as a number, a bit for each
+abbrev pub causesCode : Causes → ℕ
+causesCode c = cause (c .«inner_cr») 1 + cause (c .«last_lf») 2 + cause (c .«after_bic») 4 + cause (c .blanks) 8 + cause (c .«closing_cr») 16
+
+-- what is told of a body by an option or choice that is known or not: 41, the reading's refusal, or the causes
+abbrev pub keptCode : Bool → Kept → ℕ
+keptCode known k = codeOr (must known 41 0 then k .reply) (causesCode (k .causes))
+
+-- `yewdome_kept_read`
+abbrev pub keptReadCode : ℕ → List ℕ → ℕ
+keptReadCode option body = keptCode (leb option 10) (keptRead (optionAt option) body)
+
+-- `yewdome_kept_parse`
+abbrev pub keptParseCode : ℕ → List ℕ → ℕ
+keptParseCode choice body = keptCode (leb choice 6) (keptParse (choiceAt choice) body)
+
+-- `yewdome_kept_parse_with_variant`
+abbrev pub keptVariantCode : ℕ → List ℕ → ℕ → ℕ
+keptVariantCode choice body letter = keptCode (leb choice 6) (keptParseWithVariant (choiceAt choice) body letter)
+
+-- a read of a page, or the filing of its record, as a number: a record has its field's causes × 131,072 beside the bytes moved past
+abbrev pub causedCode : ReadOutcome → ℕ → Causes → ℕ
+causedCode (aRecord p) moved c = causesCode c * 131072 + moved
+causedCode theEnd moved c = readCode theEnd moved
+causedCode (aRefusal k n) moved c = readCode (aRefusal k n) moved
+
+-- an answer to a read with these causes
+abbrev pub causedNumber : List ℕ → Read → ReadOutcome → ℕ
+causedNumber page r x = causedCode x (r .gave .next - r .at) (causesBy page (r .at) x)
+
+-- `yewdome_page_kept`
+abbrev pub pageKept : List ℕ → ℕ → ℕ
+pageKept page at = causedNumber page (readHere page at) (readAt page at .outcome)
 
 -- ---- whole pages
 -- the interface's own number, tested before all else: 43 where no more numbers are lent for the answers than the page has bytes

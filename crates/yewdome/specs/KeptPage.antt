@@ -1,11 +1,11 @@
--- Filing says what it keeps, and a page whose fields are kept is filed as its very bytes. Document 01 has the read and the add ('Pages
--- (added)'); that the archive has the line that went out is clause 9.2's. The theorems are `filed-exact`, `kept-page`
--- and `kept-space`, proofs/KeptPage.antt.
-use Prim.Native.Nat.{ℕ, _+_, _*_, _-_, _≤_}
+-- Filing says what it keeps, and a page whose fields are kept is filed as its very bytes, from its first opening to its end line. Document 01 has the read and the add ('Pages
+-- (added)'); that the archive has the line that went out is clause 9.2's. The theorems are `filed-exact`, `kept-page`,
+-- `kept-space` and `told-page`, proofs/KeptPage.antt.
+use Prim.Native.Nat.{ℕ, _+_, _-_, _/_, _≤_}
 use mathlib.Core.Path.{_≡_}
 use mathlib.Core.Bool.{Bool, true, false, _&&_}
 use mathlib.Core.List.{List, [], _∷_, _++_}
-use lib.Dec.{eqb}
+use lib.Dec.{ltb, eqb}
 use lib.ListN.{length, take, drop}
 use Rattle.party.specs.declared.Party.{Party}
 use Rattle.party.specs.Decides.{Decides}
@@ -19,16 +19,20 @@ use Rattle.page_writer.specs.WholePage.{OpenPage}
 use Rattle.page_writer.specs.Demand3.{closing}
 use Rattle.kept.specs.Kept.{endsLf}
 use Rattle.kept.specs.Fields.{cameAt, causesBy, isKeptAt}
-use Rattle.yewdome.specs.Filing.{recordsOf}
-use Rattle.yewdome.specs.Interface.{causesCode, numberStep}
+use Rattle.yewdome.specs.Filing.{recordsOf, fileStep}
+use Rattle.yewdome.specs.Interface.{causesCode, numberStep, fileNumbers}
 
 -- ---- a step
--- a step of filing that files the record of the read at a position: the field that it puts on the new page is the field as it came exactly
--- when the causes that its answer tells are 0
-pub record FiledExact (page : List ℕ) (s : OpenPage) (at : ℕ) (p : Party) : Type 0 where
+-- a step that files the record of the read at a position: it puts the written field and its LF on the new page, its answer tells the field's
+-- causes, and these are 0 exactly when that field is the field as it came
+pub record FiledStep (page : List ℕ) (s : OpenPage) (at : ℕ) (p : Party) : Type 0 where
   pub puts : numberStep page s (readHere page at) .state .buffer ≡ put (s .buffer) (s .position) (withLf (writtenField (said p)))
-  pub tells : numberStep page s (readHere page at) .answer ≡ causesCode (causesBy page at (aRecord p)) * 131072 + (readAt page at .next - at)
+  pub tells : numberStep page s (readHere page at) .answer / 131072 ≡ causesCode (causesBy page at (aRecord p))
   pub exact : Decides (eqb (causesCode (causesBy page at (aRecord p))) 0) (writtenField (said p) ≡ cameAt page at)
+
+-- wherever a step answers a record
+abbrev pub FiledExact : List ℕ → OpenPage → ℕ → Type 0
+FiledExact page s at = (p : Party) → fileStep s (readHere page at) .answer ≡ aRecord p → FiledStep page s at p
 
 -- ---- a page
 -- every field is kept: the one at each read but the last, which gives the end
@@ -63,7 +67,7 @@ lastAt (r ∷ q ∷ rs) = lastAt (q ∷ rs)
 abbrev pub between : List ℕ → List Read → List ℕ
 between page rs = take (lastAt rs - firstAt rs) (drop (firstAt rs) page)
 
--- the bytes of a page from its first opening to its end line
+-- the bytes of a page from its first opening to its last read, which is at the end line where there is one
 abbrev pub partyLines : List ℕ → List ℕ
 partyLines page = between page (fromOpening (reads page))
 
@@ -80,3 +84,18 @@ KeptPage page buffer = areKept page (fromOpening (reads page)) ≡ true → hasS
 -- there is, where every line ends in LF, which of kept fields needs to be said of the last line alone, in a buffer as long as the page
 abbrev pub KeptSpace : List ℕ → List ℕ → Type 0
 KeptSpace page buffer = areKept page (fromOpening (reads page)) ≡ true → endsLf page ≡ true → length page ≤ length buffer → hasSpace (length buffer) (length (partyLines page) + 2) ≡ true
+
+-- ---- the answers
+-- numbers that filing answers tell that every field was filed, as it came: each is below 65,536, but for the last, which is the end's
+unfoldable pub arePlain : List ℕ → Bool
+arePlain [] = false
+arePlain (n ∷ []) = eqb (n / 65536) 1
+arePlain (n ∷ m ∷ ns) = ltb n 65536 && arePlain (m ∷ ns)
+
+-- those of the reads from the first opening on
+abbrev pub answersFrom : List ℕ → List ℕ → List ℕ
+answersFrom page answers = elim (isStray (readAt page 0 .outcome)) [ true ↦ drop 1 answers | false ↦ answers ]
+
+-- where the answers tell it, it is so, in any buffer that can be closed
+abbrev pub ToldPage : List ℕ → List ℕ → Type 0
+ToldPage page buffer = arePlain (answersFrom page (fileNumbers page buffer .answers)) ≡ true → 2 ≤ length buffer → FiledAsCame page buffer

@@ -521,8 +521,8 @@ pub extern "C" fn yewdome_page_answers(page: &[u8], answers: &mut [u64]) -> u32
 }
 
 // Files the records that a page's reads give on a new page in the buffer, and closes that. Stores the answers as `yewdome_page_answers` does, but
-// that of a record which is not filed is the refusal to add it, and that of one which is has the causes that `yewdome_page_kept` gives. Gives how many there are × 4,294,967,296, and the new page's length, or
-// the refusal to close it.
+// that of a record which is filed has the causes that `yewdome_page_kept` gives, and that of one which is not is the refusal to add it. Gives
+// how many there are × 4,294,967,296, and the new page's length, or the refusal to close it.
 #[no_mangle]
 pub extern "C" fn yewdome_page_file(page: &[u8], buf: &mut [u8], answers: &mut [u64]) -> u64
     ensures { λ r. ⌜ (record { code = r; bytes = now (buf .exit); answers = now (answers .exit) }) ≡ pageFile (now (page .entry)) (now (buf .entry)) (now (answers .entry)) ⌝ }
