@@ -1,6 +1,6 @@
--- Filing says what it keeps, and a page whose fields are kept is filed as its very bytes, from its first opening to its end line. Document 01 has the read and the add ('Pages
--- (added)'); that the archive has the line that went out is clause 9.2's. The theorems are `filed-exact`, `kept-page`,
--- `kept-space` and `told-page`, proofs/KeptPage.antt.
+-- Filing says what it keeps, and a page whose fields are kept is filed as its very bytes, from its first opening to its end line. Document 01
+-- has the read and the add ('Pages (added)'); that the archive has the line that went out is clause 9.2's. The theorems are `filed-exact`,
+-- `kept-page`, `kept-space` and `told-page`, proofs/KeptPage.antt.
 use Prim.Native.Nat.{ℕ, _+_, _-_, _/_, _≤_}
 use mathlib.Core.Path.{_≡_}
 use mathlib.Core.Bool.{Bool, true, false, _&&_}
