@@ -36,7 +36,8 @@ fn say_counts(filed: usize, changed: usize, refused: usize) {
     say(b" refused\n");
 }
 
-// By which causes the field of an answer was filed as other bytes than came, where there are any; gives whether there are.
+// By which causes the field of an answer was filed as other bytes than came, where there are any; gives whether there are. A page trims
+// no blanks, bit 8.
 fn say_causes(answer: usize, causes: u64) -> bool {
     if causes == 0 {
         return false;

@@ -44,7 +44,7 @@ texts-bytes p h zero l = h .account .byte
 texts-bytes p h (suc zero) l = h .bic .byte
 texts-bytes p h (suc (suc i)) l = h .name i none (omega (arith, h .size)) .byte
 
-bit-small : (b : Bool) → bit b ≤ 1
+pub bit-small : (b : Bool) → bit b ≤ 1
 bit-small true = omega arith
 bit-small false = omega arith
 
@@ -64,7 +64,7 @@ pub record Small (p : Party) : Type 0 where
   pub count : p .count ≤ 255
   pub name : (i : ℕ) → i < 4 → getD (p .«name_and_address») i none .len ≤ 255
 
-bit-back : (b : Bool) → eqb (bit b) 1 ≡ b
+pub bit-back : (b : Bool) → eqb (bit b) 1 ≡ b
 bit-back true = refl
 bit-back false = refl
 

@@ -75,7 +75,6 @@ runs-to page at = go (leb (length page) pageMost) (readable page at) (drop at pa
 -- ---- a record
 pub record Gave (page : List ℕ) (at : ℕ) (p : Party) : Type 0 where
   pub within : at < length page
-  pub most : length page ≤ pageMost
   pub option : PartyOption
   pub body : List ℕ
   pub splits : fieldAt page at ≡ tagOf option ++ body
@@ -101,13 +100,6 @@ module _ (page : List ℕ) (at : ℕ) (p : Party) (q : readAt page at .outcome �
   gives : {x : ReadCase} → readCase page at ≡ x → readBy x page at .outcome ≡ aRecord p
   gives e = ap (λ (r : PageRead). r .outcome) (sym (by-case page at e)) ∙ q
 
-  most : length page ≤ pageMost
-  most = go (leb (length page) pageMost) refl
-    where
-      go : (t : Bool) → leb (length page) pageMost ≡ t → length page ≤ pageMost
-      go true e = leb-true (length page) pageMost e
-      go false e = absurd (refusal≢record (gives (case-long page at (leb-false (length page) pageMost e))))
-
   module _ (e : readCase page at ≡ Opening (at + runs (drop at page))) where
     abbrev text : List ℕ
     text = fieldAt page at
@@ -123,7 +115,6 @@ module _ (page : List ℕ) (at : ℕ) (p : Party) (q : readAt page at .outcome �
         let a = accepted-by (read o body .reply) (read o body .party) p (ap (λ (x : PageRead). x .outcome) (sym r) ∙ q) in
         record {
           within = ends-by page at e .within;
-          most = most;
           option = o;
           body = body;
           splits = subst (Splits text) i (tag-splits options text);

@@ -23,18 +23,11 @@ use Rattle.kept.specs.Kept.{causesOf, isNone, Kept, keeping, keptOf}
 use Rattle.kept.specs.Fields.{fieldCauses, causesBy}
 use Rattle.kept.proofs.FieldExact.{field-less}
 use Rattle.flat.specs.Flat.{bit}
+use Rattle.flat.proofs.Theorems.{bit-small, bit-back}
 use Rattle.yewdome.specs.Interface.{codeOf, cause, causesCode, keptCode}
 use Rattle.yewdome.specs.Code.{Named, WasRead, WasFiled}
 
 -- ---- the number
-cause-most : (t : Bool) (n : ℕ) → cause t n ≤ n
-cause-most true n = omega arith
-cause-most false n = omega arith
-
-pub causes-most : (c : Causes) → causesCode c ≤ 31
-causes-most c =
-    omega (arith, cause-most (c .«inner_cr») 1, cause-most (c .«last_lf») 2, cause-most (c .«after_bic») 4, cause-most (c .blanks) 8, cause-most (c .«closing_cr») 16)
-
 -- it is 0 exactly where there is none
 pub code-none : (c : Causes) → eqb (causesCode c) 0 ≡ isNone c
 code-none c = go (c .«inner_cr») (c .«last_lf») (c .«after_bic») (c .blanks) (c .«closing_cr»)
@@ -55,15 +48,8 @@ cause-bit : (t : Bool) (n : ℕ) → cause t n ≡ n * bit t
 cause-bit true n = omega arith
 cause-bit false n = omega arith
 
-bit-most : (t : Bool) → bit t ≤ 1
-bit-most true = omega arith
-bit-most false = omega arith
-
 bit-one : (t u : Bool) → bit t ≡ bit u → t ≡ u
-bit-one true true e = refl
-bit-one true false e = absurd (omega (arith, e))
-bit-one false true e = absurd (omega (arith, e))
-bit-one false false e = refl
+bit-one t u e = sym (bit-back t) ∙ ap (λ (n : ℕ). eqb n 1) e ∙ bit-back u
 
 -- a bit, and twice what the other bits make
 lower : (a b m n : ℕ) → a ≤ 1 → b ≤ 1 → a + 2 * m ≡ b + 2 * n → (a ≡ b) × (m ≡ n)
@@ -71,10 +57,10 @@ lower a b m n h k e = (omega (arith, h, k, e), omega (arith, h, k, e))
 
 pub causes-one : (c d : Causes) → causesCode c ≡ causesCode d → c ≡ d
 causes-one c d e =
-    let w1 = lower (bit (c .«inner_cr»)) (bit (d .«inner_cr»)) _ _ (bit-most (c .«inner_cr»)) (bit-most (d .«inner_cr»)) (told c ∙ e ∙ sym (told d)) in
-    let w2 = lower (bit (c .«last_lf»)) (bit (d .«last_lf»)) _ _ (bit-most (c .«last_lf»)) (bit-most (d .«last_lf»)) (w1 .1) in
-    let w3 = lower (bit (c .«after_bic»)) (bit (d .«after_bic»)) _ _ (bit-most (c .«after_bic»)) (bit-most (d .«after_bic»)) (w2 .1) in
-    let w4 = lower (bit (c .blanks)) (bit (d .blanks)) _ _ (bit-most (c .blanks)) (bit-most (d .blanks)) (w3 .1) in
+    let w1 = lower (bit (c .«inner_cr»)) (bit (d .«inner_cr»)) _ _ (bit-small (c .«inner_cr»)) (bit-small (d .«inner_cr»)) (told c ∙ e ∙ sym (told d)) in
+    let w2 = lower (bit (c .«last_lf»)) (bit (d .«last_lf»)) _ _ (bit-small (c .«last_lf»)) (bit-small (d .«last_lf»)) (w1 .1) in
+    let w3 = lower (bit (c .«after_bic»)) (bit (d .«after_bic»)) _ _ (bit-small (c .«after_bic»)) (bit-small (d .«after_bic»)) (w2 .1) in
+    let w4 = lower (bit (c .blanks)) (bit (d .blanks)) _ _ (bit-small (c .blanks)) (bit-small (d .blanks)) (w3 .1) in
     λ i. record {
       «inner_cr» = bit-one (c .«inner_cr») (d .«inner_cr») (w1 .0) i;
       «last_lf» = bit-one (c .«last_lf») (d .«last_lf») (w2 .0) i;

@@ -22,8 +22,9 @@ use Rattle.page_writer.specs.Fold.{Step}
 use Rattle.page_writer.specs.WholePage.{OpenPage, lastGiven}
 use Rattle.page_writer.proofs.Addings.{index-none}
 use Rattle.kept.specs.Fields.{causesBy}
-use Rattle.flat.specs.Flat.{recordSize, bit, flatten, stored, unflatten}
+use Rattle.flat.specs.Flat.{recordSize, flatten, stored, unflatten}
 use Rattle.flat.proofs.Laws.{stored-whole}
+use Rattle.flat.proofs.Theorems.{bit-back}
 use Rattle.yewdome.specs.Filing.{openPage, filedAs}
 use Rattle.yewdome.specs.Interface.{Called, recordReply, readCode, readBytes, readInto, pageRead, causesCode, causedNumber, pageKept, filedCode, filed, pageAdd}
 use Rattle.yewdome.specs.Code.{Named, Within, stepBy, WasRead, WasFiled}
@@ -77,15 +78,11 @@ module _ {page : List ℕ} {at n : ℕ} {into : List ℕ} (g : Given page at n i
     read = is-record l .1;
     room = i;
     option = ap optionAt (byte 0) ∙ placed (is-record l .0 .option);
-    present = ap (λ (b : ℕ). eqb b 1) (byte 1) ∙ present-is (is-record l .0 .present);
+    present = ap (λ (b : ℕ). eqb b 1) (byte 1) ∙ bit-back (is-record l .0 .present);
   }
     where
       byte : (j : ℕ) → getD into j 0 ≡ getD (flatten (is-record l .0) ++ drop recordSize (g .bytes)) j 0
       byte j = ap (λ (b : List ℕ). getD b j 0) (stores l ∙ stored-whole (is-record l .0) (g .bytes) (g .room))
-
-      present-is : (b : Bool) → eqb (bit b) 1 ≡ b
-      present-is true = refl
-      present-is false = refl
 
   -- a read with the causes beside it
   pub kept-none : 65536 ≤ n → n ≡ pageKept page at
