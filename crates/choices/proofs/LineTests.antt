@@ -1,39 +1,24 @@
 -- The cases of the tests on lines. Assumes nothing.
 use mathlib.Core.Path.{_≡_, refl, sym, _∙_, ap}
-use mathlib.Core.Bool.{Bool, true, false, _&&_, and-false, false≢true}
+use mathlib.Core.Bool.{Bool, true, false, _&&_, _||_, and-true, and-false, false≢true}
 use mathlib.Core.List.{List, [], _∷_}
-use Prim.Native.Nat.{ℕ}
+use Prim.Native.Nat.{ℕ, _≤_, _<_}
 use lib.Dec.{leb, eqb}
-use lib.ListN.{length, drop}
+use lib.ListN.{length, drop, length-drop}
 use native.Mathlib.Omega.{arith}
-use borrow.Author.Tests.{eqb-true, ne-eqb, le-leb}
+use borrow.Author.Tests.{eqb-true, ne-eqb, le-leb, lt-leb}
 use Rattle.swift_utils.specs.Bytes.{all, alphanumeric}
 use Rattle.swift_utils.specs.Checks.{bicLength}
 use Rattle.field_utils.specs.Identifier.{isNumbered}
 use Rattle.field_utils.specs.Lines.{onto, starts, lines}
-use Rattle.choices.specs.Detection.{anyNumbered, firstLine, lastLine, bicLike, slashFirst}
+use Rattle.choices.specs.Detection.{anyNumbered, firstLine, lastLine, bicLike, testLine}
+use Rattle.choices.specs.Code.{shortBicLine}
 
-module _ (ls : List (List ℕ)) where
-  pub none-numbered : ls ≡ [] → anyNumbered ls ≡ false
-  unfolding anyNumbered
-  none-numbered e = rw e
-
-  pub none-first : ls ≡ [] → firstLine ls ≡ []
-  unfolding firstLine
-  none-first e = rw e
-
-  module _ (l : List ℕ) (t : List (List ℕ)) (e : ls ≡ l ∷ t) where
-    pub numbered-here : isNumbered l ≡ true → anyNumbered ls ≡ true
-    unfolding anyNumbered
-    numbered-here n = rw (e, n)
-
-    pub numbered-later : isNumbered l ≡ false → anyNumbered ls ≡ anyNumbered t
-    unfolding anyNumbered
-    numbered-later n = rw (e, n)
-
-    pub first-here : firstLine ls ≡ l
-    unfolding firstLine
-    first-here = rw e
+-- a line is numbered: the first, or one after it
+pub any-split : (ls : List (List ℕ)) → anyNumbered ls ≡ (isNumbered (firstLine ls) || anyNumbered (drop 1 ls))
+unfolding anyNumbered firstLine isNumbered
+any-split [] = refl
+any-split (l ∷ ls) = refl
 
 -- the last line of all is that of those left, or the last one passed
 abbrev pub lastOr : List ℕ → List (List ℕ) → List ℕ
@@ -65,8 +50,8 @@ unfolding starts firstLine onto
 onto-starts d b [] = refl
 onto-starts d b (l ∷ ls) = refl
 
--- the first line has a slash where the body has
-slash-at : (s : List ℕ) → starts 47 (firstLine (lines s)) ≡ starts 47 s
+-- the first line has a slash where the text has
+pub slash-at : (s : List ℕ) → starts 47 (firstLine (lines s)) ≡ starts 47 s
 unfolding starts firstLine lines
 slash-at [] = refl
 slash-at (b ∷ l) = go (eqb b 10) (eqb b 13) (starts 10 l) refl refl refl (slash-at l)
@@ -78,21 +63,29 @@ slash-at (b ∷ l) = go (eqb b 10) (eqb b 13) (starts 10 l) refl refl refl (slas
     go false true false e f g ih = rw (e, f, g, lines) (onto-starts 47 b (lines l))
     go false false v e f g ih = rw (e, f, lines) (onto-starts 47 b (lines l))
 
-pub slash-by : (s : List ℕ) {r t : Bool} → r ≡ starts 47 s → r ≡ t → starts 47 (firstLine (lines s)) ≡ t
-slash-by s e f = slash-at s ∙ sym e ∙ f
+-- the line that is tested for a number, by the first byte of the text
+module _ (s : List ℕ) {t : Bool} (e : t ≡ starts 47 s) where
+  pub test-second : t ≡ true → testLine (lines s) ≡ firstLine (drop 1 (lines s))
+  unfolding testLine
+  test-second f = rw (slash-at s ∙ sym e ∙ f, testLine)
 
--- where a line after the first is numbered, or there are 2, there are 2 or more
-two : (l m : List ℕ) (ls : List (List ℕ)) → leb 2 (length (l ∷ m ∷ ls)) ≡ true
-two l m ls = le-leb 2 (length (l ∷ m ∷ ls)) (omega arith)
+  pub test-first : t ≡ false → testLine (lines s) ≡ firstLine (lines s)
+  unfolding testLine
+  test-first f = rw (slash-at s ∙ sym e ∙ f, testLine)
 
+-- the line that 59A takes for its BIC, by the length of the first
+module _ (ls : List (List ℕ)) where
+  pub short-long : 35 < length (firstLine ls) → shortBicLine ls ≡ firstLine ls
+  unfolding shortBicLine
+  short-long h = rw (lt-leb (length (drop 1 (firstLine ls))) 34 (omega (arith, length-drop 1 (firstLine ls))), and-false (starts 47 (firstLine ls)), shortBicLine)
+
+  pub short-fits : length (firstLine ls) ≤ 35 → shortBicLine ls ≡ testLine ls
+  unfolding shortBicLine testLine
+  short-fits h = rw (le-leb (length (drop 1 (firstLine ls))) 34 (omega (arith, length-drop 1 (firstLine ls))), and-true (starts 47 (firstLine ls)), shortBicLine)
+
+-- where a line after the first is numbered, there are 2 or more
 pub later-two : (ls : List (List ℕ)) → (leb 2 (length ls) && anyNumbered (drop 1 ls)) ≡ anyNumbered (drop 1 ls)
 unfolding anyNumbered
 later-two [] = refl
 later-two (l ∷ []) = refl
-later-two (l ∷ m ∷ ls) = ap (λ (t : Bool). t && anyNumbered (m ∷ ls)) (two l m ls)
-
-pub slash-two : (ls : List (List ℕ)) → (slashFirst ls && eqb (length ls) 2) ≡ (starts 47 (firstLine ls) && eqb (length ls) 2)
-unfolding firstLine starts
-slash-two [] = refl
-slash-two (l ∷ []) = sym (and-false (starts 47 l))
-slash-two (l ∷ m ∷ ls) = ap (λ (t : Bool). (t && starts 47 l) && eqb (length (l ∷ m ∷ ls)) 2) (two l m ls)
+later-two (l ∷ m ∷ ls) = ap (λ (t : Bool). t && anyNumbered (m ∷ ls)) (le-leb 2 (length (l ∷ m ∷ ls)) (omega arith))

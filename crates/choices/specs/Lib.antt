@@ -1,2 +1,3 @@
 pub mod Detection
 pub mod Choices
+pub mod Code

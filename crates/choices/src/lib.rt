@@ -4,27 +4,38 @@ use errors::ParseError;
 use field_utils::is_numbered_line;
 use field_utils::lines::Line;
 use field_utils::lines::Lines;
-use field_utils::lines::count_lines;
 use field_utils::lines::trim;
 use field_utils::starts_with_slash;
+use flat::RECORD_SIZE;
+use flat::load;
 use party::PartyOption;
 use party::limits_of;
 use reader::Answer;
 use reader::parse_body;
-use reader::read;
+use reader::read_into;
+use reader::read_own_into;
 use reader::refuse;
 use swift_utils::BIC_LONG;
 use swift_utils::BIC_SHORT;
 use swift_utils::all_alphanumeric;
 use swift_utils::is_bic_length;
 ghost use mathlib.Core.Path.{_≡_};
-ghost use lib.Dec.{eqb, leb};
-ghost use lib.ListN.{length, drop};
+ghost use mathlib.Core.Bool.{_&&_, _||_};
+ghost use mathlib.Core.List.{_∷_};
+ghost use Prim.Native.Nat.{_-_};
+ghost use lib.Dec.{eqb};
+ghost use lib.ListN.{length, take, drop};
+ghost use Rattle.errors.specs.Refusals.{accepted};
 ghost use Rattle.party.specs.Limits.{limitsOf};
+ghost use Rattle.swift_utils.specs.Bytes.{between};
+ghost use Rattle.swift_utils.specs.Checks.{bicShort, bicLong};
 ghost use Rattle.field_utils.specs.Lines.{lines};
-ghost use Rattle.reader.specs.Reading.{toldAnswer};
-ghost use Rattle.choices.specs.Detection.{anyNumbered, firstLine, lastLine, bicLike, testLine, holds as holdsOf};
+ghost use Rattle.field_utils.specs.Identifier.{isNumbered};
+ghost use Rattle.reader.specs.Reading.{toldAnswer, toldInto, readInto};
+ghost use Rattle.reader.specs.Options.{bodyReply};
+ghost use Rattle.choices.specs.Detection.{bicLike, testLine, holds as holdsOf};
 ghost use Rattle.choices.specs.Choices.{trialsOf, triedText, wanted, firstThat, parse as parseOf, isLetter, parseWithVariant, readText};
+ghost use Rattle.choices.specs.Code.{Passed, Walked, shortBicLine, ruledOut, isOpen, askedText, answerFrom};
 
 // The seven choices, under the names of the Rust's enums.
 pub enum Choice {
@@ -59,115 +70,153 @@ pub enum Trial {
     Nothing,
 }
 
-// The first line from a place on, empty where there is none.
-fn first_line(body: &[u8], from: Lines) -> &[u8]
-    ensures { λ r. ⌜ now r ≡ firstLine (lines (drop (from .at) (now (body .entry)))) ⌝ }
-{
-    let found = from.next(body);
-    let Line::Next {
-        start,
-        end,
-        rest: _,
-    } = found
-    else {
-        return &body[..0];
-    };
-    &body[start..end]
+// What the tests ask of a text's lines, gathered in one walk. A line that is not there is empty.
+struct Seen {
+    count: usize,
+    // the lengths of the first line and of the second
+    first: usize,
+    second: usize,
+    // whether these are numbered, and whether one after the first is
+    first_numbered: bool,
+    second_numbered: bool,
+    later_numbered: bool,
+    // where the last line starts and ends
+    from: usize,
+    to: usize,
 }
 
-// Whether a line from a place on is numbered.
-fn any_numbered(body: &[u8], from: Lines) -> bool
-    ensures { λ r. ⌜ r ≡ anyNumbered (lines (drop (from .at) (now (body .entry)))) ⌝ }
+// Whether a line is numbered. Its second byte is looked at first: the test for a digit writes out a table.
+fn is_numbered(line: &[u8]) -> bool
+    ensures { λ r. ⌜ r ≡ isNumbered (now (line .entry)) ⌝ }
 {
+    if line.len() < 2 {
+        return false;
+    }
+    if line[1] != b'/' {
+        return false;
+    }
+    is_numbered_line(line)
+}
+
+// Whether a line is, or one before it was.
+fn or_numbered(before: bool, line: &[u8]) -> bool
+    ensures { λ r. ⌜ r ≡ (before || isNumbered (now (line .entry))) ⌝ }
+{
+    if before {
+        return true;
+    }
+    is_numbered(line)
+}
+
+// The walk from the third line on, after the first and the second, which is a part of the text.
+fn walk_later(text: &[u8], first: &[u8], start: usize, end: usize, from: Lines) -> Seen
+    requires { ⌜ Passed (now text) start end (from .at) ⌝ }
+    ensures { λ r. ⌜ Walked (now (text .entry)) (now (first .entry) ∷ take (end - start) (drop start (now (text .entry))) ∷ lines (drop (from .at) (now (text .entry)))) r ⌝ }
+{
+    let first_numbered = is_numbered(first);
+    let second_numbered = is_numbered(&text[start..end]);
+    let mut later_numbered = second_numbered;
     let mut cursor = from;
+    let mut count = 2;
+    let mut last = start;
+    let mut to = end;
     loop {
-        let found = cursor.next(body);
-        let Line::Next { start, end, rest } = found else {
-            return false;
+        let found = cursor.next(text);
+        let Line::Next {
+            start: next,
+            end: next_end,
+            rest,
+        } = found
+        else {
+            return Seen {
+                count,
+                first: first.len(),
+                second: end - start,
+                first_numbered,
+                second_numbered,
+                later_numbered,
+                from: last,
+                to,
+            };
         };
-        if is_numbered_line(&body[start..end]) {
-            return true;
-        }
+        later_numbered = or_numbered(later_numbered, &text[next..next_end]);
+        last = next;
+        to = next_end;
+        count += 1;
         cursor = rest;
     }
 }
 
-// The place after the first line.
-fn after_first(body: &[u8]) -> Lines
-    ensures { λ r. ⌜ lines (drop (r .at) (now (body .entry))) ≡ drop 1 (lines (now (body .entry))) ⌝ }
+// Walks the lines of a text.
+fn walk(text: &[u8]) -> Seen
+    ensures { λ r. ⌜ Walked (now (text .entry)) (lines (now (text .entry))) r ⌝ }
 {
     let top = Lines { at: 0 };
-    let found = top.next(body);
-    let Line::Next {
-        start: _,
-        end: _,
-        rest,
-    } = found
-    else {
-        return top;
+    let found = top.next(text);
+    let Line::Next { start, end, rest } = found else {
+        return Seen {
+            count: 0,
+            first: 0,
+            second: 0,
+            first_numbered: false,
+            second_numbered: false,
+            later_numbered: false,
+            from: 0,
+            to: 0,
+        };
     };
-    rest
-}
-
-// Whether there are 2 lines or more.
-fn has_second(body: &[u8]) -> bool
-    ensures { λ r. ⌜ r ≡ leb 2 (length (lines (now (body .entry)))) ⌝ }
-{
-    let rest = after_first(body);
-    let found = rest.next(body);
-    if let Line::Done = found {
-        return false;
-    }
-    true
-}
-
-// Whether, with 2 lines or more, the first has a slash.
-fn slash_first(body: &[u8]) -> bool
-    ensures { λ r. ⌜ r ≡ holdsOf Test.SlashFirst (lines (now (body .entry))) ⌝ }
-{
-    if !starts_with_slash(body) {
-        return false;
-    }
-    has_second(body)
+    let first = &text[start..end];
+    let found_second = rest.next(text);
+    let Line::Next {
+        start: next,
+        end: next_end,
+        rest: later,
+    } = found_second
+    else {
+        return Seen {
+            count: 1,
+            first: first.len(),
+            second: 0,
+            first_numbered: is_numbered(first),
+            second_numbered: false,
+            later_numbered: false,
+            from: start,
+            to: end,
+        };
+    };
+    walk_later(text, first, next, next_end, later)
 }
 
 // Whether there are 2 lines, and the first has a slash.
-fn slash_first_of_two(body: &[u8]) -> bool
-    ensures { λ r. ⌜ r ≡ holdsOf Test.SlashFirstOfTwo (lines (now (body .entry))) ⌝ }
+fn slash_first_of_two(text: &[u8], seen: Seen) -> bool
+    requires { ⌜ Walked (now text) (lines (now text)) seen ⌝ }
+    ensures { λ r. ⌜ r ≡ holdsOf Test.SlashFirstOfTwo (lines (now (text .entry))) ⌝ }
 {
-    if !starts_with_slash(body) {
+    if seen.count != 2 {
         return false;
     }
-    count_lines(body) == 2
+    starts_with_slash(text)
 }
 
-// Whether there is one line, of 8 to 11 bytes.
-fn is_bic_sized(body: &[u8]) -> bool
-    ensures { λ r. ⌜ r ≡ holdsOf Test.BicSized (lines (now (body .entry))) ⌝ }
+// Whether, with 2 lines or more, the first has a slash.
+fn slash_first(text: &[u8], seen: Seen) -> bool
+    requires { ⌜ Walked (now text) (lines (now text)) seen ⌝ }
+    ensures { λ r. ⌜ r ≡ holdsOf Test.SlashFirst (lines (now (text .entry))) ⌝ }
 {
-    if count_lines(body) != 1 {
+    if seen.count < 2 {
         return false;
     }
-    let n = first_line(body, Lines { at: 0 }).len();
-    BIC_SHORT <= n && n <= BIC_LONG
+    starts_with_slash(text)
 }
 
-// The last line, empty where there is none.
-fn last_line(body: &[u8]) -> &[u8]
-    ensures { λ r. ⌜ now r ≡ lastLine (lines (now (body .entry))) ⌝ }
+// Whether a line is numbered.
+fn any_numbered(seen: Seen) -> bool
+    ensures { λ r. ⌜ r ≡ (seen .«first_numbered» || seen .«later_numbered») ⌝ }
 {
-    let mut cursor = Lines { at: 0 };
-    let mut from = 0;
-    let mut to = 0;
-    loop {
-        let found = cursor.next(body);
-        let Line::Next { start, end, rest } = found else {
-            return &body[from..to];
-        };
-        from = start;
-        to = end;
-        cursor = rest;
+    if seen.first_numbered {
+        return true;
     }
+    seen.later_numbered
 }
 
 // Whether a text is 8 or 11 letters or digits.
@@ -180,31 +229,102 @@ fn is_bic_like(text: &[u8]) -> bool
     all_alphanumeric(text)
 }
 
-// The line that is tested for a number: the first, or the second where the first has a slash.
-fn test_line(body: &[u8]) -> &[u8]
-    ensures { λ r. ⌜ now r ≡ testLine (lines (now (body .entry))) ⌝ }
+// Whether the last line, trimmed, is.
+fn last_is_bic(text: &[u8], seen: Seen) -> bool
+    requires { ⌜ Walked (now text) (lines (now text)) seen ⌝ }
+    ensures { λ r. ⌜ r ≡ holdsOf Test.LastIsBic (lines (now (text .entry))) ⌝ }
 {
-    if starts_with_slash(body) {
-        first_line(body, after_first(body))
+    let from = seen.from;
+    let to = seen.to;
+    is_bic_like(trim(&text[from..to]))
+}
+
+// Whether there is one line, of 8 to 11 bytes.
+fn is_bic_sized(seen: Seen) -> bool
+    ensures { λ r. ⌜ r ≡ (eqb (seen .count) 1 && between bicShort bicLong (seen .first)) ⌝ }
+{
+    if seen.count != 1 {
+        return false;
+    }
+    BIC_SHORT <= seen.first && seen.first <= BIC_LONG
+}
+
+// Whether the first line, or the second where the first has a slash, is numbered.
+fn first_numbered(text: &[u8], seen: Seen) -> bool
+    requires { ⌜ Walked (now text) (lines (now text)) seen ⌝ }
+    ensures { λ r. ⌜ r ≡ holdsOf Test.FirstNumbered (lines (now (text .entry))) ⌝ }
+{
+    if starts_with_slash(text) {
+        seen.second_numbered
     } else {
-        first_line(body, Lines { at: 0 })
+        seen.first_numbered
     }
 }
 
-// Whether a test holds of a body.
-fn holds(test: Test, body: &[u8]) -> bool
-    ensures { λ r. ⌜ r ≡ holdsOf test (lines (now (body .entry))) ⌝ }
+// Whether a test holds of a text's lines.
+fn holds(test: Test, text: &[u8], seen: Seen) -> bool
+    requires { ⌜ Walked (now text) (lines (now text)) seen ⌝ }
+    ensures { λ r. ⌜ r ≡ holdsOf test (lines (now (text .entry))) ⌝ }
 {
     match test {
         Test::Always => true,
-        Test::LaterNumbered => any_numbered(body, after_first(body)),
-        Test::SlashFirstOfTwo => slash_first_of_two(body),
-        Test::SlashFirst => slash_first(body),
-        Test::AnyNumbered => any_numbered(body, Lines { at: 0 }),
-        Test::LastIsBic => is_bic_like(trim(last_line(body))),
-        Test::BicSized => is_bic_sized(body),
-        Test::FirstNumbered => is_numbered_line(test_line(body)),
+        Test::LaterNumbered => seen.later_numbered,
+        Test::SlashFirstOfTwo => slash_first_of_two(text, seen),
+        Test::SlashFirst => slash_first(text, seen),
+        Test::AnyNumbered => any_numbered(seen),
+        Test::LastIsBic => last_is_bic(text, seen),
+        Test::BicSized => is_bic_sized(seen),
+        Test::FirstNumbered => first_numbered(text, seen),
     }
+}
+
+// The length of the line that 50A takes for its BIC.
+fn bic_line(text: &[u8], seen: Seen) -> usize
+    requires { ⌜ Walked (now text) (lines (now text)) seen ⌝ }
+    ensures { λ r. ⌜ r ≡ length (testLine (lines (now (text .entry)))) ⌝ }
+{
+    if starts_with_slash(text) {
+        seen.second
+    } else {
+        seen.first
+    }
+}
+
+// The length of the one that 59A takes: the first too where it has a slash and is too long for an account.
+fn short_bic_line(text: &[u8], seen: Seen) -> usize
+    requires { ⌜ Walked (now text) (lines (now text)) seen ⌝ }
+    ensures { λ r. ⌜ r ≡ length (shortBicLine (lines (now (text .entry)))) ⌝ }
+{
+    let limits = limits_of(PartyOption::Field59A);
+    if limits.longest + 1 < seen.first {
+        return seen.first;
+    }
+    bic_line(text, seen)
+}
+
+// Whether an option refuses a text for the length of its BIC, by the lines that were asked.
+fn is_ruled_out(option: PartyOption, text: &[u8], asked: &[u8], seen: Seen) -> bool
+    requires { ⌜ Walked (now asked) (lines (now asked)) seen ⌝ }
+    ensures { λ r. ⌜ r ≡ ruledOut option (now (text .entry)) (lines (now (asked .entry))) ⌝ }
+{
+    match option {
+        PartyOption::Field50C => !is_bic_length(text.len()),
+        PartyOption::Field50A => !is_bic_length(bic_line(asked, seen)),
+        PartyOption::Field50G => !is_bic_length(seen.second),
+        PartyOption::Field59A => !is_bic_length(short_bic_line(asked, seen)),
+        _ => false,
+    }
+}
+
+// Whether an option is tried: its test holds, and it is not ruled out.
+fn is_open(option: PartyOption, test: Test, text: &[u8], asked: &[u8], seen: Seen) -> bool
+    requires { ⌜ Walked (now asked) (lines (now asked)) seen ⌝ }
+    ensures { λ r. ⌜ r ≡ isOpen option test (now (text .entry)) (lines (now (asked .entry))) ⌝ }
+{
+    if is_ruled_out(option, text, asked, seen) {
+        return false;
+    }
+    holds(test, asked, seen)
 }
 
 // What a choice tries, in its order.
@@ -260,11 +380,24 @@ pub fn tried_text(choice: Choice, body: &[u8]) -> &[u8]
     body
 }
 
-// The first option that accepts, of those whose test holds; 11 where none does.
-fn first_that(choice: Choice, body: &[u8]) -> Answer
-    ensures { λ r. ⌜ toldAnswer r ≡ firstThat (wanted (lines (now (body .entry))) (trialsOf choice)) (triedText choice (now (body .entry))) ⌝ }
+// The text whose lines are asked: the body, and none in the choice that asks of no line.
+fn asked_text(choice: Choice, body: &[u8]) -> &[u8]
+    ensures { λ r. ⌜ now r ≡ askedText choice (now (body .entry)) ⌝ }
+{
+    if let Choice::Field50InstructingParty = choice {
+        return &body[..0];
+    }
+    body
+}
+
+// After 12 and 13: the first option that accepts, of those that are open; 11 where none does.
+fn first_that(choice: Choice, body: &[u8], record: &mut [u8]) -> Outcome
+    requires { ⌜ bodyReply (now body) ≡ accepted ⌝ }
+    ensures { λ r. ⌜ toldInto r (now («record» .exit)) ≡ readInto (firstThat (wanted (lines (now (body .entry))) (trialsOf choice)) (triedText choice (now (body .entry)))) (now («record» .entry)) ⌝ }
 {
     let text = tried_text(choice, body);
+    let asked = asked_text(choice, body);
+    let seen = walk(asked);
     let tried = trials_of(choice);
     let mut k = 0;
     while k < 3 {
@@ -273,27 +406,26 @@ fn first_that(choice: Choice, body: &[u8]) -> Answer
         let Trial::Try(option, test) = trial else {
             continue;
         };
-        if !holds(test, body) {
+        if !is_open(option, test, text, asked, seen) {
             continue;
         }
-        let answer = read(option, text);
-        let outcome = answer.outcome;
+        let outcome = read_own_into(option, text, record);
         if let Outcome::Accepted = outcome {
-            return answer;
+            return Outcome::Accepted;
         }
     }
-    refuse(ParseError::NoOption)
+    Outcome::Refused(ParseError::NoOption)
 }
 
-// Detects: 12 and 13 of the body as it came, then the options.
-pub fn parse(choice: Choice, body: &[u8]) -> Answer
-    ensures { λ r. ⌜ toldAnswer r ≡ parseOf choice (now (body .entry)) ⌝ }
+// Detects: 12 and 13 of the body as it came, then the options. The record is stored at the start of lent bytes; a refusal changes none.
+pub fn parse_into(choice: Choice, body: &[u8], record: &mut [u8]) -> Outcome
+    ensures { λ r. ⌜ toldInto r (now («record» .exit)) ≡ readInto (parseOf choice (now (body .entry))) (now («record» .entry)) ⌝ }
 {
     let outcome = parse_body(body);
     if let Outcome::Refused(e) = outcome {
-        return refuse(e);
+        return Outcome::Refused(e);
     }
-    first_that(choice, body)
+    first_that(choice, body, record)
 }
 
 // Whether a letter is A to Z, or 0 for none.
@@ -314,12 +446,17 @@ fn has_letter(option: PartyOption, letter: u8) -> bool
     letter == limits.letter
 }
 
-// By a letter, 0 for none: 14, then the option that has it; where none has, it detects.
-pub fn parse_with_variant(choice: Choice, body: &[u8], letter: u8) -> Answer
-    ensures { λ r. ⌜ toldAnswer r ≡ parseWithVariant choice (now (body .entry)) letter ⌝ }
+// By a letter, 0 for none: 14, then the option that has it; where none has, it detects. Stored as in parse_into.
+pub fn parse_with_variant_into(
+    choice: Choice,
+    body: &[u8],
+    letter: u8,
+    record: &mut [u8],
+) -> Outcome
+    ensures { λ r. ⌜ toldInto r (now («record» .exit)) ≡ readInto (parseWithVariant choice (now (body .entry)) letter) (now («record» .entry)) ⌝ }
 {
     if !is_letter(letter) {
-        return refuse(ParseError::NotALetter);
+        return Outcome::Refused(ParseError::NotALetter);
     }
     let tried = trials_of(choice);
     let mut k = 0;
@@ -330,10 +467,41 @@ pub fn parse_with_variant(choice: Choice, body: &[u8], letter: u8) -> Answer
             continue;
         };
         if has_letter(option, letter) {
-            return read(option, body);
+            return read_into(option, body, record);
         }
     }
-    parse(choice, body)
+    parse_into(choice, body, record)
+}
+
+// The answer of an outcome whose record is stored in a room.
+fn answer_from(outcome: Outcome, room: &[u8]) -> Answer
+    ensures { λ r. ⌜ r ≡ answerFrom outcome (now (room .entry)) ⌝ }
+{
+    match outcome {
+        Outcome::Accepted => Answer {
+            outcome: Outcome::Accepted,
+            party: load(room),
+        },
+        Outcome::Refused(e) => refuse(e),
+    }
+}
+
+// Detects, with the record by value.
+pub fn parse(choice: Choice, body: &[u8]) -> Answer
+    ensures { λ r. ⌜ toldAnswer r ≡ parseOf choice (now (body .entry)) ⌝ }
+{
+    let mut room = [0u8; RECORD_SIZE];
+    let outcome = parse_into(choice, body, &mut room);
+    answer_from(outcome, &room)
+}
+
+// By a letter, with the record by value.
+pub fn parse_with_variant(choice: Choice, body: &[u8], letter: u8) -> Answer
+    ensures { λ r. ⌜ toldAnswer r ≡ parseWithVariant choice (now (body .entry)) letter ⌝ }
+{
+    let mut room = [0u8; RECORD_SIZE];
+    let outcome = parse_with_variant_into(choice, body, letter, &mut room);
+    answer_from(outcome, &room)
 }
 
 // What is read of a body by a letter: all of it where the letter picks an option, else what is tried. That is all of it but in the one

@@ -1,7 +1,7 @@
 -- Names tested and filled one line after the other. Assumes nothing.
 use mathlib.Core.Path.{_≡_, refl, sym, _∙_, ap}
 use mathlib.Core.List.{List, [], _∷_, _++_, map, map-append, map-map, append-nil}
-use Prim.Native.Nat.{ℕ, suc, _+_, _≤_, _<_}
+use Prim.Native.Nat.{ℕ, zero, suc, _+_, _≤_, _<_}
 use native.Mathlib.Nat.{add-zero}
 use native.Mathlib.Omega.{arith}
 use lib.ListN.{length, drop, set, length-map, length-append}
@@ -10,8 +10,9 @@ use Rattle.errors.specs.Refusals.{accepted, refused}
 use Rattle.party.specs.declared.PartyOption.{PartyOption}
 use Rattle.party.specs.declared.Limits.{Limits}
 use Rattle.party.specs.declared.Text.{Text}
+use Rattle.party.specs.declared.Part.{Part}
 use Rattle.party.specs.Limits.{limitsOf}
-use Rattle.party.specs.Text.{textOf, four, fourTexts}
+use Rattle.party.specs.Text.{textOf, partIn, textsIn, four, fourTexts}
 use Rattle.party.specs.declared.Numbering.{Numbering}
 use Rattle.field_utils.specs.Names.{parseLine, parseLines, parseCount, readNames, keptFrom, kept, digitOf}
 use Rattle.field_utils.specs.Code.{givenNames}
@@ -44,31 +45,41 @@ module _ {A : Type 0} (none : A) where
     past-of : {w : List A} → w ≡ four none (map f ls) → 4 ≤ n → w ≡ four none (map f (ls ++ (l ∷ [])))
     past-of e h = e ∙ four-past (map f ls) (f l) (omega (arith, h, count, length-map ls f)) ∙ ap (four none) (sym (map-append f ls (l ∷ [])))
 
+map-set : {A B : Type 0} (f : A → B) (l : List A) (i : ℕ) (a : A) → map f (set l i a) ≡ set (map f l) i (f a)
+map-set f [] i a = refl
+map-set f (b ∷ l) zero a = refl
+map-set f (b ∷ l) (suc i) a = ap (_∷_ (f b)) (map-set f l i a)
+
 -- the text that is kept of a line
 abbrev textFrom : ℕ → List ℕ → Text
 textFrom skip l = textOf (drop skip l)
 
--- after n lines of ls, of which later ones are left: what all say is what those left say, and the texts and the digits are filled
-pub record Passed (f : Numbering) (longest start skip : ℕ) (ls : List (List ℕ)) (n : ℕ) (texts : List Text) (digits : List ℕ) (later : List (List ℕ)) : Type 0 where
+-- after n lines of ls, of which later ones are left: what all say is what those left say, and the parts of the body and the digits are
+-- filled
+pub record Passed (body : List ℕ) (f : Numbering) (longest start skip : ℕ) (ls : List (List ℕ)) (n : ℕ) (parts : List Part) (digits : List ℕ) (later : List (List ℕ)) : Type 0 where
   pub says : parseLines f longest (suc start) 1 ls ≡ parseLines f longest (suc (start + n)) (suc n) later
   pub done : List (List ℕ)
   pub all : ls ≡ done ++ later
   pub count : n ≡ length done
-  pub texts-are : texts ≡ four (textOf []) (map (textFrom skip) done)
+  pub texts-are : textsIn body parts ≡ four (textOf []) (map (textFrom skip) done)
   pub digits-are : digits ≡ four 0 (map (digitOf f) done)
 
-pub passed-none : (f : Numbering) (longest start skip : ℕ) (ls : List (List ℕ)) {texts : List Text} {digits : List ℕ} → texts ≡ fourTexts [] → digits ≡ four 0 []
-    → Passed f longest start skip ls 0 texts digits ls
-passed-none f longest start skip ls e g = record { says = rw add-zero; done = []; all = refl; count = refl; texts-are = e; digits-are = g }
+pub no-parts : (body : List ℕ) → textsIn body (four (record { start = 0; len = 0 }) []) ≡ fourTexts []
+unfolding four
+no-parts body = refl
+
+pub passed-none : (body : List ℕ) (f : Numbering) (longest start skip : ℕ) (ls : List (List ℕ)) {parts : List Part} {digits : List ℕ} → textsIn body parts ≡ fourTexts [] → digits ≡ four 0 []
+    → Passed body f longest start skip ls 0 parts digits ls
+passed-none body f longest start skip ls e g = record { says = rw add-zero; done = []; all = refl; count = refl; texts-are = e; digits-are = g }
 
 -- one more line
-module _ {f : Numbering} {longest start skip n : ℕ} {ls t : List (List ℕ)} {l : List ℕ} {texts : List Text} {digits : List ℕ} (p : Passed f longest start skip ls n texts digits (l ∷ t)) where
+module _ {body : List ℕ} {f : Numbering} {longest start skip n : ℕ} {ls t : List (List ℕ)} {l : List ℕ} {parts : List Part} {digits : List ℕ} (p : Passed body f longest start skip ls n parts digits (l ∷ t)) where
   pub passed-refused : {r m : ℕ} → parseLine f longest (start + (n + 1)) (n + 1) l ≡ refused r m → parseLines f longest (suc start) 1 ls ≡ refused r m
   passed-refused e = p .says ∙ lines-refused f longest start n l t e
 
   module _ (e : parseLine f longest (start + (n + 1)) (n + 1) l ≡ accepted) where
-    more : {w : List Text} {d : List ℕ} → w ≡ four (textOf []) (map (textFrom skip) (p .done ++ (l ∷ []))) → d ≡ four 0 (map (digitOf f) (p .done ++ (l ∷ [])))
-        → Passed f longest start skip ls (n + 1) w d t
+    more : {w : List Part} {d : List ℕ} → textsIn body w ≡ four (textOf []) (map (textFrom skip) (p .done ++ (l ∷ []))) → d ≡ four 0 (map (digitOf f) (p .done ++ (l ∷ [])))
+        → Passed body f longest start skip ls (n + 1) w d t
     more k g =
         record {
           says = p .says ∙ lines-passed f longest start n l t e;
@@ -79,17 +90,18 @@ module _ {f : Numbering} {longest start skip n : ℕ} {ls t : List (List ℕ)} {
           digits-are = g;
         }
 
-    pub passed-more : {x : Text} {d : ℕ} → n < 4 → x ≡ textOf (drop skip l) → d ≡ digitOf f l → Passed f longest start skip ls (n + 1) (set texts n x) (set digits n d) t
-    passed-more h k g =
-        more (more-of (textOf []) (textFrom skip) (p .done) l (p .count) (p .texts-are) k h) (more-of 0 (digitOf f) (p .done) l (p .count) (p .digits-are) g h)
+    pub passed-more : (x : Part) {d : ℕ} → n < 4 → partIn body x ≡ drop skip l → d ≡ digitOf f l → Passed body f longest start skip ls (n + 1) (set parts n x) (set digits n d) t
+    passed-more x h k g =
+        let text = ap textOf k in
+        more (map-set (λ (q : Part). textOf (partIn body q)) parts n x ∙ more-of (textOf []) (textFrom skip) (p .done) l (p .count) (p .texts-are) text h) (more-of 0 (digitOf f) (p .done) l (p .count) (p .digits-are) g h)
 
-    pub passed-past : 4 ≤ n → Passed f longest start skip ls (n + 1) texts digits t
+    pub passed-past : 4 ≤ n → Passed body f longest start skip ls (n + 1) parts digits t
     passed-past h = more (past-of (textOf []) (textFrom skip) (p .done) l (p .count) (p .texts-are) h) (past-of 0 (digitOf f) (p .done) l (p .count) (p .digits-are) h)
 
 -- all lines; m is what the code holds of the option
-pub passed-all : (o : PartyOption) {m : Limits} {start skip n : ℕ} {ls : List (List ℕ)} {texts : List Text} {digits : List ℕ} → m ≡ limitsOf o → skip ≡ keptFrom (m .numbering)
-    → Passed (m .numbering) (m .name) start skip ls n texts digits [] → readNames o (suc start) ls ≡ givenNames (parseCount (m .names) n) n texts digits
-passed-all o {m} {start} {skip} {n} {ls} e k p =
+pub passed-all : (o : PartyOption) {body : List ℕ} {m : Limits} {start skip n : ℕ} {ls : List (List ℕ)} {parts : List Part} {digits : List ℕ} → m ≡ limitsOf o → skip ≡ keptFrom (m .numbering)
+    → Passed body (m .numbering) (m .name) start skip ls n parts digits [] → readNames o (suc start) ls ≡ givenNames (parseCount (m .names) n) n (textsIn body parts) digits
+passed-all o {body} {m} {start} {skip} {n} {ls} e k p =
     let all : p .done ≡ ls = sym (p .all ∙ append-nil (p .done)) in
     let texts : map (textFrom skip) ls ≡ map textOf (map (kept (m .numbering)) ls) = ap (λ (j : ℕ). map (textFrom j) ls) k ∙ sym (map-map textOf (kept (m .numbering)) ls) in
     read-counted o e (suc start) ls (p .says ∙ lines-none (m .numbering) (m .name) (suc (start + n)) (suc n)) (p .count ∙ ap length all)

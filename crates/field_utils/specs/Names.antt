@@ -7,7 +7,7 @@ use Rattle.errors.specs.Refusals.{Reply, accepted, refused, told, must, _then_}
 use Rattle.party.specs.declared.PartyOption.{PartyOption}
 use Rattle.party.specs.declared.Text.{Text}
 use Rattle.party.specs.Limits.{limitsOf}
-use Rattle.party.specs.Text.{four, fourTexts}
+use Rattle.party.specs.Text.{textsIn, four, fourTexts}
 use Rattle.party.specs.declared.Numbering.{Numbering}
 use Rattle.party.specs.declared.Numbering.the-variants.{Unnumbered, Numbered, InTurn}
 use Rattle.swift_utils.specs.Bytes.{between}
@@ -78,6 +78,6 @@ namesOr (refused k n) ns ds = record { reply = refused k n; count = 0; texts = f
 unfoldable pub readNames : PartyOption → ℕ → List (List ℕ) → NamesRead
 readNames o n ls = namesOr (parseNameAndAddress o n ls) (map (kept (limitsOf o .numbering)) ls) (map (digitOf (limitsOf o .numbering)) ls)
 
--- the names that the code gives, in document 01's terms
-abbrev pub toldNames : Names → NamesRead
-toldNames w = record { reply = told (w .outcome); count = w .count; texts = w .texts; digits = w .digits }
+-- the names that the code gives as parts of a body, in document 01's terms
+abbrev pub toldNames : List ℕ → Names → NamesRead
+toldNames body w = record { reply = told (w .outcome); count = w .count; texts = textsIn body (w .parts); digits = w .digits }

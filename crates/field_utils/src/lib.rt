@@ -4,13 +4,14 @@ use errors::ParseError;
 use lines::Line;
 use lines::Lines;
 use lines::find;
-use party::NOTHING;
+use party::NO_PART;
 use party::Numbering;
+use party::Part;
 use party::PartyOption;
-use party::Text;
 use party::limits_of;
-use party::text_of;
+use swift_utils::LEGAL;
 use swift_utils::all_alphanumeric;
+use swift_utils::all_in;
 use swift_utils::class_table;
 use swift_utils::is_digit;
 use swift_utils::parse_account;
@@ -19,17 +20,18 @@ pub mod lines;
 mod words;
 
 ghost use mathlib.Core.Path.{_≡_};
-ghost use mathlib.Core.List.{[]};
-ghost use Prim.Native.Nat.{suc, _+_, _<_, _^_};
+ghost use mathlib.Core.List.{List};
+ghost use Prim.Native.Nat.{ℕ, suc, _+_, _<_, _^_};
 ghost use lib.Dec.{eqb};
 ghost use lib.ListN.{length, drop, getD};
 ghost use Rattle.errors.specs.declared.Outcome.the-variants.{Refused};
 ghost use Rattle.errors.specs.Refusals.{told, must};
-ghost use Rattle.party.specs.Text.{four, fourTexts};
+ghost use Rattle.party.specs.Text.{textsIn};
+ghost use Rattle.swift_utils.specs.Classes.{classTable};
 ghost use Rattle.field_utils.specs.Lines.{starts, lines as linesOf};
 ghost use Rattle.field_utils.specs.Identifier.{isNumbered, toldIdentifier, parsePartyIdentifier, identifierReply};
 ghost use Rattle.field_utils.specs.Names.{skipOf, keptFrom, digitOf, parseNumber, parseCount, readNames, toldNames};
-ghost use Rattle.field_utils.specs.Code.{parseShape, parseRest, givenNames};
+ghost use Rattle.field_utils.specs.Code.{parseShape, parseRest, givenNames, noNames, Tested};
 
 // Whether a line starts with a slash.
 pub fn starts_with_slash(line: &[u8]) -> bool
@@ -209,29 +211,29 @@ fn digit_of(input: &[u8], numbering: Numbering) -> u8
     }
 }
 
-// What the names give: accepted with how many there are, their texts and their digits, or refused with none.
+// What the names give: accepted with how many there are, the parts of the body that the first four are, and their digits, or refused with none.
 pub struct Names {
     pub outcome: Outcome,
     pub count: usize,
-    pub texts: [Text; 4],
+    pub parts: [Part; 4],
     pub digits: [u8; 4],
 }
 
 // A refusal, with no names beside it.
 fn refuse_names(e: ParseError) -> Names
-    ensures { λ r. ⌜ r ≡ record { outcome = Refused e; count = 0; texts = fourTexts []; digits = four 0 [] } ⌝ }
+    ensures { λ r. ⌜ r ≡ noNames (Refused e) ⌝ }
 {
     Names {
         outcome: Outcome::Refused(e),
         count: 0,
-        texts: [NOTHING; 4],
+        parts: [NO_PART; 4],
         digits: [0u8; 4],
     }
 }
 
 // The names, after the lines: the one of an illegal byte, or 0 (3), then the count (7).
-fn counted(illegal: usize, count: usize, most: usize, texts: [Text; 4], digits: [u8; 4]) -> Names
-    ensures { λ r. ⌜ toldNames r ≡ givenNames (parseRest illegal most count) count texts digits ⌝ }
+fn counted(illegal: usize, count: usize, most: usize, parts: [Part; 4], digits: [u8; 4]) -> Names
+    ensures { λ r. ⌜ ((body : List ℕ) → toldNames body r ≡ givenNames (parseRest illegal most count) count (textsIn body parts) digits) ⌝ }
 {
     if illegal != 0 {
         return refuse_names(ParseError::IllegalByte(illegal));
@@ -243,21 +245,33 @@ fn counted(illegal: usize, count: usize, most: usize, texts: [Text; 4], digits: 
     Names {
         outcome: Outcome::Accepted,
         count,
-        texts,
+        parts,
         digits,
+    }
+}
+
+// How many of a line's bytes need no test one by one: all where a test of all at once passes, else none.
+fn pass_bytes(input: &[u8], classes: &[u8; 256]) -> usize
+    requires { ⌜ now classes ≡ classTable ⌝ }
+    ensures { λ r. ⌜ Tested (now (input .entry)) r ⌝ }
+{
+    if all_in(input, classes, LEGAL) {
+        input.len()
+    } else {
+        0
     }
 }
 
 // The lines of names from a place on, which start_idx lines precede: each tested in order, its number, its length, then its bytes; and
 // counted last. The Rust writes this loop out in 50, 50F, 50K, 50H and 59F.
 pub fn parse_name_and_address(body: &[u8], from: Lines, start_idx: u8, option: PartyOption) -> Names
-    ensures { λ r. ⌜ toldNames r ≡ readNames option (suc «start_idx») (linesOf (drop (from .at) (now (body .entry)))) ⌝ }
+    ensures { λ r. ⌜ toldNames (now (body .entry)) r ≡ readNames option (suc «start_idx») (linesOf (drop (from .at) (now (body .entry)))) ⌝ }
 {
     let limits = limits_of(option);
     let numbering = limits.numbering;
     let kept = kept_from(numbering);
     let classes = class_table();
-    let mut texts = [NOTHING; 4];
+    let mut parts = [NO_PART; 4];
     let mut digits = [0u8; 4];
     let mut cursor = from;
     let mut count = 0;
@@ -273,20 +287,22 @@ pub fn parse_name_and_address(body: &[u8], from: Lines, start_idx: u8, option: P
         if let Outcome::Refused(e) = outcome {
             return refuse_names(e);
         }
-        let mut i = 0;
+        let mut i = pass_bytes(input, &classes);
         while i < input.len() {
             let b = input[i] as usize;
-            if classes[b] == 0 {
+            if classes[b] & LEGAL != LEGAL {
                 break 'lines line;
             }
             i += 1;
         }
         if count < 4 {
-            texts[count] = text_of(&input[kept..]);
+            let start = start + kept;
+            let len = end - start;
+            parts[count] = Part { start, len };
             digits[count] = digit_of(input, numbering);
         }
         count = turn;
         cursor = rest;
     };
-    counted(illegal, count, limits.names, texts, digits)
+    counted(illegal, count, limits.names, parts, digits)
 }

@@ -5,16 +5,18 @@ use mathlib.Core.Path.{_≡_, refl, _∙_, sym, ap}
 use mathlib.Core.Bool.{Bool, true, false, _&&_}
 use mathlib.Core.List.{List, [], _∷_, _++_, append-assoc, append-nil}
 use native.Mathlib.Omega.{arith}
+use native.Mathlib.Nat.{add-zero}
 use native.Mathlib.Numerals.{add-one}
 use borrow.Author.Tests.{le-leb, lt-leb, leb-true}
 use lib.Dec.{leb}
 use lib.ListN.{length, getD, take, drop, set, length-append, length-drop, length-set}
-use lib.Seq.{paste, paste-zero, paste-suc, take-at, drop-at, take-all, take-add, take-append-le, drop-drop, drop-cons, drop-set-lt, take-suc-set, append-snoc, length-take-le, take-paste, drop-paste}
+use lib.Seq.{take-take, take-append-add, paste, paste-zero, paste-suc, take-at, drop-at, take-all, take-add, take-append-le, drop-drop, drop-cons, drop-set-lt, take-suc-set, append-snoc, length-take-le, take-paste, drop-paste, getD-take, getD-drop}
 use Rattle.party.specs.declared.Text.{Text}
 use Rattle.party.specs.declared.Party.{Party}
 use Rattle.party.specs.Limits.{placeOf}
 use Rattle.party.specs.Text.{textMost, padded, textOf}
 use Rattle.party.specs.Party.{IsParty, blank}
+use Rattle.flat.specs.Code.{headPut}
 use Rattle.flat.specs.Flat.{textSize, digitsAt, recordSize, byteOf, bit, flatText, flatTexts, textsOf, flatten, stored, textAt, isFlat, partyFrom, unflatten}
 
 -- the text that stands for one past the end
@@ -39,6 +41,20 @@ unfolding unflatten
 loaded-not s e = rw (e, unflatten)
 
 -- ---- a text among bytes
+module _ (s : List ℕ) (n : ℕ) where
+  pub text-length : textAt n s .len ≡ getD s (3 + textSize * n) 0
+  unfolding textAt
+  text-length = getD-take textSize (drop (3 + textSize * n) s) 0 0 (omega arith) ∙ getD-drop (3 + textSize * n) s 0 0 ∙ ap (λ (k : ℕ). getD s k 0) (add-zero (3 + textSize * n))
+
+  -- its bytes, where there are as many
+  module _ (h : 3 + textSize * n + textSize ≤ length s) where
+    pub text-bytes : textAt n s .bytes ≡ take textMost (drop (3 + textSize * n + 1) s)
+    unfolding textAt
+    text-bytes = rw (drop-cons s (3 + textSize * n) 0 (omega arith), add-one)
+
+    pub text-size : length (textAt n s .bytes) ≡ textMost
+    text-size = ap length text-bytes ∙ length-take-le textMost (drop (3 + textSize * n + 1) s) (simp length-drop (omega arith))
+
 full : (l : List ℕ) → length l ≡ textMost → textOf l .bytes ≡ l
 unfolding textOf padded
 full l h = rw (take-all textMost l (omega arith), h) (append-nil l)
@@ -54,6 +70,24 @@ text-here s n t h e =
     let bytes : t .bytes ≡ take textMost (drop (at + 1) s) =
     ap (λ (u : Text). u .bytes) e ∙ (ap (λ (k : ℕ). textOf (take k (drop (at + 1) s)) .bytes) width ∙ full _ size) in
     rw (bytes, drop-cons s at 0 (omega arith), add-one)
+
+-- ---- the record of bytes: its names and digits by their places
+module _ (s : List ℕ) where
+  pub party-names : length (partyFrom s .«name_and_address») ≡ 4
+  unfolding partyFrom
+  party-names = refl
+
+  pub party-name : (i : ℕ) → i < 4 → getD (partyFrom s .«name_and_address») i none ≡ textAt (2 + i) s
+  unfolding partyFrom
+  party-name zero h = refl
+  party-name (suc zero) h = refl
+  party-name (suc (suc zero)) h = refl
+  party-name (suc (suc (suc zero))) h = refl
+  party-name (suc (suc (suc (suc i)))) h = absurd (omega arith)
+
+  pub party-digit : (i : ℕ) → i < 4 → getD (partyFrom s .digits) i 0 ≡ getD s (digitsAt + i) 0
+  unfolding partyFrom
+  party-digit i h = getD-take 4 (drop digitsAt s) i 0 h ∙ getD-drop digitsAt s i 0
 
 -- ---- bytes copied one by one
 -- out is d, with the first i bytes of s from at on
@@ -81,16 +115,45 @@ text-put d bytes at b h =
     drop-set-lt (at + 1 + textMost) d at b (omega arith) ∙ ap (λ (k : ℕ). drop k d) end in
     rw (rest, add-one, take-suc-set d at b (omega arith), append-snoc)
 
+-- ---- bytes pasted after others, or over some of them
+module _ (d : List ℕ) (at : ℕ) (s : List ℕ) (i j k : ℕ) (h : j ≤ i) (l : i ≤ j + k) (room : at + (j + k) ≤ length d) (size : j + k ≤ length s) where
+  paste-front : take (at + j) (paste d at s i) ≡ take at d ++ take j s
+  paste-front =
+      sym (take-take (at + j) (at + i) (paste d at s i) (omega arith))
+      ∙ ap (take (at + j)) (take-paste d at s i (omega arith) (omega arith))
+      ∙ ap (λ (n : ℕ). take (n + j) (take at d ++ take i s)) (sym (length-take-le at d (omega arith)))
+      ∙ take-append-add (take at d) (take i s) j
+      ∙ ap (_++_ (take at d)) (take-take j i s h)
+
+  paste-back : drop (at + j + k) (paste d at s i) ≡ drop (at + (j + k)) d
+  paste-back =
+      let m = j + k - i in
+      let start : at + j + k ≡ at + i + m = omega arith in
+      let end : at + i + m ≡ at + (j + k) = omega arith in
+      ap (λ (n : ℕ). drop n (paste d at s i)) start
+      ∙ sym (drop-drop m (at + i) (paste d at s i))
+      ∙ ap (drop m) (drop-paste d at s i (omega arith) (omega arith))
+      ∙ drop-drop m (at + i) d
+      ∙ ap (λ (n : ℕ). drop n d) end
+
+  pub paste-over : paste (paste d at s i) (at + j) (drop j s) k ≡ paste d at s (j + k)
+  paste-over =
+      rw (paste-front, paste-back, take-add j k s)
+      (ap (λ (r : List ℕ). r ++ drop (at + (j + k)) d) (append-assoc (take at d) (take j s) (take k (drop j s))))
+
+-- a list put as its first bytes and its last, which may be put over some of the first
+pub paste-ends :
+    (d : List ℕ) (at : ℕ) (s : List ℕ) (k : ℕ) {e f : List ℕ} → k ≤ length s → length s ≤ k + k → at + length s ≤ length d → e ≡ paste d at s k →
+    f ≡ paste e (at + (length s - k)) (drop (length s - k) s) k → f ≡ paste d at s (length s)
+paste-ends d at s k h l room p q =
+    let all : length s - k + k ≡ length s = omega arith in
+    q ∙ rw p (paste-over d at s k (length s - k) k (omega arith) (omega arith) (omega arith) (omega arith)) ∙ ap (paste d at s) all
+
 -- ---- texts one after the other
-module _ (d s t : List ℕ) (at n m : ℕ) (room : at + n + m ≤ length d) (size : n + m ≤ length s) where
-  pub paste-more : take m t ≡ take m (drop n s) → paste (paste d at s n) (at + n) t m ≡ paste d at s (n + m)
-  paste-more e =
-      let front : take (at + n) (paste d at s n) ≡ take at d ++ take n s = take-paste d at s n (omega arith) (omega arith) in
-      let end : at + n + m ≡ at + (n + m) = omega arith in
-      let back : drop (at + n + m) (paste d at s n) ≡ drop (at + (n + m)) d =
-      sym (drop-drop m (at + n) (paste d at s n)) ∙ (ap (drop m) (drop-paste d at s n (omega arith) (omega arith)) ∙ (drop-drop m (at + n) d ∙ ap (λ (k : ℕ). drop k d) end)) in
-      rw (front, back, e, take-add n m s)
-      (ap (λ (l : List ℕ). l ++ drop (at + (n + m)) d) (append-assoc (take at d) (take n s) (take m (drop n s))))
+pub paste-more :
+    (d s t : List ℕ) (at n m : ℕ) → at + n + m ≤ length d → n + m ≤ length s → take m t ≡ take m (drop n s) →
+    paste (paste d at s n) (at + n) t m ≡ paste d at s (n + m)
+paste-more d s t at n m room size e = rw e (paste-over d at s n n m (omega arith) (omega arith) (omega arith) size)
 
 -- each text has 38 bytes
 abbrev pub Sizes : List Text → Type 0
@@ -143,23 +206,23 @@ stored-none p d h = rw (lt-leb recordSize (length d) h, stored)
 
 -- the texts and then the digits are those bytes
 texts-digits :
-    (p : Party) (d : List ℕ) → IsParty p → recordSize ≤ length d →
+    (p : Party) (d : List ℕ) → length (p .«name_and_address») ≡ 4 → length (p .digits) ≡ 4 → Sizes (textsOf p) → recordSize ≤ length d →
     paste (paste d 3 (flatTexts (textsOf p)) (6 * textSize)) digitsAt (p .digits) 4 ≡ take 3 d ++ body p ++ drop recordSize d
-texts-digits p d h l =
+texts-digits p d four digits h l =
     let texts = flatTexts (textsOf p) in
-    let size = six p (h .size) (sizes p h) in
-    let all = body-size p (h .size) (h .digits) (sizes p h) in
+    let size = six p four h in
+    let all = body-size p four digits h in
     let last : take 4 (p .digits) ≡ take 4 (drop (6 * textSize) (body p)) = ap (take 4) (sym (drop-at texts (p .digits) (6 * textSize) size)) in
     let more = paste-more d (body p) (p .digits) 3 (6 * textSize) 4 l (omega (arith, all)) last in
     rw (take-append-le (6 * textSize) texts (p .digits) (omega (arith, size)), take-all (6 * textSize + 4) (body p) (omega (arith, all))) at more
 
 -- the first three bytes, then those
 pub store-all :
-    (p : Party) (d : List ℕ) → IsParty p → recordSize ≤ length d →
-    paste (paste (set (set (set d 0 (placeOf (p .option))) 1 (bit (p .present))) 2 (byteOf (p .count))) 3 (flatTexts (textsOf p)) (6 * textSize)) digitsAt (p .digits) 4
+    (p : Party) (d : List ℕ) → length (p .«name_and_address») ≡ 4 → length (p .digits) ≡ 4 → Sizes (textsOf p) → recordSize ≤ length d →
+    paste (paste (headPut (p .option) (p .present) (p .count) d) 3 (flatTexts (textsOf p)) (6 * textSize)) digitsAt (p .digits) 4
     ≡ flatten p ++ drop recordSize d
 unfolding flatten
-store-all p [] h l = absurd (omega arith)
-store-all p (x ∷ []) h l = absurd (omega arith)
-store-all p (x ∷ y ∷ []) h l = absurd (omega arith)
-store-all p (x ∷ y ∷ z ∷ d) h l = texts-digits p (placeOf (p .option) ∷ bit (p .present) ∷ byteOf (p .count) ∷ d) h l
+store-all p [] four digits h l = absurd (omega arith)
+store-all p (x ∷ []) four digits h l = absurd (omega arith)
+store-all p (x ∷ y ∷ []) four digits h l = absurd (omega arith)
+store-all p (x ∷ y ∷ z ∷ d) four digits h l = texts-digits p (placeOf (p .option) ∷ bit (p .present) ∷ byteOf (p .count) ∷ d) four digits h l

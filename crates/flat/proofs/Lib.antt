@@ -1,2 +1,4 @@
 pub mod Laws
 pub mod Theorems
+pub mod Stores
+pub mod Parts

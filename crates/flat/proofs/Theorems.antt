@@ -1,9 +1,9 @@
 -- The flat record: its bytes, from which the record comes back.
 -- Assumes nothing.
-use Prim.Native.Nat.{ℕ, zero, suc, _+_, _*_, _-_, _<_, _≤_}
+use Prim.Native.Nat.{ℕ, zero, suc, _+_, _*_, _<_, _≤_}
 use mathlib.Core.Path.{_≡_, refl, _∙_, ap}
 use mathlib.Core.Bool.{Bool, true, false}
-use mathlib.Core.List.{List, [], _∷_, _++_, append-assoc}
+use mathlib.Core.List.{List, [], _∷_, _++_, map, append-assoc}
 use native.Mathlib.Omega.{arith}
 use borrow.Author.Tests.{le-leb}
 use lib.Dec.{eqb}
@@ -14,8 +14,8 @@ use Rattle.party.specs.declared.Party.{Party}
 use Rattle.party.specs.Limits.{placeOf}
 use Rattle.party.specs.Party.{IsParty}
 use Rattle.party.proofs.Options.{placed, place-most}
-use Rattle.flat.specs.Flat.{textSize, recordSize, byteOf, bit, flatText, flatTexts, textsOf, flatten, textFrom, textAt, isFlat, partyFrom, unflatten}
-use Rattle.flat.proofs.Laws.{none, loaded, Sizes, text-in, sizes, six, body, body-size}
+use Rattle.flat.specs.Flat.{textSize, recordSize, byteOf, bit, flatText, flatTexts, textsOf, flatten, stored, textFrom, textAt, isFlat, partyFrom, unflatten}
+use Rattle.flat.proofs.Laws.{none, loaded, stored-whole, Sizes, text-in, sizes, six, body, body-size}
 
 -- ---- the bytes
 pub flatten-size : (p : Party) → IsParty p → length (flatten p) ≡ recordSize
@@ -68,11 +68,32 @@ pub bit-back : (b : Bool) → eqb (bit b) 1 ≡ b
 bit-back true = refl
 bit-back false = refl
 
+-- a text as it comes back: a length above 255 as 255
+abbrev pub cappedText : Text → Text
+cappedText t = record { bytes = t .bytes; len = byteOf (t .len) }
+
+-- a record as it comes back: so are its texts and its count
+abbrev pub capped : Party → Party
+capped p = record {
+  option = p .option;
+  present = p .present;
+  account = cappedText (p .account);
+  bic = cappedText (p .bic);
+  count = byteOf (p .count);
+  «name_and_address» = map cappedText (p .«name_and_address»);
+  digits = p .digits;
+}
+
 byte-back : (n : ℕ) → n ≤ 255 → byteOf n ≡ n
 byte-back n h = omega arith
 
-text-back : (t : Text) → t .len ≤ 255 → textFrom (flatText t) ≡ t
-text-back t h = rw (byte-back (t .len) h)
+names-back : (ts : List Text) → ((i : ℕ) → i < length ts → getD ts i none .len ≤ 255) → map cappedText ts ≡ ts
+names-back [] h = refl
+names-back (t ∷ ts) h = rw (byte-back (t .len) (h 0 (omega arith)), names-back ts (λ i l. h (suc i) (omega arith)))
+
+capped-small : (p : Party) → length (p .«name_and_address») ≡ 4 → Small p → capped p ≡ p
+capped-small p size s =
+    rw (byte-back (p .account .len) (s .account), byte-back (p .bic .len) (s .bic), byte-back (p .count) (s .count), names-back (p .«name_and_address») (λ i l. s .name i (omega arith)))
 
 four : {A : Type 0} (l : List A) (d : A) → length l ≡ 4 → (getD l 0 d ∷ getD l 1 d ∷ getD l 2 d ∷ getD l 3 d ∷ []) ≡ l
 four [] d h = absurd (omega arith)
@@ -83,14 +104,9 @@ four (a ∷ b ∷ c ∷ e ∷ []) d h = refl
 four (a ∷ b ∷ c ∷ e ∷ f ∷ l) d h = absurd (omega arith)
 
 -- a record of four names, of four digits and of texts of 38 bytes, and whatever bytes follow it
-module _ (p : Party) (rest : List ℕ) (size : length (p .«name_and_address») ≡ 4) (digits : length (p .digits) ≡ 4) (h : Sizes (textsOf p)) (s : Small p) where
-  small : (k : ℕ) → k < 6 → getD (textsOf p) k none .len ≤ 255
-  small zero l = s .account
-  small (suc zero) l = s .bic
-  small (suc (suc i)) l = s .name i (omega arith)
-
+module _ (p : Party) (rest : List ℕ) (size : length (p .«name_and_address») ≡ 4) (digits : length (p .digits) ≡ 4) (h : Sizes (textsOf p)) where
   -- the text at a place, by its number among the six
-  text-at : (k : ℕ) → k < 6 → textFrom (take textSize (drop (textSize * k) (flatTexts (textsOf p) ++ (p .digits ++ rest)))) ≡ getD (textsOf p) k none
+  text-at : (k : ℕ) → k < 6 → textFrom (take textSize (drop (textSize * k) (flatTexts (textsOf p) ++ (p .digits ++ rest)))) ≡ cappedText (getD (textsOf p) k none)
   text-at k l =
       let texts = flatTexts (textsOf p) in
       let after = p .digits ++ rest in
@@ -98,7 +114,7 @@ module _ (p : Party) (rest : List ℕ) (size : length (p .«name_and_address») 
       let part : take textSize (drop (textSize * k) (texts ++ after)) ≡ take textSize (drop (textSize * k) texts) =
       ap (take textSize) (drop-append-le (textSize * k) texts after (omega (arith, n)))
       ∙ take-append-le textSize (drop (textSize * k) texts) after (omega (arith, n, length-drop (textSize * k) texts)) in
-      ap textFrom (part ∙ text-in (textsOf p) k h (omega arith)) ∙ text-back (getD (textsOf p) k none) (small k l)
+      ap textFrom (part ∙ text-in (textsOf p) k h (omega arith))
 
   -- and the digits after them
   digits-back : take 4 (drop (6 * textSize) (flatTexts (textsOf p) ++ (p .digits ++ rest))) ≡ p .digits
@@ -110,27 +126,34 @@ module _ (p : Party) (rest : List ℕ) (size : length (p .«name_and_address») 
       let n : recordSize ≤ length (flatten p ++ rest) = omega (arith, body-size p size digits h, length-append (body p) rest) in
       rw (le-leb recordSize (length (flatten p ++ rest)) n, le-leb (placeOf (p .option)) 10 (place-most (p .option))) (le-leb (bit (p .present)) 1 (bit-small (p .present)))
 
-  party-back : partyFrom (flatten p ++ rest) ≡ p
+  party-back : partyFrom (flatten p ++ rest) ≡ capped p
   unfolding partyFrom textAt flatten
   party-back =
       rw
-      (append-assoc (flatTexts (textsOf p)) (p .digits) rest, placed (p .option), bit-back (p .present), byte-back (p .count) (s .count), text-at 0 (omega arith), text-at 1 (omega arith), text-at 2 (omega arith), text-at 3 (omega arith), text-at 4 (omega arith), text-at 5 (omega arith), digits-back)
+      (append-assoc (flatTexts (textsOf p)) (p .digits) rest, placed (p .option), bit-back (p .present), text-at 0 (omega arith), text-at 1 (omega arith), text-at 2 (omega arith), text-at 3 (omega arith), text-at 4 (omega arith), text-at 5 (omega arith), digits-back)
       (ap
       (λ (names : List Text).
       record {
         option = p .option;
         present = p .present;
-        account = p .account;
-        bic = p .bic;
-        count = p .count;
-        «name_and_address» = names;
+        account = cappedText (p .account);
+        bic = cappedText (p .bic);
+        count = byteOf (p .count);
+        «name_and_address» = map cappedText names;
         digits = p .digits;
       })
       (four (p .«name_and_address») none size))
 
-  pub loads-back : unflatten (flatten p ++ rest) ≡ p
-  loads-back = loaded (flatten p ++ rest) is-flat ∙ party-back
+  loads-capped : unflatten (flatten p ++ rest) ≡ capped p
+  loads-capped = loaded (flatten p ++ rest) is-flat ∙ party-back
+
+  pub loads-back : Small p → unflatten (flatten p ++ rest) ≡ p
+  loads-back s = loads-capped ∙ capped-small p size s
 
 -- every value of the Rattle type is such
-pub round-trip : (p : Party) (rest : List ℕ) → IsParty p → Small p → unflatten (flatten p ++ rest) ≡ p
-round-trip p rest h s = loads-back p rest (h .size) (h .digits) (sizes p h) s
+module _ (p : Party) (h : IsParty p) where
+  pub round-trip : (rest : List ℕ) → Small p → unflatten (flatten p ++ rest) ≡ p
+  round-trip rest = loads-back p rest (h .size) (h .digits) (sizes p h)
+
+  pub stored-capped : (d : List ℕ) → recordSize ≤ length d → unflatten (stored p d) ≡ capped p
+  stored-capped d l = ap unflatten (stored-whole p d l) ∙ loads-capped p (drop recordSize d) (h .size) (h .digits) (sizes p h)

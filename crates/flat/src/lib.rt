@@ -1,25 +1,36 @@
 // A party record as bytes, for programs in other languages. The place of the option in the table, the presence and the count are
 // a byte each; then come six texts, a length and 38 bytes each: the account, the BIC and the names; and last the four digits.
+use copies::put_bytes;
+use party::Part;
+use party::Parts;
 use party::Party;
+use party::PartyOption;
 use party::TEXT_MOST;
 use party::Text;
 use party::blank;
 use party::index_of;
 use party::option_at;
+use party::part_of;
 use party::text_of;
+
+pub mod copies;
+
 ghost use mathlib.Core.Path.{_≡_};
 ghost use mathlib.Core.List.{[]};
 ghost use Prim.Native.Nat.{_+_, _*_, _≤_, _<_};
 ghost use lib.Dec.{leb};
-ghost use lib.ListN.{length, getD, take, drop};
+ghost use lib.ListN.{length, getD, take, drop, replicate};
 ghost use lib.Seq.{paste};
+ghost use Rattle.party.specs.Text.{textMost, textOf};
+ghost use Rattle.party.specs.Party.{partyIn};
+ghost use Rattle.flat.specs.Code.{headPut, partsOf};
 ghost use Rattle.flat.specs.Flat.{textSize, digitsAt, recordSize, byteOf, bit as bitOf, flatText, flatTexts, textsOf, stored, textAt, isFlat, partyFrom, unflatten};
 
 // The bytes of a text.
-const TEXT_SIZE: usize = 1 + TEXT_MOST;
+pub const TEXT_SIZE: usize = 1 + TEXT_MOST;
 
 // Where the digits stand: after the texts.
-const DIGITS_AT: usize = 3 + 6 * TEXT_SIZE;
+pub const DIGITS_AT: usize = 3 + 6 * TEXT_SIZE;
 
 // The bytes of a record: 241.
 pub const RECORD_SIZE: usize = DIGITS_AT + 4;
@@ -82,15 +93,25 @@ fn put_texts(p: Party, out: &mut [u8])
 }
 
 // The four digits, after the texts.
-fn put_digits(p: Party, out: &mut [u8])
+fn put_digits(digits: [u8; 4], out: &mut [u8])
     requires { ⌜ recordSize ≤ length (now out) ⌝ }
-    ensures { λ _. ⌜ now (out .exit) ≡ paste (now (out .entry)) digitsAt (p .digits) 4 ⌝ }
+    ensures { λ _. ⌜ now (out .exit) ≡ paste (now (out .entry)) digitsAt digits 4 ⌝ }
 {
     let mut i = 0;
     while i < 4 {
-        out[DIGITS_AT + i] = p.digits[i];
+        out[DIGITS_AT + i] = digits[i];
         i += 1;
     }
+}
+
+// The three bytes before the texts.
+fn put_head(option: PartyOption, present: bool, count: usize, out: &mut [u8])
+    requires { ⌜ recordSize ≤ length (now out) ⌝ }
+    ensures { λ _. ⌜ now (out .exit) ≡ headPut option present count (now (out .entry)) ⌝ }
+{
+    out[0] = index_of(option) as u8;
+    out[1] = bit(present);
+    out[2] = byte_of(count);
 }
 
 // Stores a record at the start of the bytes, and says whether there are as many; where there are not, no byte changes.
@@ -102,13 +123,91 @@ pub fn store(p: Party, out: &mut [u8]) -> bool
         return false;
     }
     let option = p.option;
-    let present = p.present;
-    let count = p.count;
-    out[0] = index_of(option) as u8;
-    out[1] = bit(present);
-    out[2] = byte_of(count);
+    put_head(option, p.present, p.count, out);
     put_texts(p, out);
-    put_digits(p, out);
+    let digits = p.digits;
+    put_digits(digits, out);
+    true
+}
+
+// Zeros for the six texts.
+fn put_zeros(out: &mut [u8])
+    requires { ⌜ recordSize ≤ length (now out) ⌝ }
+    ensures { λ _. ⌜ now (out .exit) ≡ paste (now (out .entry)) 3 (replicate (6 * textSize) 0) (6 * textSize) ⌝ }
+{
+    let mut i = 0;
+    while i < 6 * TEXT_SIZE {
+        out[3 + i] = 0;
+        i += 1;
+    }
+}
+
+// How many bytes of a slice a text takes.
+fn taken(s: &[u8]) -> usize
+    ensures { λ r. ⌜ r ≡ length (take textMost (now (s .entry))) ⌝ }
+{
+    if s.len() < TEXT_MOST {
+        s.len()
+    } else {
+        TEXT_MOST
+    }
+}
+
+// The text of a slice at a place where there are zeros: its length, then its bytes.
+fn put_part(s: &[u8], out: &mut [u8], at: usize)
+    requires { ⌜ (at + textSize ≤ length (now out)) × (take textSize (drop at (now out)) ≡ replicate textSize 0) ⌝ }
+    ensures { λ _. ⌜ now (out .exit) ≡ paste (now (out .entry)) at (flatText (textOf (now (s .entry)))) textSize ⌝ }
+{
+    let n = taken(s);
+    out[at] = n as u8;
+    put_bytes(out, at + 1, &s[..n]);
+}
+
+// The six parts of a record, in the order of its texts.
+fn nth_part(parts: Parts, n: usize) -> Part
+    requires { ⌜ n < 6 ⌝ }
+    ensures { λ r. ⌜ r ≡ getD (partsOf parts) n (record { start = 0; len = 0 }) ⌝ }
+{
+    if n == 0 {
+        return parts.account;
+    }
+    if n == 1 {
+        return parts.bic;
+    }
+    parts.name_and_address[n - 2]
+}
+
+// The texts of six parts of a body from 3 on, where there are zeros.
+fn put_parts(parts: Parts, body: &[u8], out: &mut [u8])
+    requires { ⌜ (recordSize ≤ length (now out)) × (take (6 * textSize) (drop 3 (now out)) ≡ replicate (6 * textSize) 0) ⌝ }
+    ensures { λ _. ⌜ now (out .exit) ≡ paste (now (out .entry)) 3 (flatTexts (textsOf (partyIn (now (body .entry)) parts))) (6 * textSize) ⌝ }
+{
+    let mut n = 0;
+    let mut at = 3;
+    while n < 6 {
+        let part = nth_part(parts, n);
+        if part.len != 0 {
+            put_part(part_of(body, part), out, at);
+        }
+        at += TEXT_SIZE;
+        n += 1;
+    }
+}
+
+// Stores the record of parts of a body at the start of the bytes, as `store` does; it is built nowhere else.
+pub fn store_parts(parts: Parts, body: &[u8], out: &mut [u8]) -> bool
+    ensures { λ r. ⌜ r ≡ leb recordSize (length (now (out .entry))) ⌝ }
+    ensures { λ _. ⌜ now (out .exit) ≡ stored (partyIn (now (body .entry)) parts) (now (out .entry)) ⌝ }
+{
+    if out.len() < RECORD_SIZE {
+        return false;
+    }
+    let option = parts.option;
+    put_zeros(out);
+    put_head(option, parts.present, parts.count, out);
+    put_parts(parts, body, out);
+    let digits = parts.digits;
+    put_digits(digits, out);
     true
 }
 
@@ -142,7 +241,7 @@ fn digits_at(s: &[u8]) -> [u8; 4]
 }
 
 // Whether bytes start with a record.
-fn is_flat(s: &[u8]) -> bool
+pub fn is_flat(s: &[u8]) -> bool
     ensures { λ r. ⌜ r ≡ isFlat (now (s .entry)) ⌝ }
 {
     if s.len() < RECORD_SIZE {
@@ -152,6 +251,16 @@ fn is_flat(s: &[u8]) -> bool
         return false;
     }
     s[1] <= 1
+}
+
+// The option of the record at the start of the bytes.
+pub fn option_of(s: &[u8]) -> PartyOption
+    ensures { λ r. ⌜ r ≡ unflatten (now (s .entry)) .option ⌝ }
+{
+    if !is_flat(s) {
+        return PartyOption::Field50NoOption;
+    }
+    option_at(s[0] as usize)
 }
 
 // The record of bytes that start with one.

@@ -10,22 +10,22 @@ use lib.Seq.{drop-cons, drop-drop}
 use borrow.Author.Tests.{eqb-true, eq-eqb, ne-eqb, le-leb, lt-leb}
 use Rattle.errors.specs.declared.ParseError.{ParseError}
 use Rattle.errors.specs.declared.Outcome.{Outcome}
-use Rattle.errors.specs.Refusals.{Reply, accepted, refused, told, _then_, refusalOf}
+use Rattle.errors.specs.declared.Outcome.the-variants.{Accepted, Refused as Denied}
+use Rattle.errors.specs.Refusals.{Reply, accepted, refused, told, refusalOf}
 use Rattle.party.specs.declared.PartyOption.{PartyOption}
 use Rattle.party.specs.declared.Party.{Party}
-use Rattle.party.specs.Party.{blank}
-use Rattle.party.specs.Limits.{options, limitsOf}
+use Rattle.party.specs.Limits.{options}
 use Rattle.field_utils.specs.Lines.{upto, starts, isEmpty}
 use Rattle.field_utils.proofs.Places.{upto-length}
-use Rattle.reader.specs.declared.Answer.{Answer as ReaderAnswer}
-use Rattle.reader.specs.Reading.{Reading, giving, toldAnswer, partyOf}
-use Rattle.reader.specs.Options.{foundBy, bodyReply, read}
-use Rattle.page_reader.specs.declared.PageRead.{PageRead as Answer}
+use Rattle.reader.specs.Reading.{Into, storing, readInto as readerInto, toldInto as readerTold}
+use Rattle.reader.specs.Options.{read}
+use Rattle.reader.proofs.Into.{replied}
+use Rattle.page_reader.specs.declared.ReadInto.{ReadInto}
 use Rattle.page_reader.specs.declared.ReadOutcome.{ReadOutcome as OutcomeAt}
-use Rattle.page_reader.specs.declared.ReadOutcome.the-variants.{End, Refused}
+use Rattle.page_reader.specs.declared.ReadOutcome.the-variants.{Record, End, Refused}
 use Rattle.page_reader.specs.declared.ReadCase.{ReadCase}
 use Rattle.page_reader.specs.declared.ReadCase.the-variants.{TooLong, NoStart, AtLength, Opening, Ending, Stray}
-use Rattle.page_reader.specs.Pages.{pageMost, lineAt, opens, hasLf, endsAt, runs, Tagged, untagged, tagged, tagIn, ReadOutcome, theEnd, aRefusal, PageRead, bodiless, outcomeOf, readTagged, readField, readable, lineCase, restCase, readCase, readBy, readAt, toldOutcome, toldRead, partyBeside}
+use Rattle.page_reader.specs.Pages.{pageMost, lineAt, opens, hasLf, endsAt, runs, Tagged, untagged, tagged, tagIn, ReadOutcome, theEnd, aRefusal, PageRead, bodiless, outcomeOf, readTagged, readField, readable, lineCase, restCase, readCase, readBy, readAt, toldOutcome, partyBeside, readBytes, toldInto}
 use Rattle.page_reader.proofs.EndLines.{not-both}
 use Rattle.page_reader.proofs.Runs.{followed, runs-end, runs-lf, runs-more}
 
@@ -182,16 +182,16 @@ module _ (page : List ℕ) (at : ℕ) where
       go true true [] e = tt
       go true true (c ∷ s) e = line (c ∷ s) e (omega arith) (opens (lineAt (c ∷ s))) (endsAt (c ∷ s))
 
--- ---- what an answer of the code says of a read
-abbrev pub Tells : Answer → PageRead → Type 0
-Tells r x = (toldRead r (x .body) ≡ x) × (r .party ≡ partyBeside (x .outcome))
+-- ---- what an answer of the code says of a read into lent bytes, which were d and are e
+abbrev pub Tells : ReadInto → PageRead → List ℕ → List ℕ → Type 0
+Tells r x d e = (toldInto r x ≡ x) × (e ≡ readBytes (x .outcome) d)
 
-pub tells-refusal : {r : Answer} {e : ParseError} {next : ℕ} → r ≡ record { outcome = Refused e; party = blank; next = next }
-    → Tells r (bodiless (aRefusal (refusalOf e .number) (refusalOf e .line)) next)
-tells-refusal q = (ap (λ (w : Answer). toldRead w []) q, ap (λ (w : Answer). w .party) q)
+pub tells-refusal : {r : ReadInto} {w : ParseError} {next : ℕ} (d : List ℕ) → r ≡ record { outcome = Refused w; next = next }
+    → Tells r (bodiless (aRefusal (refusalOf w .number) (refusalOf w .line)) next) d d
+tells-refusal {w = w} {next = next} d q = (ap (λ (r : ReadInto). toldInto r (bodiless (aRefusal (refusalOf w .number) (refusalOf w .line)) next)) q, refl)
 
-pub tells-end : {r : Answer} {next : ℕ} → r ≡ record { outcome = End; party = blank; next = next } → Tells r (bodiless theEnd next)
-tells-end q = (ap (λ (w : Answer). toldRead w []) q, ap (λ (w : Answer). w .party) q)
+pub tells-end : {r : ReadInto} {next : ℕ} (d : List ℕ) → r ≡ record { outcome = End; next = next } → Tells r (bodiless theEnd next) d d
+tells-end {next = next} d q = (ap (λ (r : ReadInto). toldInto r (bodiless theEnd next)) q, refl)
 
 -- from a case to the read at a position
 module _ (page : List ℕ) (at : ℕ) {x : ReadCase} (e : readCase page at ≡ x) where
@@ -199,8 +199,8 @@ module _ (page : List ℕ) (at : ℕ) {x : ReadCase} (e : readCase page at ≡ x
   unfolding readAt
   by-case = ap (λ (y : ReadCase). readBy y page at) e
 
-  pub tells-by : (r : Answer) → Tells r (readBy x page at) → Tells r (readAt page at)
-  tells-by r h = subst (Tells r) (sym by-case) h
+  pub tells-by : (r : ReadInto) (d : List ℕ) {f : List ℕ} → Tells r (readBy x page at) d f → Tells r (readAt page at) d f
+  tells-by r d {f} h = subst (λ (y : PageRead). Tells r y d f) (sym by-case) h
 
   pub ends-by : Ends page at x
   ends-by = subst (Ends page at) e (stands page at)
@@ -215,24 +215,30 @@ unfolding readField
 field-next text next = tagged-next (tagIn options text) next
 
 -- a field's read by its tag
-pub tagged-tells : (text : List ℕ) (next : ℕ) {t : Tagged} → t ≡ tagIn options text → (r : Answer) → Tells r (readTagged t next) → Tells r (readField text next)
+pub tagged-tells : (text : List ℕ) (next : ℕ) {t : Tagged} → t ≡ tagIn options text → (r : ReadInto) (d : List ℕ) {e : List ℕ} → Tells r (readTagged t next) d e → Tells r (readField text next) d e
 unfolding readField
-tagged-tells text next e r h = subst (λ (w : Tagged). Tells r (readTagged w next)) e h
+tagged-tells text next q r d {e} h = subst (λ (w : Tagged). Tells r (readTagged w next) d e) q h
 
--- the record beside what an option's reader gives
-pub read-beside : (o : PartyOption) (body : List ℕ) → read o body .party ≡ partyBeside (outcomeOf (read o body .reply) (read o body .party))
-unfolding read
-read-beside o body = go (bodyReply body then foundBy (limitsOf o .layout) o body .reply) (partyOf o (foundBy (limitsOf o .layout) o body))
-  where
-    go : (r : Reply) (p : Party) → giving r p .party ≡ partyBeside (outcomeOf (giving r p .reply) (giving r p .party))
-    go accepted p = refl
-    go (refused k n) p = refl
+-- ---- a field's read by its option's reader
+-- what the reader's outcome is to the read
+abbrev pub went : Outcome → OutcomeAt
+went Accepted = Record
+went (Denied e) = Refused e
 
--- a field's read by its option's reader
-pub answer-tells : (o : PartyOption) (body : List ℕ) (next : ℕ) (a : ReaderAnswer) {w : Outcome} (x : OutcomeAt) → toldAnswer a ≡ read o body → a .outcome ≡ w
-    → toldOutcome x (a .party) ≡ outcomeOf (told w) (a .party) → Tells (record { outcome = x; party = a .party; next = next }) (readTagged (tagged o body) next)
-answer-tells o body next a x q e h = (
-  ap {B = PageRead} (λ (y : ReadOutcome). record { outcome = y; body = body; next = next })
-      (h ∙ ap (λ (y : Outcome). outcomeOf (told y) (a .party)) (sym e) ∙ ap (λ (r : Reading). outcomeOf (r .reply) (r .party)) q),
-  ap (λ (r : Reading). r .party) q ∙ read-beside o body,
-)
+went-told : (w : Outcome) (p : Party) → toldOutcome (went w) (partyBeside (outcomeOf (told w) p)) ≡ outcomeOf (told w) p
+went-told Accepted p = refl
+went-told (Denied e) p = refl
+
+stored-bytes : (q : Reply) (p : Party) (d : List ℕ) → storing q p d .bytes ≡ readBytes (outcomeOf q p) d
+stored-bytes accepted p d = refl
+stored-bytes (refused k n) p d = refl
+
+pub answer-tells : (o : PartyOption) (body : List ℕ) (next : ℕ) (a : Outcome) {w : Outcome} (d : List ℕ) {e : List ℕ} → readerTold a e ≡ readerInto (read o body) d → a ≡ w
+    → Tells (record { outcome = went w; next = next }) (readTagged (tagged o body) next) d e
+answer-tells o body next a {w} d {e} h q =
+    let r = read o body in
+    let reply : told w ≡ r .reply = sym (ap told q) ∙ replied r d a h in (
+      ap {B = PageRead} (λ (y : ReadOutcome). record { outcome = y; body = body; next = next })
+          (subst (λ (y : Reply). toldOutcome (went w) (partyBeside (outcomeOf y (r .party))) ≡ outcomeOf y (r .party)) reply (went-told w (r .party))),
+      ap (λ (i : Into). i .bytes) h ∙ stored-bytes (r .reply) (r .party) d,
+    )

@@ -11,14 +11,13 @@ use borrow.Author.Tests.{eq-eqb, ne-eqb, le-leb, lt-leb}
 use Rattle.errors.specs.declared.ParseError.{ParseError}
 use Rattle.errors.specs.Refusals.{Reply, accepted, refused, must}
 use Rattle.party.specs.declared.PartyOption.{PartyOption}
-use Rattle.party.specs.declared.Party.{Party}
 use Rattle.party.specs.Limits.{placeOf}
 use Rattle.page_reader.specs.declared.ReadOutcome.the-variants.{Record, Refused}
 use Rattle.page_reader.specs.declared.index.LookOutcome.the-variants.{Record as FoundRecord, Refused as FoundRefused}
-use Rattle.page_reader.specs.declared.index.Lookup.{Lookup}
+use Rattle.page_reader.specs.declared.index.LookOutcome.{LookOutcome}
 use Rattle.page_reader.specs.Pages.{pageMost, past, Tagged, untagged, tagged, PageRead, readTagged, readField, textIn, readCase, readAt}
 use Rattle.page_reader.specs.Reads.{Read, readHere}
-use Rattle.page_reader.specs.Index.{Entry, indexMost, indexSize, entriesIn, entriesOf, noEntry, Met, aField, taggedAs, metBy, fieldAt, Looked, found, notFound, looking, isThere, entryOf, lookReply, lookUp, bodyOf, toldLookup, partyLooked}
+use Rattle.page_reader.specs.Index.{Entry, indexMost, indexSize, entriesIn, entriesOf, noEntry, Met, aField, taggedAs, metBy, fieldAt, Looked, found, notFound, looking, isThere, entryOf, lookReply, lookUp, bodyOf, toldLooked, partyLooked, lookBytes}
 use Rattle.page_reader.specs.Code.{IsField}
 use Rattle.page_reader.proofs.Cases.{Tells, by-case}
 
@@ -138,15 +137,14 @@ pub field-read : (page : List ℕ) {o : PartyOption} {skip at to : ℕ} → IsFi
 unfolding readField
 field-read page {at = at} {to = to} f = by-case page at (f .case) ∙ ap (λ (t : Tagged). readTagged t (past page to)) (f .option)
 
--- what an answer of the code says of a lookup
-abbrev pub Looks : Lookup → Looked → Type 0
-Looks r x = (toldLookup r (bodyOf x) ≡ x) × (r .party ≡ partyLooked x)
+-- what an answer of the code says of a lookup into lent bytes, which were d and are e
+abbrev pub Looks : LookOutcome → Looked → List ℕ → List ℕ → Type 0
+Looks r x d e = (toldLooked r (partyLooked x) (bodyOf x) ≡ x) × (e ≡ lookBytes x d)
 
 -- of a field that was found, what the answer of a read says
-module _ (p : Party) (at next : ℕ) (x : PageRead) where
-  pub looks-record : Tells (record { outcome = Record; party = p; next = next }) x → Looks (record { outcome = FoundRecord at next; party = p }) (found (record { at = at; gave = x }))
+module _ (at next : ℕ) (x : PageRead) (d : List ℕ) {e : List ℕ} where
+  pub looks-record : Tells (record { outcome = Record; next = next }) x d e → Looks (FoundRecord at next) (found (record { at = at; gave = x })) d e
   looks-record t = (ap (λ (y : PageRead). found (record { at = at; gave = y })) (t .0), t .1)
 
-  pub looks-refused : (e : ParseError) → Tells (record { outcome = Refused e; party = p; next = next }) x
-      → Looks (record { outcome = FoundRefused e at next; party = p }) (found (record { at = at; gave = x }))
-  looks-refused e t = (ap (λ (y : PageRead). found (record { at = at; gave = y })) (t .0), t .1)
+  pub looks-refused : (w : ParseError) → Tells (record { outcome = Refused w; next = next }) x d e → Looks (FoundRefused w at next) (found (record { at = at; gave = x })) d e
+  looks-refused w t = (ap (λ (y : PageRead). found (record { at = at; gave = y })) (t .0), t .1)

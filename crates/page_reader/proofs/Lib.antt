@@ -8,3 +8,4 @@ pub mod Moves
 pub mod Starts
 pub mod InTurn
 pub mod Entries
+pub mod ByValue

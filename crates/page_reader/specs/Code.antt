@@ -8,12 +8,19 @@ use lib.ListN.{drop}
 use Rattle.errors.specs.declared.ParseError.the-variants.{Position}
 use Rattle.errors.specs.Refusals.{refusalOf}
 use Rattle.party.specs.declared.PartyOption.{PartyOption}
+use Rattle.party.specs.declared.Party.{Party}
 use Rattle.party.specs.Limits.{limitsOf, options}
+use Rattle.party.specs.Party.{blank}
 use Rattle.field_utils.specs.Lines.{isEmpty}
+use Rattle.flat.specs.Flat.{unflatten}
+use Rattle.page_reader.specs.declared.ReadOutcome.{ReadOutcome}
+use Rattle.page_reader.specs.declared.ReadOutcome.the-variants.{Record, End, Refused}
 use Rattle.page_reader.specs.declared.Tag.{Tag}
 use Rattle.page_reader.specs.declared.Tag.the-variants.{Unknown, Known}
 use Rattle.page_reader.specs.declared.ReadCase.{ReadCase}
 use Rattle.page_reader.specs.declared.ReadCase.the-variants.{Opening}
+use Rattle.page_reader.specs.declared.index.LookOutcome.{LookOutcome}
+use Rattle.page_reader.specs.declared.index.LookOutcome.the-variants.{Record as FoundRecord, Refused as FoundRefused, NotFound}
 use Rattle.page_reader.specs.declared.index.Place.{Place}
 use Rattle.page_reader.specs.declared.index.Place.the-variants.{Field, Missing}
 use Rattle.page_reader.specs.Pages.{lineAt, hasLf, lessCr, Tagged, untagged, tagged, tagIn, textIn, readCase}
@@ -53,3 +60,15 @@ HoldsBy x page at tag len (Missing e) = (e ≡ Position) × (isThere (metBy x pa
 abbrev pub Finds : List ℕ → List ℕ → ℕ → Place → Type 0
 Finds page index k (Field o skip at to) = IsField (readCase page at) page o skip at to × (lookUp page index k ≡ found (readHere page at))
 Finds page index k (Missing e) = lookUp page index k ≡ notFound (refusalOf e .number) (refusalOf e .line)
+
+-- the record that bytes hold where a read gives one, else the blank one
+abbrev pub partyIn : ReadOutcome → List ℕ → Party
+partyIn Record bytes = unflatten bytes
+partyIn End bytes = blank
+partyIn (Refused e) bytes = blank
+
+-- the same of a lookup
+abbrev pub partyFound : LookOutcome → List ℕ → Party
+partyFound (FoundRecord at next) bytes = unflatten bytes
+partyFound (FoundRefused e at next) bytes = blank
+partyFound (NotFound e) bytes = blank

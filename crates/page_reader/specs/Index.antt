@@ -13,7 +13,7 @@ use Rattle.page_reader.specs.declared.ReadCase.the-variants.{TooLong, No
 use Rattle.page_reader.specs.declared.index.LookOutcome.{LookOutcome}
 use Rattle.page_reader.specs.declared.index.LookOutcome.the-variants.{Record, Refused, NotFound}
 use Rattle.page_reader.specs.declared.index.Lookup.{Lookup}
-use Rattle.page_reader.specs.Pages.{pageMost, Tagged, untagged, tagged, tagIn, textIn, readCase, aRecord, aRefusal, partyBeside}
+use Rattle.page_reader.specs.Pages.{pageMost, Tagged, untagged, tagged, tagIn, textIn, readCase, aRecord, aRefusal, partyBeside, readBytes}
 use Rattle.page_reader.specs.Reads.{Read, readHere, reads}
 
 -- ---- the index
@@ -139,3 +139,8 @@ toldLookup r body = toldLooked (r .outcome) (r .party) body
 abbrev pub partyLooked : Looked → Party
 partyLooked (found r) = partyBeside (r .gave .outcome)
 partyLooked (notFound k n) = blank
+
+-- the bytes lent to a lookup, after it: those of the read; 18, 31 and 21 change none
+abbrev pub lookBytes : Looked → List ℕ → List ℕ
+lookBytes (found r) bytes = readBytes (r .gave .outcome) bytes
+lookBytes (notFound k n) bytes = bytes

@@ -13,8 +13,10 @@ use Rattle.party.specs.Party.{blank}
 use Rattle.swift_utils.specs.Bytes.{among}
 use Rattle.field_utils.specs.Lines.{upto, starts, isEmpty, withoutCr}
 use Rattle.field_utils.specs.Tags.{tagOf}
+use Rattle.flat.specs.Flat.{stored}
 use Rattle.reader.specs.Options.{read}
 use Rattle.page_reader.specs.declared.PageRead.{PageRead as ReadAt}
+use Rattle.page_reader.specs.declared.ReadInto.{ReadInto}
 use Rattle.page_reader.specs.declared.BodyPlace.{BodyPlace}
 use Rattle.page_reader.specs.declared.ReadOutcome.{ReadOutcome as OutcomeAt}
 use Rattle.page_reader.specs.declared.ReadOutcome.the-variants.{Record, End, Refused}
@@ -202,3 +204,13 @@ abbrev pub partyBeside : ReadOutcome → Party
 partyBeside (aRecord p) = p
 partyBeside theEnd = blank
 partyBeside (aRefusal k n) = blank
+
+-- the bytes lent to a read, after it: a record is stored at their start; the end and a refusal change none
+abbrev pub readBytes : ReadOutcome → List ℕ → List ℕ
+readBytes (aRecord p) bytes = stored p bytes
+readBytes theEnd bytes = bytes
+readBytes (aRefusal k n) bytes = bytes
+
+-- what the code's answer says of a read into lent bytes, which has neither the record nor the body
+abbrev pub toldInto : ReadInto → PageRead → PageRead
+toldInto r x = record { outcome = toldOutcome (r .outcome) (partyBeside (x .outcome)); body = x .body; next = r .next }

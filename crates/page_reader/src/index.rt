@@ -9,19 +9,21 @@ use crate::read_case;
 use crate::text_in;
 use errors::Outcome;
 use errors::ParseError;
+use flat::RECORD_SIZE;
+use flat::load;
 use party::Party;
 use party::PartyOption;
 use party::blank;
 use party::index_of;
 use reader::behind;
-use reader::read;
+use reader::read_into;
 ghost use mathlib.Core.Path.{_≡_};
 ghost use Prim.Native.Nat.{_≤_};
 ghost use lib.ListN.{length};
 ghost use Rattle.page_reader.specs.declared.ReadCase.the-variants.{Opening};
 ghost use Rattle.page_reader.specs.Pages.{readCase};
-ghost use Rattle.page_reader.specs.Index.{indexSize, entriesOf, lookUp, bodyOf, toldLookup, partyLooked};
-ghost use Rattle.page_reader.specs.Code.{HoldsBy, Finds};
+ghost use Rattle.page_reader.specs.Index.{indexSize, entriesOf, lookUp, bodyOf, toldLooked, toldLookup, partyLooked, lookBytes};
+ghost use Rattle.page_reader.specs.Code.{HoldsBy, Finds, partyFound};
 
 // The most entries of an index.
 pub const INDEX_MOST: usize = 256;
@@ -131,10 +133,16 @@ fn find(page: &[u8], index: &[u32; INDEX_SIZE], k: usize) -> Place
     field_here(page, index[last - 1], index[last - 2], index[last])
 }
 
-// Looks up field k of a page, counted from 1: reads as the reader does at the position that entry k gives.
-pub fn look_up(page: &[u8], index: &[u32; INDEX_SIZE], k: usize) -> Lookup
-    ensures { λ r. ⌜ toldLookup r (bodyOf (lookUp (now (page .entry)) (now (index .entry)) k)) ≡ lookUp (now (page .entry)) (now (index .entry)) k ⌝ }
-    ensures beside { λ r. ⌜ r .party ≡ partyLooked (lookUp (now (page .entry)) (now (index .entry)) k) ⌝ }
+// Looks up field k of a page, counted from 1: reads as the reader does at the position that entry k gives. The record is stored at the
+// start of lent bytes; a refusal changes none.
+pub fn look_up_into(
+    page: &[u8],
+    index: &[u32; INDEX_SIZE],
+    k: usize,
+    record: &mut [u8],
+) -> LookOutcome
+    ensures { λ r. ⌜ toldLooked r (partyLooked (lookUp (now (page .entry)) (now (index .entry)) k)) (bodyOf (lookUp (now (page .entry)) (now (index .entry)) k)) ≡ lookUp (now (page .entry)) (now (index .entry)) k ⌝ }
+    ensures bytes { λ r. ⌜ now («record» .exit) ≡ lookBytes (lookUp (now (page .entry)) (now (index .entry)) k) (now («record» .entry)) ⌝ }
 {
     match find(page, index, k) {
         Place::Field {
@@ -143,25 +151,37 @@ pub fn look_up(page: &[u8], index: &[u32; INDEX_SIZE], k: usize) -> Lookup
             at,
             to,
         } => {
-            let answer = read(option, behind(text_in(page, at, to), skip));
+            let outcome = read_into(option, behind(text_in(page, at, to), skip), record);
             let next = past(page, to);
-            let outcome = answer.outcome;
-            let party = answer.party;
             match outcome {
-                Outcome::Accepted => Lookup {
-                    outcome: LookOutcome::Record { at, next },
-                    party,
-                },
-                Outcome::Refused(error) => Lookup {
-                    outcome: LookOutcome::Refused { error, at, next },
-                    party,
-                },
+                Outcome::Accepted => LookOutcome::Record { at, next },
+                Outcome::Refused(error) => LookOutcome::Refused { error, at, next },
             }
         }
-        Place::Missing(e) => Lookup {
-            outcome: LookOutcome::NotFound(e),
-            party: blank(),
-        },
+        Place::Missing(e) => LookOutcome::NotFound(e),
+    }
+}
+
+// The record that a room holds where a lookup gives one, else the blank one.
+fn party_looked(outcome: LookOutcome, room: &[u8]) -> Party
+    ensures { λ r. ⌜ r ≡ partyFound outcome (now (room .entry)) ⌝ }
+{
+    if let LookOutcome::Record { at: _, next: _ } = outcome {
+        return load(room);
+    }
+    blank()
+}
+
+// The same by value.
+pub fn look_up(page: &[u8], index: &[u32; INDEX_SIZE], k: usize) -> Lookup
+    ensures { λ r. ⌜ toldLookup r (bodyOf (lookUp (now (page .entry)) (now (index .entry)) k)) ≡ lookUp (now (page .entry)) (now (index .entry)) k ⌝ }
+    ensures beside { λ r. ⌜ r .party ≡ partyLooked (lookUp (now (page .entry)) (now (index .entry)) k) ⌝ }
+{
+    let mut room = [0u8; RECORD_SIZE];
+    let outcome = look_up_into(page, index, k, &mut room);
+    Lookup {
+        outcome,
+        party: party_looked(outcome, &room),
     }
 }
 

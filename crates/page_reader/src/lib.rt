@@ -3,6 +3,8 @@ use errors::Outcome;
 use errors::ParseError;
 use field_utils::lines::find_lf;
 use field_utils::lines::without_cr;
+use flat::RECORD_SIZE;
+use flat::load;
 use party::OPTION_COUNT;
 use party::Party;
 use party::PartyOption;
@@ -10,17 +12,16 @@ use party::blank;
 use party::limits_of;
 use party::option_at;
 use reader::behind;
-use reader::read;
+use reader::read_into;
 ghost use mathlib.Core.Path.{_≡_};
 ghost use mathlib.Core.Bool.{false, true};
 ghost use Prim.Native.Nat.{_+_, _≤_};
 ghost use lib.ListN.{length, drop};
-ghost use Rattle.party.specs.Party.{blank as blankParty};
 ghost use Rattle.party.specs.Limits.{options};
 ghost use Rattle.page_reader.specs.declared.Tag.the-variants.{Known};
 ghost use Rattle.page_reader.specs.declared.ReadOutcome.the-variants.{End, Refused};
-ghost use Rattle.page_reader.specs.Pages.{lineAt, opens, endsAt, runs, past as pastLf, tagIn, readField, readable, textIn, readCase, readAt, toldRead, partyBeside, noBody, bodyIn, bodyPlace};
-ghost use Rattle.page_reader.specs.Code.{isOver, toldTag, hasTag, knownIn};
+ghost use Rattle.page_reader.specs.Pages.{lineAt, opens, endsAt, runs, past as pastLf, tagIn, readField, readable, textIn, readCase, readAt, toldRead, partyBeside, readBytes, toldInto, noBody, bodyIn, bodyPlace};
+ghost use Rattle.page_reader.specs.Code.{isOver, toldTag, hasTag, knownIn, partyIn};
 
 pub mod index;
 
@@ -38,6 +39,12 @@ pub const PAGE_MOST: usize = 32768;
 pub struct PageRead {
     pub outcome: ReadOutcome,
     pub party: Party,
+    pub next: usize,
+}
+
+// What a read into lent bytes gives, with the next position.
+pub struct ReadInto {
+    pub outcome: ReadOutcome,
     pub next: usize,
 }
 
@@ -256,66 +263,83 @@ fn text_in(page: &[u8], at: usize, to: usize) -> &[u8]
     without_cr(text)
 }
 
-// A refusal, with the blank record beside it.
-fn refuse(e: ParseError, next: usize) -> PageRead
-    ensures { λ r. ⌜ r ≡ record { outcome = Refused e; party = blankParty; next = next } ⌝ }
+// A refusal.
+fn refuse(e: ParseError, next: usize) -> ReadInto
+    ensures { λ r. ⌜ r ≡ record { outcome = Refused e; next = next } ⌝ }
 {
-    PageRead {
+    ReadInto {
         outcome: ReadOutcome::Refused(e),
-        party: blank(),
         next,
     }
 }
 
-// The end, with the blank record beside it.
-fn end(next: usize) -> PageRead
-    ensures { λ r. ⌜ r ≡ record { outcome = End; party = blankParty; next = next } ⌝ }
+// The end.
+fn end(next: usize) -> ReadInto
+    ensures { λ r. ⌜ r ≡ record { outcome = End; next = next } ⌝ }
 {
-    PageRead {
+    ReadInto {
         outcome: ReadOutcome::End,
-        party: blank(),
         next,
     }
 }
 
 // A field's text by its tag: 15, or what the option's reader says of the body.
-fn read_field(text: &[u8], next: usize) -> PageRead
-    ensures { λ r. ⌜ toldRead r (readField (now (text .entry)) next .body) ≡ readField (now (text .entry)) next ⌝ }
-    ensures beside { λ r. ⌜ r .party ≡ partyBeside (readField (now (text .entry)) next .outcome) ⌝ }
+fn read_field_into(text: &[u8], next: usize, record: &mut [u8]) -> ReadInto
+    ensures { λ r. ⌜ toldInto r (readField (now (text .entry)) next) ≡ readField (now (text .entry)) next ⌝ }
+    ensures bytes { λ r. ⌜ now («record» .exit) ≡ readBytes (readField (now (text .entry)) next .outcome) (now («record» .entry)) ⌝ }
 {
     let tag = parse_tag(text);
     let Tag::Known { option, skip } = tag else {
         return refuse(ParseError::UnknownTag, next);
     };
-    let answer = read(option, behind(text, skip));
-    let outcome = answer.outcome;
-    let party = answer.party;
+    let outcome = read_into(option, behind(text, skip), record);
     match outcome {
-        Outcome::Accepted => PageRead {
+        Outcome::Accepted => ReadInto {
             outcome: ReadOutcome::Record,
-            party,
             next,
         },
-        Outcome::Refused(e) => PageRead {
-            outcome: ReadOutcome::Refused(e),
-            party,
-            next,
-        },
+        Outcome::Refused(e) => refuse(e, next),
     }
 }
 
-// Reads the page at a position: the record, the refusal or the end, with the next position.
-pub fn read_at(page: &[u8], at: usize) -> PageRead
-    ensures { λ r. ⌜ toldRead r (readAt (now (page .entry)) at .body) ≡ readAt (now (page .entry)) at ⌝ }
-    ensures beside { λ r. ⌜ r .party ≡ partyBeside (readAt (now (page .entry)) at .outcome) ⌝ }
+// Reads the page at a position: the record, the refusal or the end, with the next position. The record is stored at the start of lent bytes;
+// the end and a refusal change none.
+pub fn read_at_into(page: &[u8], at: usize, record: &mut [u8]) -> ReadInto
+    ensures { λ r. ⌜ toldInto r (readAt (now (page .entry)) at) ≡ readAt (now (page .entry)) at ⌝ }
+    ensures bytes { λ r. ⌜ now («record» .exit) ≡ readBytes (readAt (now (page .entry)) at .outcome) (now («record» .entry)) ⌝ }
 {
     match read_case(page, at) {
         ReadCase::TooLong => refuse(ParseError::PageTooLong, at),
         ReadCase::NoStart => refuse(ParseError::Position, at),
         ReadCase::AtLength => refuse(ParseError::PageLength, at),
-        ReadCase::Opening { to } => read_field(text_in(page, at, to), past(page, to)),
+        ReadCase::Opening { to } => read_field_into(text_in(page, at, to), past(page, to), record),
         ReadCase::Ending { to } => end(past(page, to)),
         ReadCase::Stray { to } => refuse(ParseError::StrayLine, past(page, to)),
+    }
+}
+
+// The record that a room holds where a read gives one, else the blank one.
+fn party_in(outcome: ReadOutcome, room: &[u8]) -> Party
+    ensures { λ r. ⌜ r ≡ partyIn outcome (now (room .entry)) ⌝ }
+{
+    if let ReadOutcome::Record = outcome {
+        return load(room);
+    }
+    blank()
+}
+
+// The same by value.
+pub fn read_at(page: &[u8], at: usize) -> PageRead
+    ensures { λ r. ⌜ toldRead r (readAt (now (page .entry)) at .body) ≡ readAt (now (page .entry)) at ⌝ }
+    ensures beside { λ r. ⌜ r .party ≡ partyBeside (readAt (now (page .entry)) at .outcome) ⌝ }
+{
+    let mut room = [0u8; RECORD_SIZE];
+    let read = read_at_into(page, at, &mut room);
+    let outcome = read.outcome;
+    PageRead {
+        outcome,
+        party: party_in(outcome, &room),
+        next: read.next,
     }
 }
 

@@ -11,15 +11,17 @@ use Rattle.errors.specs.Refusals.{Reply, accepted, refused, must, _then_}
 use Rattle.errors.proofs.Replies.{must-held, then-first, then-second}
 use Rattle.party.specs.declared.Party.{Party}
 use Rattle.party.specs.Limits.{placeOf}
-use Rattle.party.specs.Party.{Said, said}
+use Rattle.party.specs.Party.{IsParty, Said, said}
 use Rattle.field_utils.specs.Tags.{tagOf}
+use Rattle.flat.specs.Flat.{recordSize}
 use Rattle.writer.specs.Writing.{writtenBody, writtenField, pieces, placed, fieldMost}
 use Rattle.writer.specs.Given.{isGiven}
 use Rattle.writer.specs.Placing.{Measured, lengthIs, refusedWith, Placing, measure, place}
 use Rattle.writer.specs.Code.{Puts}
 use Rattle.writer.proofs.Theorems.{given-exact, written-most, measure-and-place}
 use Rattle.writer.proofs.Pairs.{measure-22, measured, unmeasured}
-use Rattle.writer.proofs.Puts.{puts-byte, space, both, placed-here}
+use Rattle.writer.proofs.Capped.{bytesSay, option-stored, given-stored, field-stored, body-stored}
+use Rattle.writer.proofs.Puts.{puts-byte, space, both, placed-fits}
 use Rattle.page_reader.specs.Pages.{pageMost}
 use Rattle.page_reader.specs.Index.{Entry}
 use Rattle.page_writer.specs.Beside.{Beside, noIndex, noting}
@@ -108,6 +110,20 @@ entry-is p at {next} e =
     let n : next - at - 1 ≡ length f = omega (arith, e, length-append f (10 ∷ [])) in
     ap {B = Entry} (λ (k : ℕ). record { tag = placeOf (p .option); position = at; len = k }) n
 
+-- ---- a record that was stored as bytes is added as it is
+module _ (p : Party) (h : IsParty p) (d : List ℕ) (l : recordSize ≤ length d) (buffer : List ℕ) (at : ℕ) where
+  reply-stored : (free : Bool) → addReply buffer at free (bytesSay p h d l) ≡ addReply buffer at free (said p)
+  unfolding addReply recordReply asked isCarried
+  reply-stored free = rw (given-stored p h d l, body-stored p h d l, field-stored p h d l)
+
+  pub add-stored : (b : Beside) → add buffer at b (bytesSay p h d l) ≡ add buffer at b (said p)
+  unfolding add
+  add-stored b = rw (reply-stored (freeBeside b), field-stored p h d l)
+
+  pub index-stored : (b : Beside) → addIndex buffer at b (bytesSay p h d l) ≡ addIndex buffer at b (said p)
+  unfolding addIndex
+  index-stored b = rw (reply-stored (freeBeside b), field-stored p h d l, option-stored p h d l)
+
 -- ---- closing
 module _ (buffer : List ℕ) (at : ℕ) where
   pub close-21 : writable buffer at ≡ false → close buffer at ≡ record { answer = refusal 21 0; buffer = buffer }
@@ -184,7 +200,7 @@ module _ (p : Party) (d : List ℕ) (z : length d ≡ fieldMost) {e : List ℕ} 
 -- ---- a text that was put, and the LF after it
 pub line-puts : (d : List ℕ) (at : ℕ) (f : List ℕ) → at + length f < length d → {e : List ℕ} → e ≡ placed d at f → Puts d at (withLf f) (set e (at + length f) 10) (at + length f + 1)
 line-puts d at f h {e} q =
-    let first : Puts d at f e (at + length f) = record { bytes = q ∙ sym (placed-here d at f (omega arith) refl .1); ends = refl } in
+    let first : Puts d at f e (at + length f) = record { bytes = q ∙ placed-fits d at f (omega arith); ends = refl } in
     let room : at + length (f ++ 10 ∷ []) ≤ length d = let n = length-append f (10 ∷ []) in omega arith in
     both f (10 ∷ []) first room (puts-byte e (at + length f) 10 (let k = space f (10 ∷ []) first room in omega arith))
 

@@ -1,6 +1,9 @@
 // Writing pages of fields, which are ours: no Rust file has them. Records are added to a page at a position, and it is closed.
 use errors::ParseError;
 use field_utils::lines::find_lf;
+use flat::RECORD_SIZE;
+use flat::option_of;
+use flat::store;
 use page_reader::PAGE_MOST;
 use page_reader::ends_at;
 use page_reader::index::INDEX_MOST;
@@ -12,7 +15,7 @@ use party::PartyOption;
 use party::index_of;
 use writer::FIELD_MOST;
 use writer::Measured;
-use writer::place;
+use writer::place_record;
 use writer::put_text;
 use writer::tag_length;
 ghost use mathlib.Core.Path.{_≡_};
@@ -21,6 +24,7 @@ ghost use Prim.Native.Nat.{_+_, _-_, _≤_, _<_, min};
 ghost use lib.ListN.{length, take, drop};
 ghost use Rattle.party.specs.Party.{said};
 ghost use Rattle.party.specs.Limits.{placeOf};
+ghost use Rattle.flat.specs.Flat.{unflatten};
 ghost use Rattle.writer.specs.Writing.{pieces, fieldMost};
 ghost use Rattle.writer.specs.Code.{Puts};
 ghost use Rattle.writer.specs.ReadBack.{endsCr};
@@ -135,18 +139,16 @@ enum Held {
     Refused(ParseError),
 }
 
-// Places in a room the field of a record that is to be added at a position, to see the lines as they would stand. The tag's length is
-// taken first, since placing takes the record by value.
-fn hold(p: Party, buf: &[u8], at: usize, room: &mut [u8]) -> Held
+// Places in a room the field of a lent record that is to be added at a position, to see the lines as they would stand.
+fn hold(record: &[u8], buf: &[u8], at: usize, room: &mut [u8]) -> Held
     requires { ⌜ length (now room) ≡ fieldMost ⌝ }
-    ensures { λ r. ⌜ Holds (now (buf .entry)) at (said p) r (now (room .exit)) ⌝ }
+    ensures { λ r. ⌜ Holds (now (buf .entry)) at (said (unflatten (now («record» .entry)))) r (now (room .exit)) ⌝ }
 {
-    let option = p.option;
-    let start = tag_length(option);
     if !is_writable(buf, at) {
         return Held::Refused(ParseError::Position);
     }
-    match place(p, room) {
+    let start = tag_length(option_of(record));
+    match place_record(record, room) {
         Measured::Length(len) => Held::Field { len, start },
         Measured::Refused(e) => Held::Refused(e),
     }
@@ -174,13 +176,22 @@ fn file_held(buf: &mut [u8], at: usize, held: Held, room: &[u8], free: bool) -> 
     }
 }
 
-// Adds a record to a page without an index at a position: 21, 22, 23, 24.
+// Adds a lent record, as crate flat lays it out, to a page without an index at a position: 21, 22, 23, 24.
+pub fn add_record(record: &[u8], buf: &mut [u8], at: usize) -> Filed
+    ensures { λ r. ⌜ toldCall r (now (buf .exit)) ≡ addTo (now (buf .entry)) at noIndex (said (unflatten (now («record» .entry)))) ⌝ }
+{
+    let mut room = [0u8; FIELD_MOST];
+    let held = hold(record, buf, at, &mut room);
+    file_held(buf, at, held, &room, true)
+}
+
+// Adds a record, through its bytes.
 pub fn add(p: Party, buf: &mut [u8], at: usize) -> Filed
     ensures { λ r. ⌜ toldCall r (now (buf .exit)) ≡ addTo (now (buf .entry)) at noIndex (said p) ⌝ }
 {
-    let mut room = [0u8; FIELD_MOST];
-    let held = hold(p, buf, at, &mut room);
-    file_held(buf, at, held, &room, true)
+    let mut record = [0u8; RECORD_SIZE];
+    store(p, &mut record);
+    add_record(&record, buf, at)
 }
 
 // Puts an entry after so many others into an index, and raises the count: a field from a position to the one after its LF.
@@ -195,22 +206,36 @@ fn note(index: &mut [u32; INDEX_SIZE], count: usize, option: PartyOption, at: us
     index[0] = (count + 1) as u32;
 }
 
-// Adds a record to a page with an index at a position, and notes its entry: 21, 22, 23, 24, 31.
-pub fn add_indexed(p: Party, buf: &mut [u8], at: usize, index: &mut [u32; INDEX_SIZE]) -> Filed
-    ensures { λ r. ⌜ toldCall r (now (buf .exit)) ≡ addTo (now (buf .entry)) at (anIndex (now (index .entry))) (said p) ⌝ }
-    ensures index { λ r. ⌜ anIndex (now (index .exit)) ≡ addIndex (now (buf .entry)) at (anIndex (now (index .entry))) (said p) ⌝ }
+// Adds a lent record to a page with an index at a position, and notes its entry: 21, 22, 23, 24, 31.
+pub fn add_indexed_record(
+    record: &[u8],
+    buf: &mut [u8],
+    at: usize,
+    index: &mut [u32; INDEX_SIZE],
+) -> Filed
+    ensures { λ r. ⌜ toldCall r (now (buf .exit)) ≡ addTo (now (buf .entry)) at (anIndex (now (index .entry))) (said (unflatten (now («record» .entry)))) ⌝ }
+    ensures index { λ r. ⌜ anIndex (now (index .exit)) ≡ addIndex (now (buf .entry)) at (anIndex (now (index .entry))) (said (unflatten (now («record» .entry)))) ⌝ }
 {
     let mut room = [0u8; FIELD_MOST];
-    let option = p.option;
     let count = entry_count(index);
-    let held = hold(p, buf, at, &mut room);
+    let held = hold(record, buf, at, &mut room);
     match file_held(buf, at, held, &room, count < INDEX_MOST) {
         Filed::Position(next) => {
-            note(index, count, option, at, next);
+            note(index, count, option_of(record), at, next);
             Filed::Position(next)
         }
         Filed::Refused(e) => Filed::Refused(e),
     }
+}
+
+// Adds a record to a page with an index, through its bytes.
+pub fn add_indexed(p: Party, buf: &mut [u8], at: usize, index: &mut [u32; INDEX_SIZE]) -> Filed
+    ensures { λ r. ⌜ toldCall r (now (buf .exit)) ≡ addTo (now (buf .entry)) at (anIndex (now (index .entry))) (said p) ⌝ }
+    ensures index { λ r. ⌜ anIndex (now (index .exit)) ≡ addIndex (now (buf .entry)) at (anIndex (now (index .entry))) (said p) ⌝ }
+{
+    let mut record = [0u8; RECORD_SIZE];
+    store(p, &mut record);
+    add_indexed_record(&record, buf, at, index)
 }
 
 // Closes the page at a position: 21, 24.

@@ -13,10 +13,14 @@ use denote.Array.{each}
 use denote.Laws.{Is}
 use denote.Shadow.{shadow}
 use Rattle.party.specs.declared.Text.{Text}
+use Rattle.party.specs.declared.Part.{Part}
+use Rattle.party.specs.declared.Parts.{Parts}
 use Rattle.party.specs.declared.Party.{Party}
 use Rattle.party.specs.Text.{IsText}
 use Rattle.party.specs.Party.{IsParty}
 use Rattle.party.proofs.Text.{the-field as text}
+use Rattle.party.proofs.Part.{the-field as part}
+use Rattle.party.proofs.Parts.{the-field as parts}
 use Rattle.party.proofs.Party.{the-field as party}
 
 pub is-text : (t : Text) (vs : List Val) → Is (text .row) (text .into t) vs → IsText t
@@ -47,4 +51,20 @@ is-party p vs h =
       name = λ i none l. all-texts (p .«name_and_address») (texts .0) (texts .1 .1) i none (omega arith);
       digits = sym (length-map (p .digits) (λ v. v)) ∙ bytes .1 .0 .1;
       digit = λ i. elem-fits-field w8 w8 (p .digits) (bytes .0) i (bytes .1 .1) tt .fits;
+    }
+
+-- parts of a body: of four names and four digits
+pub record AreParts (q : Parts) : Type 0 where
+  pub size : length (q .«name_and_address») ≡ 4
+  pub digits : length (q .digits) ≡ 4
+  pub digit : (i : ℕ) → getD (q .digits) i 0 < 256
+
+pub are-parts : (q : Parts) (vs : List Val) → Is (parts .row) (parts .into q) vs → AreParts q
+are-parts q vs h =
+    let names = h .1 .1 .1 .1 .0 in
+    let bytes = h .1 .1 .1 .1 .1 .1 .0 in
+    record {
+      size = sym (length-map (q .«name_and_address») (part .into)) ∙ names .1 .0 .1;
+      digits = sym (length-map (q .digits) (λ v. v)) ∙ bytes .1 .0 .1;
+      digit = λ i. elem-fits-field w8 w8 (q .digits) (bytes .0) i (bytes .1 .1) tt .fits;
     }

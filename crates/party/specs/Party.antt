@@ -11,8 +11,9 @@ use Rattle.party.specs.declared.Numbering.{Numbering}
 use Rattle.party.specs.declared.Numbering.the-variants.{Unnumbered, Numbered, InTurn}
 use Rattle.party.specs.declared.Text.{Text}
 use Rattle.party.specs.declared.Party.{Party}
+use Rattle.party.specs.declared.Parts.{Parts}
 use Rattle.party.specs.Limits.{limitsOf}
-use Rattle.party.specs.Text.{textOf, Used, used, IsText}
+use Rattle.party.specs.Text.{textOf, partIn, textsIn, Used, used, IsText}
 
 -- a record as Rattle has it: so are its texts, there are four names and four digits, and the count is a usize ('four texts by value')
 pub record IsParty (p : Party) : Type 0 where
@@ -34,6 +35,18 @@ blank = record {
   count = 0;
   «name_and_address» = textOf [] ∷ textOf [] ∷ textOf [] ∷ textOf [] ∷ [];
   digits = 0 ∷ 0 ∷ 0 ∷ 0 ∷ [];
+}
+
+-- the record of parts of a body, with each text its part
+unfoldable pub partyIn : List ℕ → Parts → Party
+partyIn body q = record {
+  option = q .option;
+  present = q .present;
+  account = textOf (partIn body (q .account));
+  bic = textOf (partIn body (q .bic));
+  count = q .count;
+  «name_and_address» = textsIn body (q .«name_and_address»);
+  digits = q .digits;
 }
 
 -- the texts if the option has such texts, that is, where its limit is not 0 ('texts that the option .. leaves out are unused')

@@ -2,8 +2,9 @@
 use Prim.Native.Nat.{ℕ, _-_, _<_, _^_}
 use mathlib.Core.Path.{_≡_}
 use mathlib.Core.List.{List, [], _∷_, _++_, map}
-use lib.ListN.{length, getD, take, replicate}
+use lib.ListN.{length, getD, take, drop, replicate}
 use Rattle.party.specs.declared.Text.{Text}
+use Rattle.party.specs.declared.Part.{Part}
 
 -- at most 38 bytes ('each with its length, at most 38 bytes')
 abbrev pub textMost : ℕ
@@ -16,6 +17,14 @@ padded l = l ++ replicate (textMost - length l) 0
 -- the text of a list's first bytes, as many as it holds
 unfoldable pub textOf : List ℕ → Text
 textOf l = record { bytes = padded (take textMost l); len = length (take textMost l) }
+
+-- the bytes of a part of a body, those that the body has
+abbrev pub partIn : List ℕ → Part → List ℕ
+partIn body p = take (p .len) (drop (p .start) body)
+
+-- the texts of parts of a body
+abbrev pub textsIn : List ℕ → List Part → List Text
+textsIn body ps = map (λ (p : Part). textOf (partIn body p)) ps
 
 -- an array of four: the first of a list, then as many of one that stands for none
 unfoldable pub four : {A : Type 0} → A → List A → List A

@@ -4,8 +4,8 @@ ghost use mathlib.Core.Path.{_≡_};
 ghost use mathlib.Core.List.{[], _∷_};
 ghost use lib.ListN.{take};
 ghost use Rattle.party.specs.Limits.{limitsOf, placeOf, optionAt};
-ghost use Rattle.party.specs.Text.{textOf, used};
-ghost use Rattle.party.specs.Party.{IsParty, blank as blankParty, where-limit, namesOf, where-numbered, Same};
+ghost use Rattle.party.specs.Text.{textOf, used, partIn};
+ghost use Rattle.party.specs.Party.{IsParty, blank as blankParty, where-limit, namesOf, where-numbered, Same, partyIn};
 ghost use Rattle.party.specs.Decides.{Decides};
 
 // The eleven options, under the names of the Rust's structs.
@@ -42,6 +42,26 @@ pub struct Party {
     pub count: usize,
     pub name_and_address: [Text; 4],
     pub digits: [u8; 4],
+}
+
+// A part of a body: where it starts, and its length.
+pub struct Part {
+    pub start: usize,
+    pub len: usize,
+}
+
+// The part that holds nothing.
+pub const NO_PART: Part = Part { start: 0, len: 0 };
+
+// A party by the parts of a body that its texts are; the small fields stand last, so that it is copied without gaps.
+pub struct Parts {
+    pub account: Part,
+    pub bic: Part,
+    pub name_and_address: [Part; 4],
+    pub count: usize,
+    pub digits: [u8; 4],
+    pub option: PartyOption,
+    pub present: bool,
 }
 
 // What a body is to an option: a BIC, a text, or lines.
@@ -363,6 +383,48 @@ pub fn text_of(s: &[u8]) -> Text
         i += 1;
     }
     Text { bytes, len: i }
+}
+
+// The bytes of a part, those that the body has.
+pub fn part_of(body: &[u8], part: Part) -> &[u8]
+    ensures { λ r. ⌜ now r ≡ partIn (now (body .entry)) part ⌝ }
+{
+    let start = part.start;
+    let len = part.len;
+    if body.len() <= start {
+        return &body[..0];
+    }
+    if body.len() - start < len {
+        return &body[start..];
+    }
+    let end = start + len;
+    &body[start..end]
+}
+
+// The record of parts of a body: each text from its part, the names by index.
+pub fn party_of(body: &[u8], parts: Parts) -> Party
+    ensures { λ r. ⌜ r ≡ partyIn (now (body .entry)) parts ⌝ }
+{
+    let mut texts = [NOTHING; 4];
+    let mut i = 0;
+    while i < 4 {
+        let name = parts.name_and_address[i];
+        texts[i] = text_of(part_of(body, name));
+        i += 1;
+    }
+    let account = parts.account;
+    let bic = parts.bic;
+    let option = parts.option;
+    let digits = parts.digits;
+    Party {
+        option,
+        present: parts.present,
+        account: text_of(part_of(body, account)),
+        bic: text_of(part_of(body, bic)),
+        count: parts.count,
+        name_and_address: texts,
+        digits,
+    }
 }
 
 // The blank record: what stands beside a refusal, and beside a page's end.

@@ -63,10 +63,10 @@ fn are_inside(line: &[u8], holds: bool, classes: &[u8; 256]) -> bool
     while i < line.len() {
         let b = line[i] as usize;
         let class = classes[b];
-        if class < NARROW {
+        if class & NARROW != NARROW {
             return false;
         }
-        if holds && class == SMALL {
+        if holds && class & SMALL == SMALL {
             return false;
         }
         i += 1;

@@ -4,11 +4,15 @@ use mathlib.Core.Path.{_≡_, refl}
 use mathlib.Core.Bool.{true, false}
 use mathlib.Core.List.{List, [], _∷_, _++_}
 use Prim.Native.Nat.{ℕ, _+_, _*_}
-use lib.ListN.{length, getD, drop, replicate}
-use Rattle.party.specs.declared.PartyOption.the-variants.{Field50NoOption, Field50A, Field50C, Field59NoOption, Field59A, Field59F}
+use lib.Dec.{leb}
+use lib.ListN.{length, getD, take, drop, replicate}
+use lib.Seq.{paste}
+use Rattle.party.specs.declared.Part.{Part}
+use Rattle.party.specs.declared.Parts.{Parts}
+use Rattle.party.specs.declared.PartyOption.the-variants.{Field50NoOption, Field50A, Field50K, Field50C, Field59NoOption, Field59A, Field59F}
 use Rattle.party.specs.Limits.{placeOf, optionAt}
 use Rattle.party.specs.Text.{padded, textOf, four}
-use Rattle.party.specs.Party.{blank, said}
+use Rattle.party.specs.Party.{blank, partyIn, said}
 use Rattle.swift_utils.specs.Bytes.{bytes, letter, digit, alphanumeric, signs, legal}
 use Rattle.swift_utils.specs.Checks.{parseSwiftChars, parseAccount, bicLength, parseBic}
 use Rattle.field_utils.specs.Lines.{upto, onto, starts, lines, withoutCr}
@@ -25,9 +29,9 @@ use Rattle.writer.specs.Given.{isLine, areNames, isGiven}
 use Rattle.writer.specs.Placing.{lengthIs, refusedWith, measure, place}
 use Rattle.writer.specs.ReadBack.{endsCr, lastEmpty}
 use Rattle.writer.specs.Longest.{longest}
-use Rattle.page_reader.specs.Pages.{lineAt, opens, isEnd, endsPage, endsAt, runs, begins, tagIn, readField, readCase, readAt, bodyPlace}
+use Rattle.page_reader.specs.Pages.{lineAt, opens, isEnd, endsPage, endsAt, runs, begins, tagIn, readField, readCase, readAt, bodyPlace, readBytes}
 use Rattle.page_reader.specs.Reads.{readsFrom}
-use Rattle.page_reader.specs.Index.{entriesIn, entriesOf, fieldAt, lookUp}
+use Rattle.page_reader.specs.Index.{entriesIn, entriesOf, fieldAt, lookUp, lookBytes}
 use Rattle.page_writer.specs.Beside.{noIndex, anIndex, noted}
 use Rattle.page_writer.specs.Adding.{anyCr, anyBoundary, laterBoundary, isCarried, writable, refusal, asked, recordReply, addReply, add, addIndex, close}
 use Rattle.page_writer.specs.Fold.{run}
@@ -36,6 +40,27 @@ use Rattle.flat.specs.Flat.{recordSize, flatTexts, flatten, stored, textAt, isF
 use Rattle.yewdome.specs.Interface.{partyRead, partyParse, partyParseWithVariant, partyMeasure, partyPlace, pageRead, pageLookUp, pageBody, pageAdd, pageAddIndex, pageClose, pageAnswers, pageFile}
 use Rattle.promises.specs.Starred.{gives, gives50F}
 use Rattle.promises.specs.Filing.{of}
+use Rattle.promises.specs.OperationsReaders.{lent}
+
+-- the 50K of one name, A, as bytes
+abbrev flatA : List ℕ
+flatA = flatten (of (bytes "A" ∷ []))
+
+-- with a length of 39, which passes its text, and 39 letters after it
+abbrev flatLong : List ℕ
+flatLong = take 81 flatA ++ 39 ∷ replicate 39 65 ++ drop 121 flatA
+
+-- with a presence of 2, which makes it no record
+abbrev noFlat : List ℕ
+noFlat = 3 ∷ 2 ∷ drop 2 flatA
+
+-- a page of two fields
+abbrev page : List ℕ
+page = bytes ":50K:A\n:50:B\n-\n"
+
+-- its index
+abbrev made : List ℕ
+made = 2 ∷ 3 ∷ 0 ∷ 6 ∷ 0 ∷ 7 ∷ 5 ∷ replicate 762 0
 
 pub record WriterOperations : Type 0 where
   -- counts a letter in every tag
@@ -58,13 +83,21 @@ pub record WriterOperations : Type 0 where
   pub place-believes-the-most : place (said (of (bytes "A" ∷ []))) (bytes "abcdef") ≡ record { answer = lengthIs 6; buffer = bytes ":50K:A" }
   -- believes that it takes one byte less, and puts what there is space for
   pub place-believes-less : place (said (of (bytes "A" ∷ []))) (bytes "abcde") ≡ record { answer = refusedWith 24 0; buffer = bytes "abcde" }
+  -- refuses a lent record of over 241 bytes
+  pub measure-record-refuses-242 : measure (said (unflatten (flatA ++ 7 ∷ []))) ≡ lengthIs 6
+  -- measures bytes that are no record
+  pub measure-record-takes-presence-2 : measure (said (unflatten noFlat)) ≡ refusedWith 22 0
+  -- believes a length that passes its text, and places the byte after the text too
+  pub place-record-believes-39 : place (said (unflatten flatLong)) (replicate 50 7) ≡ record { answer = refusedWith 22 0; buffer = replicate 50 7 }
+  -- puts what there is space for, and then refuses with 24
+  pub place-record-puts-a-part : place (said (unflatten flatA)) (bytes "abcde") ≡ record { answer = refusedWith 24 0; buffer = bytes "abcde" }
   -- has no space for a text that fills the buffer to its end
   pub put-text-asks-for-more : fits (bytes "abc") 1 (bytes "AB") ≡ true
   -- changes the byte after the text
   pub put-text-writes-on : placed (bytes "abcd") 1 (bytes "AB") ≡ bytes "aABd"
 
 pub writer-operations : WriterOperations
-unfolding padded textOf said letter digit alphanumeric signs legal parseSwiftChars parseAccount upto starts isNumbered secondSlash identifierReply parseLine parseLines parseNameAndAddress four partyOf nameLines writtenLines joined writtenBody writtenField isLine areNames isGiven measure place tagOf
+unfolding padded textOf said letter digit alphanumeric signs legal parseSwiftChars parseAccount upto starts isNumbered secondSlash identifierReply parseLine parseLines parseNameAndAddress four partyOf nameLines writtenLines joined writtenBody writtenField isLine areNames isGiven measure place tagOf flatTexts flatten optionAt textAt isFlat partyFrom unflatten
 writer-operations = record {
   tag-length-counts-a-letter = refl;
   tag-length-leaves-the-colon = refl;
@@ -76,6 +109,10 @@ writer-operations = record {
   place-believes-the-buffer = refl;
   place-believes-the-most = refl;
   place-believes-less = refl;
+  measure-record-refuses-242 = refl;
+  measure-record-takes-presence-2 = refl;
+  place-record-believes-39 = refl;
+  place-record-puts-a-part = refl;
   put-text-asks-for-more = refl;
   put-text-writes-on = refl;
 }
@@ -93,11 +130,27 @@ pub record PagesOperations : Type 0 where
   pub body-place-counts-from-the-field : bodyPlace (bytes ":50K:A\n:50:BC\n-\n") 7 ≡ record { start = 11; len = 2 }
   -- counts the LF that closes the field
   pub body-place-counts-the-lf : bodyPlace (bytes ":50K:A\n-\n") 0 ≡ record { start = 5; len = 1 }
+  -- stores the first field's record, wherever it reads
+  pub read-at-into-stays : getD (readBytes (readAt page 7 .outcome) lent) 0 7 ≡ placeOf Field50NoOption
+  -- stores the blank record at the end
+  pub read-at-into-stores-the-end : readBytes (readAt page 13 .outcome) lent ≡ lent
+  -- counts the fields from 0, and stores the second one's record for the first
+  pub look-up-into-counts-from-0 : getD (lookBytes (lookUp page made 1) lent) 0 7 ≡ placeOf Field50K
+  -- trusts an entry of another length, and stores the record that is there
+  pub look-up-into-trusts-an-entry : lookBytes (lookUp page (1 ∷ 3 ∷ 0 ∷ 7 ∷ replicate 765 0) 1) lent ≡ lent
+  -- files a record for bytes that are none
+  pub add-record-takes-none : add (replicate 9 0) 0 noIndex (said (unflatten noFlat)) ≡ record { answer = refusal 22 0; buffer = replicate 9 0 }
+  -- tests whether the bytes are a record before 21
+  pub add-record-tests-bytes-first : add (bytes "ab") 1 noIndex (said (unflatten noFlat)) .answer ≡ refusal 21 0
+  -- notes an entry for bytes that are no record
+  pub add-indexed-record-notes-none : addIndex (replicate 9 0) 0 (anIndex (replicate 769 0)) (said (unflatten noFlat)) ≡ anIndex (replicate 769 0)
+  -- notes every record as of the first option
+  pub add-indexed-record-notes-the-first : addIndex (replicate 9 0) 0 (anIndex (replicate 769 0)) (said (unflatten flatA)) ≡ anIndex (1 ∷ 3 ∷ 0 ∷ 6 ∷ replicate 765 0)
   -- tests 24 before 21
   pub close-tests-space-first : close (bytes "ab") 1 .answer ≡ refusal 21 0
 
 pub pages-operations : PagesOperations
-unfolding upto starts withoutCr lineAt isEnd endsPage runs begins tagIn readCase bodyPlace writable close tagOf
+unfolding padded textOf said letter digit alphanumeric signs legal parseSwiftChars parseAccount upto onto starts lines withoutCr parseLine parseLines parseNameAndAddress four partyOf accountHead afterHead read nameLines writtenLines joined writtenBody writtenField pieces isLine areNames isGiven endsCr lastEmpty lineAt isEnd endsPage runs begins tagIn readField readCase readAt bodyPlace entriesIn entriesOf fieldAt lookUp anyCr anyBoundary laterBoundary isCarried writable asked recordReply addReply add noted addIndex close tagOf flatTexts flatten stored optionAt textAt isFlat partyFrom unflatten
 pages-operations = record {
   opens-at-takes-any-colon = refl;
   opens-at-takes-the-next-line = refl;
@@ -105,35 +158,75 @@ pages-operations = record {
   ends-at-asks-for-an-lf = refl;
   body-place-counts-from-the-field = refl;
   body-place-counts-the-lf = refl;
+  read-at-into-stays = refl;
+  read-at-into-stores-the-end = refl;
+  look-up-into-counts-from-0 = refl;
+  look-up-into-trusts-an-entry = refl;
+  add-record-takes-none = refl;
+  add-record-tests-bytes-first = refl;
+  add-indexed-record-notes-none = refl;
+  add-indexed-record-notes-the-first = refl;
   close-tests-space-first = refl;
 }
 
--- the 50K of one name, A, as bytes
-abbrev flatA : List ℕ
-flatA = flatten (of (bytes "A" ∷ []))
+-- the parts of a body that is an account, all of it
+abbrev account : ℕ → Parts
+account n = let none : Part = record { start = 0; len = 0 } in record {
+  account = record { start = 0; len = n };
+  bic = none;
+  «name_and_address» = none ∷ none ∷ none ∷ none ∷ [];
+  count = 0;
+  digits = 0 ∷ 0 ∷ 0 ∷ 0 ∷ [];
+  option = Field50A;
+  present = true;
+}
+
+-- what `copy` leaves, as its contract has it
+abbrev copied : List ℕ → List ℕ → ℕ → List ℕ
+copied s buffer at = elim (leb (at + length s) (length buffer)) [ true ↦ paste buffer at s (length s) | false ↦ buffer ]
 
 pub record FlatOperations : Type 0 where
+  -- copies by eight, and leaves the ninth byte out or changes bytes after it
+  pub copy-goes-by-eight : copied (bytes "ABCDEFGHI") (replicate 18 7) 1 ≡ 7 ∷ bytes "ABCDEFGHI" ++ replicate 8 7
+  -- copies as many bytes as there is space for
+  pub copy-gives-a-part : copied (bytes "AB") (bytes "abc") 2 ≡ bytes "abc"
   -- starts the BIC at 41 for 42, where its length stands
   pub store-shifts-the-bic : getD (stored (gives Field50C false [] (bytes "ABCDEFGH") [] .party) (replicate recordSize 0)) 42 0 ≡ 8
   -- stores as much of a record as there is space for
   pub store-gives-a-part : stored blank (bytes "abc") ≡ bytes "abc"
+  -- leaves the lent bytes after a text's last as they came
+  pub store-parts-leaves-bytes : getD (stored (partyIn (bytes "A") (account 1)) lent) 5 7 ≡ 0
+  -- gives the length of the part, though only 38 bytes are kept
+  pub store-parts-counts-all : getD (stored (partyIn (replicate 40 65) (account 40)) lent) 3 7 ≡ 38
+  -- takes 241 bytes and no more
+  pub is-flat-refuses-242 : isFlat (flatA ++ 7 ∷ []) ≡ true
+  -- takes a presence of 2 for a yes
+  pub is-flat-takes-presence-2 : isFlat noFlat ≡ false
+  -- counts the options from 1
+  pub option-of-counts-from-1 : unflatten flatA .option ≡ Field50K
+  -- believes the first byte of bytes that are no record
+  pub option-of-believes-none : unflatten noFlat .option ≡ Field50NoOption
   -- takes 241 bytes and no more
   pub load-refuses-242 : unflatten (flatA ++ 7 ∷ []) ≡ of (bytes "A" ∷ [])
   -- takes a place that no option has
   pub load-takes-place-11 : unflatten (11 ∷ replicate recordSize 0) ≡ blank
 
 pub flat-operations : FlatOperations
-unfolding padded textOf four partyOf flatTexts flatten stored optionAt textAt isFlat partyFrom unflatten
+unfolding padded textOf partyIn four partyOf flatTexts flatten stored optionAt textAt isFlat partyFrom unflatten
 flat-operations = record {
+  copy-goes-by-eight = refl;
+  copy-gives-a-part = refl;
   store-shifts-the-bic = refl;
   store-gives-a-part = refl;
+  store-parts-leaves-bytes = refl;
+  store-parts-counts-all = refl;
+  is-flat-refuses-242 = refl;
+  is-flat-takes-presence-2 = refl;
+  option-of-counts-from-1 = refl;
+  option-of-believes-none = refl;
   load-refuses-242 = refl;
   load-takes-place-11 = refl;
 }
-
--- a lent record
-abbrev lent : List ℕ
-lent = replicate recordSize 7
 
 pub record YewdomeOperations : Type 0 where
   -- gives the number alone, without the line: an empty 50C is 9, line 1

@@ -10,12 +10,14 @@ use Rattle.errors.specs.declared.ParseError.the-variants.{Position}
 use Rattle.errors.specs.Refusals.{accepted, refused, refusalAt, refusalOf}
 use Rattle.party.specs.declared.PartyOption.the-variants.{Field50NoOption, Field50A, Field50F, Field50K, Field59NoOption, Field59F}
 use Rattle.party.specs.declared.Party.{Party}
+use Rattle.party.specs.declared.Part.{Part}
+use Rattle.party.specs.declared.Parts.{Parts}
 use Rattle.party.specs.Limits.{limitsOf, placeOf, optionAt}
-use Rattle.party.specs.Text.{padded, textOf}
-use Rattle.party.specs.Party.{IsParty, blank, said, Same}
+use Rattle.party.specs.Text.{padded, textOf, partIn}
+use Rattle.party.specs.Party.{IsParty, blank, partyIn, said, Same}
 use Rattle.party.specs.declared.Numbering.the-variants.{Unnumbered, Numbered, InTurn}
 use Rattle.swift_utils.specs.Bytes.{bytes, all, letter, small, digit, alphanumeric, signs, legal, narrowSigns, narrow}
-use Rattle.swift_utils.specs.Classes.{classOf, classTable, entryAtLeast}
+use Rattle.swift_utils.specs.Classes.{bitsOf, classesOf, classTable, entryIn}
 use Rattle.swift_utils.specs.Checks.{parseSwiftChars, parseLength, parseAccount, bicLength}
 use Rattle.field_utils.specs.declared.lines.Line.the-variants.{Next, Done}
 use Rattle.field_utils.specs.Lines.{upto, starts, withoutCr}
@@ -43,6 +45,22 @@ withBic bic = record {
   digits = 0 ∷ 0 ∷ 0 ∷ 0 ∷ [];
 }
 
+-- a part of one byte
+abbrev byteAt : ℕ → Part
+byteAt start = record { start = start; len = 1 }
+
+-- the parts of a body of four bytes: an account, a BIC and two names
+abbrev parts : Parts
+parts = record {
+  account = byteAt 0;
+  bic = byteAt 1;
+  «name_and_address» = byteAt 2 ∷ byteAt 3 ∷ record { start = 0; len = 0 } ∷ record { start = 0; len = 0 } ∷ [];
+  count = 2;
+  digits = 49 ∷ 56 ∷ 0 ∷ 0 ∷ [];
+  option = Field50F;
+  present = true;
+}
+
 pub record PartyOperations : Type 0 where
   -- orders the options by their letters: A, C, F
   pub index-of-sorts : placeOf Field50F ≡ 2
@@ -66,6 +84,14 @@ pub record PartyOperations : Type 0 where
   pub text-of-counts-all : textOf (replicate 40 65) .len ≡ 38
   -- fills with spaces
   pub text-of-fills : textOf (bytes "A") .bytes ≡ 65 ∷ replicate 37 0
+  -- takes the length for the place where the part ends
+  pub part-of-takes-an-end : partIn (bytes "ABCD") (record { start = 1; len = 2 }) ≡ bytes "BC"
+  -- gives nothing of a part that passes the body
+  pub part-of-gives-nothing : partIn (bytes "AB") (record { start = 1; len = 2 }) ≡ bytes "B"
+  -- gives every name the first one's text
+  pub party-of-repeats-the-first : getD (partyIn (bytes "ABCD") parts .«name_and_address») 1 (textOf []) ≡ textOf (bytes "D")
+  -- leaves the digits out
+  pub party-of-drops-the-digits : partyIn (bytes "ABCD") parts .digits ≡ 49 ∷ 56 ∷ 0 ∷ 0 ∷ []
   -- counts four empty names
   pub blank-has-four : blank .count ≡ 0
   -- says that there is an account, an empty one
@@ -74,7 +100,7 @@ pub record PartyOperations : Type 0 where
   pub same-compares-unused : Same (withBic (bytes "A")) (withBic (bytes "B"))
 
 pub party-operations : PartyOperations
-unfolding optionAt padded textOf said
+unfolding optionAt padded textOf partyIn said
 party-operations = record {
   index-of-sorts = refl;
   index-of-starts-anew = refl;
@@ -88,24 +114,30 @@ party-operations = record {
   sized-takes-37 = λ p e h. let z : _≡_ {A = ℕ} 37 38 = sym e ∙ h .account .size in omega arith;
   text-of-counts-all = refl;
   text-of-fills = refl;
+  part-of-takes-an-end = refl;
+  part-of-gives-nothing = refl;
+  party-of-repeats-the-first = refl;
+  party-of-drops-the-digits = refl;
   blank-has-four = refl;
   blank-has-an-account = refl;
   same-compares-unused = refl;
 }
 
 pub record SwiftUtilsOperations : Type 0 where
-  -- puts each class one entry late: A has that of `@`
-  pub class-table-is-late : getD classTable 65 0 ≡ 6
+  -- puts the classes of each byte one entry late: A has those of `@`
+  pub class-table-is-late : getD classTable 65 0 ≡ 31
   -- takes every printable byte
   pub is-legal-takes-tilde : legal 126 ≡ false
   -- goes one past 9
   pub is-digit-takes-colon : digit 58 ≡ false
   -- begins at 1
   pub is-digit-refuses-0 : digit 48 ≡ true
-  -- asks for an entry above k
-  pub all-at-least-asks-for-more : all (entryAtLeast classTable 4) (bytes "1") ≡ true
-  -- tests the first byte alone
-  pub all-at-least-tests-one : all (entryAtLeast classTable 2) (bytes "A\n") ≡ false
+  -- asks for an entry that has no other bit than the mask's: 8 is letters and digits
+  pub all-in-asks-for-no-other : all (entryIn classTable 8) (bytes "A1") ≡ true
+  -- is content with one bit of the mask: 24 is letters and digits, and letters
+  pub all-in-takes-one-bit : all (entryIn classTable 24) (bytes "1") ≡ false
+  -- tests the first byte alone: 2 is the legal bytes but LF
+  pub all-in-tests-one : all (entryIn classTable 2) (bytes "A\n") ≡ false
   -- takes letters alone
   pub all-alphanumeric-refuses-digits : all alphanumeric (bytes "A1") ≡ true
   -- is content with one such byte
@@ -126,14 +158,15 @@ pub record SwiftUtilsOperations : Type 0 where
   pub is-bic-length-refuses-11 : bicLength 11 ≡ true
 
 pub swift-utils-operations : SwiftUtilsOperations
-unfolding letter small digit alphanumeric signs legal narrowSigns narrow classOf classTable parseSwiftChars parseAccount bicLength
+unfolding letter small digit alphanumeric signs legal narrowSigns narrow bitsOf classesOf classTable parseSwiftChars parseAccount bicLength
 swift-utils-operations = record {
   class-table-is-late = refl;
   is-legal-takes-tilde = refl;
   is-digit-takes-colon = refl;
   is-digit-refuses-0 = refl;
-  all-at-least-asks-for-more = refl;
-  all-at-least-tests-one = refl;
+  all-in-asks-for-no-other = refl;
+  all-in-takes-one-bit = refl;
+  all-in-tests-one = refl;
   all-alphanumeric-refuses-digits = refl;
   all-alphanumeric-takes-some = refl;
   parse-swift-chars-stops-short = refl;

@@ -4,7 +4,7 @@ use mathlib.Core.Path.{_≡_, refl}
 use mathlib.Core.Bool.{true, false}
 use mathlib.Core.List.{List, [], _∷_, _++_}
 use Prim.Native.Nat.{ℕ, suc}
-use lib.ListN.{drop, replicate}
+use lib.ListN.{getD, drop, replicate}
 use Rattle.errors.specs.declared.ParseError.{ParseError}
 use Rattle.errors.specs.declared.ParseError.the-variants.{TooLong}
 use Rattle.errors.specs.declared.Outcome.the-variants.{Refused}
@@ -14,16 +14,17 @@ use Rattle.party.specs.declared.PartyOption.the-variants.{Field50NoOption, Fiel
 use Rattle.party.specs.Text.{padded, textOf, four}
 use Rattle.party.specs.Party.{blank}
 use Rattle.party.specs.declared.First.the-variants.{ShortAccount, AnyAccount}
-use Rattle.party.specs.Limits.{limitsOf}
+use Rattle.party.specs.Limits.{limitsOf, placeOf}
 use Rattle.swift_utils.specs.Bytes.{bytes, all, letter, digit, alphanumeric, signs, legal}
 use Rattle.swift_utils.specs.Checks.{parseSwiftChars, parseAccount, bicLength, parseBic}
 use Rattle.field_utils.specs.Lines.{upto, onto, starts, lines}
 use Rattle.field_utils.specs.Trim.{white, trimmedStart, keep, trimmedEnd, trimmed}
 use Rattle.field_utils.specs.Identifier.{isNumbered, secondSlash, identifierReply, parsePartyIdentifier}
 use Rattle.field_utils.specs.Names.{parseLine, parseLines, parseNameAndAddress}
+use Rattle.flat.specs.Flat.{recordSize, flatTexts, flatten, stored}
 use Rattle.reader.specs.declared.Answer.{Answer}
-use Rattle.reader.specs.Reading.{partyOf, toldAnswer}
-use Rattle.reader.specs.Options.{lengthReply, accountHead, shortAccountHead, afterHead, ascii, bodyReply, read}
+use Rattle.reader.specs.Reading.{partyOf, toldAnswer, readInto}
+use Rattle.reader.specs.Options.{lengthReply, accountHead, shortAccountHead, afterHead, ascii, bodyReply, readOwn, read}
 use Rattle.choices.specs.declared.Choice.the-variants.{Field50InstructingParty, Field50OrderingCustomerFGH, Field50OrderingCustomerAFK, Field50OrderingCustomerNCF, Field50Creditor, Field59, Field59Debtor}
 use Rattle.choices.specs.declared.Test.the-variants.{LaterNumbered, AnyNumbered, LastIsBic, BicSized, FirstNumbered}
 use Rattle.choices.specs.Detection.{anyNumbered, firstLine, lastLine, bicLike, testLine, holds}
@@ -33,6 +34,10 @@ use Rattle.promises.specs.RuledOut.{bodyOf, As}
 -- what `refuse` gives, as its contract has it
 abbrev refusedWith : ParseError → Answer
 refusedWith e = record { outcome = Refused e; party = blank }
+
+-- a lent record
+abbrev pub lent : List ℕ
+lent = replicate recordSize 7
 
 pub record ReaderOperations : Type 0 where
   -- tests 50H's account as 50G's
@@ -59,9 +64,17 @@ pub record ReaderOperations : Type 0 where
   pub parse-body-refuses-2048 : bodyReply (replicate 2048 65) ≡ accepted
   -- tests the bytes before the length
   pub parse-body-tests-bytes-first : bodyReply (replicate 2049 128) ≡ refused 12 0
+  -- tests 13 too, which is not the option's own
+  pub read-own-into-tests-13 : readInto (readOwn Field50H (47 ∷ 128 ∷ bytes "\nA")) lent .reply ≡ accepted
+  -- stores what was found before the line that is refused
+  pub read-own-into-stores-a-part : readInto (readOwn Field50A (bytes "/1\nA")) lent ≡ record { reply = refused 9 2; bytes = lent }
+  -- stores the blank record beside a refusal
+  pub read-into-stores-the-blank : readInto (read Field50C (bytes "A")) lent ≡ record { reply = refused 9 1; bytes = lent }
+  -- leaves 13 to its caller
+  pub read-into-leaves-13 : readInto (read Field50H (47 ∷ 128 ∷ bytes "\nA")) lent .reply ≡ refused 13 0
 
 pub reader-operations : ReaderOperations
-unfolding letter digit alphanumeric signs legal parseSwiftChars parseAccount
+unfolding letter digit alphanumeric signs legal parseSwiftChars parseAccount bicLength parseBic upto onto starts lines secondSlash identifierReply parsePartyIdentifier parseLine parseLines parseNameAndAddress afterHead read
 reader-operations = record {
   parse-head-tests-50H = refl;
   parse-head-takes-59-for-50K = refl;
@@ -75,6 +88,10 @@ reader-operations = record {
   is-ascii-stops-short = refl;
   parse-body-refuses-2048 = refl;
   parse-body-tests-bytes-first = refl;
+  read-own-into-tests-13 = refl;
+  read-own-into-stores-a-part = refl;
+  read-into-stores-the-blank = refl;
+  read-into-leaves-13 = refl;
 }
 
 -- ---- the eleven options
@@ -152,6 +169,14 @@ pub record ChoicesOperations : Type 0 where
   pub parse-with-variant-takes-small : parseWithVariant Field50OrderingCustomerAFK (bytes "ABCDEFGH") 97 ≡ refusing 14 0
   -- refuses a letter that no option of the choice has
   pub parse-with-variant-refuses-z : As (parseWithVariant Field50OrderingCustomerAFK (bytes "ABCDEFGH") 90) Field50A
+  -- takes from the body as it came the parts that were found in the trimmed one: the text of ` A` is a space
+  pub parse-into-takes-the-untrimmed : getD (readInto (parse Field50InstructingParty (bytes " A")) lent .bytes) 4 0 ≡ 65
+  -- stores the blank record where no option accepts
+  pub parse-into-stores-the-blank : readInto (parse Field50Creditor []) lent ≡ record { reply = refused 11 0; bytes = lent }
+  -- detects all the same, and stores a 50A by K
+  pub parse-with-variant-into-detects : getD (readInto (parseWithVariant Field50OrderingCustomerAFK (bytes "ABCDEFGH") 75) lent .bytes) 0 0 ≡ placeOf Field50K
+  -- stores the record, and then refuses the letter
+  pub parse-with-variant-into-stores-first : readInto (parseWithVariant Field50OrderingCustomerAFK (bytes "ABCDEFGH") 97) lent ≡ record { reply = refused 14 0; bytes = lent }
   -- the tests: whether a line after the first is numbered tests the first too, or the second alone
   pub later-numbered-takes-the-first : holds LaterNumbered (lines (bytes "1/A\nB")) ≡ false
   pub later-numbered-stops-short : holds LaterNumbered (lines (bytes "A\nB\n1/C")) ≡ true
@@ -168,12 +193,16 @@ pub record ChoicesOperations : Type 0 where
   pub first-numbered-stays : holds FirstNumbered (lines (bytes "/A")) ≡ false
 
 pub choices-operations : ChoicesOperations
-unfolding padded textOf letter digit alphanumeric signs legal parseSwiftChars parseAccount bicLength parseBic upto onto starts lines white trimmedStart keep trimmedEnd trimmed isNumbered secondSlash identifierReply parsePartyIdentifier four partyOf afterHead read anyNumbered firstLine lastLine bicLike testLine firstThat pickOf parse parseWithVariant
+unfolding padded textOf letter digit alphanumeric signs legal parseSwiftChars parseAccount bicLength parseBic upto onto starts lines white trimmedStart keep trimmedEnd trimmed isNumbered secondSlash identifierReply parsePartyIdentifier parseLine parseLines parseNameAndAddress four partyOf accountHead afterHead read anyNumbered firstLine lastLine bicLike testLine firstThat pickOf parse parseWithVariant flatTexts flatten stored
 choices-operations = record {
   parse-tries-the-third-first = (refl, refl);
   parse-tests-the-tried = refl;
   parse-with-variant-takes-small = refl;
   parse-with-variant-refuses-z = (refl, refl);
+  parse-into-takes-the-untrimmed = refl;
+  parse-into-stores-the-blank = refl;
+  parse-with-variant-into-detects = refl;
+  parse-with-variant-into-stores-first = refl;
   later-numbered-takes-the-first = refl;
   later-numbered-stops-short = refl;
   any-numbered-stops-short = refl;

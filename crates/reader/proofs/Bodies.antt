@@ -14,8 +14,8 @@ use Rattle.party.specs.Party.{blank}
 use Rattle.swift_utils.specs.Bytes.{all}
 use Rattle.reader.specs.declared.HeadAt.{HeadAt}
 use Rattle.reader.specs.Reading.{giving, Found, partyOf}
-use Rattle.reader.specs.Options.{Head, isCounted, bodyMost, headBy, afterHead, after, fromHead, byLines, foundBy, ascii, bodyReply, read}
-use Rattle.reader.specs.Code.{toldHead, passedHead, readingOf}
+use Rattle.reader.specs.Options.{Head, isCounted, bodyMost, headBy, afterHead, after, fromHead, byLines, foundBy, ascii, bodyReply, readOwn, read}
+use Rattle.reader.specs.Code.{toldHead, passedHead}
 
 refused-head : (o : PartyOption) (t : Bool) (text : List ℕ) (k n : ℕ) (all-lines later : List (List ℕ))
     → fromHead o (record { present = t; text = text; reply = refused k n }) all-lines later .reply ≡ refused k n
@@ -55,7 +55,7 @@ module _ (o : PartyOption) (body : List ℕ) where
   unfolding read
   body-refused e q = ap (λ (r : Reply). giving (r then foundBy (limitsOf o .layout) o body .reply) (partyOf o (foundBy (limitsOf o .layout) o body))) q
 
-  pub body-passed : bodyReply body ≡ accepted → read o body ≡ readingOf o (foundBy (limitsOf o .layout) o body)
+  pub body-passed : bodyReply body ≡ accepted → read o body ≡ readOwn o body
   unfolding read
   body-passed q = ap (λ (r : Reply). giving (r then foundBy (limitsOf o .layout) o body .reply) (partyOf o (foundBy (limitsOf o .layout) o body))) q
 

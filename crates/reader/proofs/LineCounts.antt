@@ -1,12 +1,12 @@
 -- How many lines a body has, and whether it has an LF. Assumes nothing.
-use mathlib.Core.Path.{_≡_, refl, sym, _∙_}
-use mathlib.Core.Bool.{Bool, true, false, _&&_, and-false, or-true, false≢true}
+use mathlib.Core.Path.{_≡_, refl, sym, _∙_, ap}
+use mathlib.Core.Bool.{Bool, true, false, _&&_, and-true, and-false, or-true, false≢true}
 use mathlib.Core.List.{List, [], _∷_}
 use Prim.Native.Nat.{ℕ, suc, _≤_, _<_}
 use native.Mathlib.Omega.{arith}
-use lib.Dec.{leb, eqb}
-use lib.ListN.{length}
-use borrow.Author.Tests.{le-leb, lt-leb, eqb-false, eq-eqb, ne-eqb}
+use lib.Dec.{leb, ltb, eqb}
+use lib.ListN.{length, drop, length-drop, drop-of-length-le}
+use borrow.Author.Tests.{le-leb, lt-leb, ltb-true, ltb-false, eqb-false, eq-eqb, ne-eqb}
 use Rattle.party.specs.declared.PartyOption.{PartyOption}
 use Rattle.party.specs.declared.Limits.{Limits}
 use Rattle.party.specs.Limits.{limitsOf}
@@ -59,8 +59,20 @@ module _ (o : PartyOption) {m : Limits} (e : m ≡ limitsOf o) (n : ℕ) where
   pub counts-open : m .least ≤ n → m .most ≡ 0 → isCounted o n ≡ true
   counts-open h z = rw (← e, le-leb _ _ h, eq-eqb _ _ z)
 
+  pub counts-least : m .most ≡ 0 → isCounted o n ≡ leb (m .least) n
+  counts-least z = rw (← e, eq-eqb _ _ z) (and-true (leb (m .least) n))
+
   pub counts-most : m .least ≤ n → (m .most ≡ 0 → ⊥) → isCounted o n ≡ leb n (m .most)
   counts-most h z = rw (← e, le-leb _ _ h, ne-eqb _ _ z)
+
+-- a second line is there where the first does not run to the end
+pub lines-second : (s : List ℕ) (rest : ℕ) → length (lines s) ≡ suc (length (lines (drop rest s))) → leb 2 (length (lines s)) ≡ ltb rest (length s)
+unfolding lines
+lines-second s rest e = go (ltb rest (length s)) refl
+  where
+    go : (t : Bool) → ltb rest (length s) ≡ t → leb 2 (length (lines s)) ≡ t
+    go true q = le-leb 2 (length (lines s)) (omega (arith, e, lines-some (drop rest s) (omega (arith, ltb-true rest (length s) q, length-drop rest s))))
+    go false q = lt-leb 2 (length (lines s)) (omega (arith, e, ap (λ (l : List ℕ). length (lines l)) (drop-of-length-le s {i = rest} (omega (arith, ltb-false rest (length s) q)))))
 
 -- an LF is found where it stands among the bytes
 found : {l : List ℕ} {n : ℕ} → Upto 10 l n → n < length l → among l 10 ≡ true

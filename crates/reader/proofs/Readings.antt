@@ -5,40 +5,33 @@ use mathlib.Core.List.{List, [], map}
 use Prim.Native.Nat.{ℕ}
 use borrow.Author.Tests.{eq-eqb, ne-eqb}
 use Rattle.errors.specs.declared.ParseError.{ParseError}
+use Rattle.errors.specs.declared.Outcome.{Outcome}
 use Rattle.errors.specs.declared.Outcome.the-variants.{Accepted, Refused}
-use Rattle.errors.specs.Refusals.{Reply, accepted, refused, toldError}
+use Rattle.errors.specs.Refusals.{Reply, accepted, refused, told, toldError}
 use Rattle.party.specs.declared.PartyOption.{PartyOption}
 use Rattle.party.specs.declared.Limits.{Limits}
 use Rattle.party.specs.declared.Text.{Text}
+use Rattle.party.specs.declared.Parts.{Parts}
 use Rattle.party.specs.declared.Party.{Party}
 use Rattle.party.specs.Limits.{limitsOf}
-use Rattle.party.specs.Text.{textOf, four}
-use Rattle.party.specs.Party.{blank}
+use Rattle.party.specs.Text.{textOf}
+use Rattle.party.specs.Party.{partyIn}
 use Rattle.swift_utils.specs.Bytes.{among}
 use Rattle.field_utils.specs.Names.{parseNameAndAddress, kept, digitOf, NamesRead, namesOr, readNames}
-use Rattle.reader.specs.declared.Answer.{Answer}
-use Rattle.reader.specs.Reading.{Reading, giving, toldAnswer, Found, partyOf}
+use Rattle.reader.specs.declared.FoundAt.{FoundAt}
+use Rattle.reader.specs.Reading.{Reading, giving, Found, partyOf}
 use Rattle.reader.specs.Options.{Head, accountReply, withNames, withBic, afterHead, textOnly}
-use Rattle.reader.specs.Code.{nameless, readingOf}
+use Rattle.reader.specs.Code.{toldParts, readingOf}
 
-module _ (o : PartyOption) (f : Found) {r : Answer} where
-  pub refusing : {e : ParseError} → r ≡ (record { outcome = Refused e; party = blank }) → f .reply ≡ toldError e → toldAnswer r ≡ readingOf o f
-  refusing p q = ap toldAnswer p ∙ sym (ap (λ (s : Reply). giving s (partyOf o f)) q)
+module _ (o : PartyOption) (f : Found) (body : List ℕ) (r : FoundAt) where
+  pub refusing : {e : ParseError} → r .outcome ≡ Refused e → f .reply ≡ toldError e → toldParts body r ≡ readingOf o f
+  refusing p q = ap (λ (x : Outcome). giving (told x) (partyIn body (r .parts))) p ∙ sym (ap (λ (s : Reply). giving s (partyOf o f)) q)
 
-  pub accepting : {p : Party} → r ≡ (record { outcome = Accepted; party = p }) → f .reply ≡ accepted → p ≡ partyOf o f → toldAnswer r ≡ readingOf o f
-  accepting e q h =
-      ap toldAnswer e
+  pub accepting : (q : Parts) → r ≡ (record { outcome = Accepted; parts = q }) → f .reply ≡ accepted → partyIn body q ≡ partyOf o f → toldParts body r ≡ readingOf o f
+  accepting q e t h =
+      ap (toldParts body) e
       ∙ ap {B = Reading} (λ (p : Party). record { reply = accepted; party = p }) h
-      ∙ sym (ap (λ (s : Reply). giving s (partyOf o f)) q)
-
--- a record without names
-pub party-nameless : (o : PartyOption) (present : Bool) (account bic : List ℕ) {t u : Text} {p : Party} → t ≡ textOf account → u ≡ textOf bic → p ≡ blank
-    → _≡_ {A = Party}
-    (record { option = o; present = present; account = t; bic = u; count = 0; «name_and_address» = p .«name_and_address»; digits = p .digits })
-    (partyOf o (nameless present account bic))
-unfolding partyOf four
-party-nameless o present account bic e f g =
-    λ i. record { option = o; present = present; account = e i; bic = f i; count = 0; «name_and_address» = g i .«name_and_address»; digits = g i .digits }
+      ∙ sym (ap (λ (s : Reply). giving s (partyOf o f)) t)
 
 -- what the names give, by their reply
 names-or : (r : Reply) (ns : List (List ℕ)) (ds : List ℕ) → namesOr r ns ds .reply ≡ r

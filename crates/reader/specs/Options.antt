@@ -136,6 +136,10 @@ bodyMost = 2048
 abbrev pub bodyReply : List ℕ → Reply
 bodyReply body = must (leb (length body) bodyMost) 12 0 then must (all ascii body) 13 0
 
+-- the option's own checks, after 12 and 13
+abbrev pub readOwn : PartyOption → List ℕ → Reading
+readOwn o body = let f = foundBy (limitsOf o .layout) o body in giving (f .reply) (partyOf o f)
+
 -- an option's reader: 12, 13, then the option's own
 unfoldable pub read : PartyOption → List ℕ → Reading
 read o body =

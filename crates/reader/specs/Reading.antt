@@ -8,6 +8,8 @@ use Rattle.party.specs.declared.PartyOption.{PartyOption}
 use Rattle.party.specs.declared.Party.{Party}
 use Rattle.party.specs.Text.{textOf, four, fourTexts}
 use Rattle.party.specs.Party.{blank}
+use Rattle.errors.specs.declared.Outcome.{Outcome}
+use Rattle.flat.specs.Flat.{stored}
 use Rattle.reader.specs.declared.Answer.{Answer}
 
 -- accepted with a record, or refused; the record beside a refusal is the blank one
@@ -23,6 +25,24 @@ giving (refused k n) p = record { reply = refused k n; party = blank }
 -- an answer of the code in document 01's terms
 abbrev pub toldAnswer : Answer → Reading
 toldAnswer a = record { reply = told (a .outcome); party = a .party }
+
+-- a reading into lent bytes: what was said of the body, and the bytes after it
+pub record Into : Type 0 where
+  pub reply : Reply
+  pub bytes : List ℕ
+
+-- the record is stored at their start; a refusal changes no byte
+abbrev pub storing : Reply → Party → List ℕ → Into
+storing accepted p bytes = record { reply = accepted; bytes = stored p bytes }
+storing (refused k n) p bytes = record { reply = refused k n; bytes = bytes }
+
+-- what a reading leaves in lent bytes
+abbrev pub readInto : Reading → List ℕ → Into
+readInto r bytes = storing (r .reply) (r .party) bytes
+
+-- an answer of the code with the bytes that it left
+abbrev pub toldInto : Outcome → List ℕ → Into
+toldInto outcome bytes = record { reply = told outcome; bytes = bytes }
 
 -- what an option finds in a body: what its checks say in their order, whether the body gave an account or identifier, that text, the
 -- BIC, and the names, each with its digit, 0 but in 50F; a text that the option has not is empty

@@ -10,31 +10,36 @@ use field_utils::lines::find_lf;
 use field_utils::parse_name_and_address;
 use field_utils::parse_party_identifier;
 use field_utils::starts_with_slash;
+use flat::store_parts;
 use party::First;
 use party::Layout;
-use party::NOTHING;
+use party::NO_PART;
+use party::Part;
+use party::Parts;
 use party::Party;
 use party::PartyOption;
 use party::blank;
 use party::limits_of;
-use party::text_of;
+use party::party_of;
 use swift_utils::parse_account;
 use swift_utils::parse_bic;
 use swift_utils::parse_length;
 ghost use mathlib.Core.Path.{_≡_};
 ghost use mathlib.Core.Bool.{true, false};
-ghost use Prim.Native.Nat.{suc, _<_};
-ghost use lib.ListN.{length, drop};
+ghost use mathlib.Core.List.{List};
+ghost use Prim.Native.Nat.{ℕ, suc, _-_, _<_};
+ghost use lib.ListN.{length, take, drop};
 ghost use Rattle.errors.specs.declared.Outcome.the-variants.{Accepted, Refused};
 ghost use Rattle.errors.specs.Refusals.{told};
 ghost use Rattle.party.specs.Limits.{limitsOf};
-ghost use Rattle.party.specs.Party.{blank as blankParty};
+ghost use Rattle.party.specs.Text.{partIn};
+ghost use Rattle.party.specs.Party.{blank as blankParty, partyIn};
 ghost use Rattle.party.specs.declared.First.the-variants.{Identified};
 ghost use Rattle.swift_utils.specs.Bytes.{all};
 ghost use Rattle.field_utils.specs.Lines.{lines};
-ghost use Rattle.reader.specs.Reading.{toldAnswer, partyOf};
-ghost use Rattle.reader.specs.Options.{isCounted, lengthReply, accountReply, slashHead, headBy, withNames, withBic, afterHead, byLines, bicOnly, textOnly, ascii, bodyReply, read as readOf};
-ghost use Rattle.reader.specs.Code.{toldHead, passedHead, hasAccount, accountBy, nameless, readingOf};
+ghost use Rattle.reader.specs.Reading.{toldAnswer, partyOf, toldInto, readInto};
+ghost use Rattle.reader.specs.Options.{isCounted, lengthReply, accountReply, slashHead, headBy, withNames, withBic, afterHead, byLines, bicOnly, textOnly, ascii, bodyReply, readOwn, read as readOf};
+ghost use Rattle.reader.specs.Code.{toldParts, toldHead, passedHead, hasAccount, accountBy, nameless, IsRest, readingOf};
 
 // What a reader gives: accepted with the record, or refused with the blank record.
 pub struct Answer {
@@ -42,13 +47,29 @@ pub struct Answer {
     pub party: Party,
 }
 
-// Accepted, with the record.
-fn accept(party: Party) -> Answer
-    ensures { λ r. ⌜ r ≡ record { outcome = Accepted; party = party } ⌝ }
+// What is found in a body: accepted with the parts of it that the record's texts are, or refused.
+struct FoundAt {
+    parts: Parts,
+    outcome: Outcome,
+}
+
+// Accepted, with the parts.
+fn accept(parts: Parts) -> FoundAt
+    ensures { λ r. ⌜ r ≡ record { outcome = Accepted; parts = parts } ⌝ }
 {
-    Answer {
+    FoundAt {
         outcome: Outcome::Accepted,
-        party,
+        parts,
+    }
+}
+
+// Refused; no part is found.
+fn turn_away(e: ParseError) -> FoundAt
+    ensures { λ r. ⌜ r .outcome ≡ Refused e ⌝ }
+{
+    FoundAt {
+        outcome: Outcome::Refused(e),
+        parts: nameless_parts(PartyOption::Field50NoOption, false, NO_PART, NO_PART),
     }
 }
 
@@ -177,17 +198,17 @@ fn parse_head(line: &[u8], option: PartyOption) -> HeadAt
     }
 }
 
-// A record without names.
-fn nameless_party(option: PartyOption, present: bool, account: &[u8], bic: &[u8]) -> Party
-    ensures { λ r. ⌜ r ≡ partyOf option (nameless present (now (account .entry)) (now (bic .entry))) ⌝ }
+// The parts of a record without names.
+fn nameless_parts(option: PartyOption, present: bool, account: Part, bic: Part) -> Parts
+    ensures { λ r. ⌜ ((body : List ℕ) → partyIn body r ≡ partyOf option (nameless present (partIn body account) (partIn body bic))) ⌝ }
 {
-    Party {
+    Parts {
         option,
         present,
-        account: text_of(account),
-        bic: text_of(bic),
+        account,
+        bic,
         count: 0,
-        name_and_address: [NOTHING; 4],
+        name_and_address: [NO_PART; 4],
         digits: [0u8; 4],
     }
 }
@@ -199,24 +220,24 @@ fn read_names(
     from: Lines,
     start_idx: u8,
     present: bool,
-    account: &[u8],
-) -> Answer
-    ensures { λ r. ⌜ toldAnswer r ≡ readingOf option (withNames option (suc «start_idx») (passedHead present (now (account .entry))) (lines (drop (from .at) (now (body .entry))))) ⌝ }
+    account: Part,
+) -> FoundAt
+    ensures { λ r. ⌜ toldParts (now (body .entry)) r ≡ readingOf option (withNames option (suc «start_idx») (passedHead present (partIn (now (body .entry)) account)) (lines (drop (from .at) (now (body .entry))))) ⌝ }
 {
     let names = parse_name_and_address(body, from, start_idx, option);
     let outcome = names.outcome;
     if let Outcome::Refused(e) = outcome {
-        return refuse(e);
+        return turn_away(e);
     }
-    let texts = names.texts;
+    let parts = names.parts;
     let digits = names.digits;
-    accept(Party {
+    accept(Parts {
         option,
         present,
-        account: text_of(account),
-        bic: text_of(&body[..0]),
+        account,
+        bic: NO_PART,
         count: names.count,
-        name_and_address: texts,
+        name_and_address: parts,
         digits,
     })
 }
@@ -228,9 +249,9 @@ fn read_bic(
     from: Lines,
     start_idx: u8,
     present: bool,
-    account: &[u8],
-) -> Answer
-    ensures { λ r. ⌜ toldAnswer r ≡ readingOf option (withBic (suc «start_idx») (passedHead present (now (account .entry))) (lines (drop (from .at) (now (body .entry))))) ⌝ }
+    account: Part,
+) -> FoundAt
+    ensures { λ r. ⌜ toldParts (now (body .entry)) r ≡ readingOf option (withBic (suc «start_idx») (passedHead present (partIn (now (body .entry)) account)) (lines (drop (from .at) (now (body .entry))))) ⌝ }
 {
     let found = from.next(body);
     let Line::Next {
@@ -239,14 +260,17 @@ fn read_bic(
         rest: _,
     } = found
     else {
-        return refuse(ParseError::BicMissing);
+        return turn_away(ParseError::BicMissing);
     };
-    let bic = &body[start..end];
-    let outcome = parse_bic(bic, start_idx as usize + 1);
+    let outcome = parse_bic(&body[start..end], start_idx as usize + 1);
     if let Outcome::Refused(e) = outcome {
-        return refuse(e);
+        return turn_away(e);
     }
-    accept(nameless_party(option, present, account, bic))
+    let bic = Part {
+        start,
+        len: end - start,
+    };
+    accept(nameless_parts(option, present, account, bic))
 }
 
 // The lines after the first one, or all, as the option has them.
@@ -256,9 +280,9 @@ fn read_rest(
     from: Lines,
     start_idx: u8,
     present: bool,
-    account: &[u8],
-) -> Answer
-    ensures { λ r. ⌜ toldAnswer r ≡ readingOf option (afterHead option (suc «start_idx») (passedHead present (now (account .entry))) (lines (drop (from .at) (now (body .entry))))) ⌝ }
+    account: Part,
+) -> FoundAt
+    ensures { λ r. ⌜ toldParts (now (body .entry)) r ≡ readingOf option (afterHead option (suc «start_idx») (passedHead present (partIn (now (body .entry)) account)) (lines (drop (from .at) (now (body .entry))))) ⌝ }
 {
     let limits = limits_of(option);
     if limits.names == 0 {
@@ -268,9 +292,10 @@ fn read_rest(
     }
 }
 
-// Whether a body of at least one line has as many as the option counts first. Most options count no more than that.
-fn counts(option: PartyOption, body: &[u8]) -> bool
-    requires { ⌜ 0 < length (now body) ⌝ }
+// Whether a body has as many lines as the option counts first; the cursor is the one after its first line. Most options ask for no more
+// than that line, or for one after it.
+fn counts(option: PartyOption, body: &[u8], rest: Lines) -> bool
+    requires { ⌜ length (lines (now body)) ≡ suc (length (lines (drop (rest .at) (now body)))) ⌝ }
     ensures { λ r. ⌜ r ≡ isCounted option (length (lines (now (body .entry)))) ⌝ }
 {
     let limits = limits_of(option);
@@ -278,8 +303,11 @@ fn counts(option: PartyOption, body: &[u8]) -> bool
         if limits.least <= 1 {
             return true;
         }
+        if limits.least == 2 {
+            return rest.at < body.len();
+        }
     }
-    let n = count_lines(body);
+    let n = 1 + count_lines(behind(body, rest.at));
     if n < limits.least {
         return false;
     }
@@ -289,71 +317,118 @@ fn counts(option: PartyOption, body: &[u8]) -> bool
     n <= limits.most
 }
 
+// The part of a line from one place to another that is behind its first bytes.
+fn part_behind(start: usize, end: usize, skip: usize) -> Part
+    ensures { λ r. ⌜ ((body : List ℕ) → partIn body r ≡ drop skip (take (end - start) (drop start body))) ⌝ }
+{
+    if end <= start {
+        return NO_PART;
+    }
+    if end - start <= skip {
+        return NO_PART;
+    }
+    let first = start + skip;
+    Part {
+        start: first,
+        len: end - first,
+    }
+}
+
+// Where the names or the BIC start, how many lines precede them, and the account or identifier that does.
+struct RestAt {
+    from: Lines,
+    start_idx: u8,
+    account: Part,
+}
+
+// What is behind a first line from one place to another, with the cursor after it: the lines after it where it has an account or
+// identifier, else all.
+fn rest_of(present: bool, start: usize, end: usize, skip: usize, rest: Lines) -> RestAt
+    ensures there { λ r. ⌜ (present ≡ true → IsRest start end skip rest r) ⌝ }
+    ensures none { λ r. ⌜ (present ≡ false → r ≡ record { from = record { at = 0 }; «start_idx» = 0; account = record { start = 0; len = 0 } }) ⌝ }
+{
+    if present {
+        let account = part_behind(start, end, skip);
+        return RestAt {
+            from: rest,
+            start_idx: 1,
+            account,
+        };
+    }
+    RestAt {
+        from: Lines { at: 0 },
+        start_idx: 0,
+        account: NO_PART,
+    }
+}
+
 // A body by its lines: how many there are, the first, and the others.
-fn read_lines(option: PartyOption, body: &[u8]) -> Answer
-    ensures { λ r. ⌜ toldAnswer r ≡ readingOf option (byLines option (lines (now (body .entry)))) ⌝ }
+fn read_lines(option: PartyOption, body: &[u8]) -> FoundAt
+    ensures { λ r. ⌜ toldParts (now (body .entry)) r ≡ readingOf option (byLines option (lines (now (body .entry)))) ⌝ }
 {
     let top = Lines { at: 0 };
     let found = top.next(body);
     let Line::Next { start, end, rest } = found else {
-        return refuse(ParseError::LineCount);
+        return turn_away(ParseError::LineCount);
     };
-    if !counts(option, body) {
-        return refuse(ParseError::LineCount);
+    if !counts(option, body, rest) {
+        return turn_away(ParseError::LineCount);
     }
-    let line = &body[start..end];
-    let head = parse_head(line, option);
+    let head = parse_head(&body[start..end], option);
     let outcome = head.outcome;
     if let Outcome::Refused(e) = outcome {
-        return refuse(e);
+        return turn_away(e);
     }
-    if head.present {
-        let skip = head.skip;
-        read_rest(option, body, rest, 1, true, behind(line, skip))
-    } else {
-        read_rest(option, body, top, 0, false, &body[..0])
-    }
+    let later = rest_of(head.present, start, end, head.skip, rest);
+    let from = later.from;
+    let account = later.account;
+    read_rest(option, body, from, later.start_idx, head.present, account)
 }
 
 // A body that is a BIC.
-fn read_bic_only(option: PartyOption, body: &[u8]) -> Answer
-    ensures { λ r. ⌜ toldAnswer r ≡ readingOf option (bicOnly (now (body .entry))) ⌝ }
+fn read_bic_only(option: PartyOption, body: &[u8]) -> FoundAt
+    ensures { λ r. ⌜ toldParts (now (body .entry)) r ≡ readingOf option (bicOnly (now (body .entry))) ⌝ }
 {
     let outcome = parse_bic(body, 1);
     if let Outcome::Refused(e) = outcome {
-        return refuse(e);
+        return turn_away(e);
     }
-    accept(nameless_party(option, false, &body[..0], body))
+    let whole = Part {
+        start: 0,
+        len: body.len(),
+    };
+    accept(nameless_parts(option, false, NO_PART, whole))
 }
 
 // A body that is a text without LF.
-fn read_text_only(option: PartyOption, body: &[u8]) -> Answer
-    ensures { λ r. ⌜ toldAnswer r ≡ readingOf option (textOnly option (now (body .entry))) ⌝ }
+fn read_text_only(option: PartyOption, body: &[u8]) -> FoundAt
+    ensures { λ r. ⌜ toldParts (now (body .entry)) r ≡ readingOf option (textOnly option (now (body .entry))) ⌝ }
 {
     if find_lf(body, 0) < body.len() {
-        return refuse(ParseError::LineCount);
+        return turn_away(ParseError::LineCount);
     }
     let outcome = account(body, option);
     if let Outcome::Refused(e) = outcome {
-        return refuse(e);
+        return turn_away(e);
     }
-    accept(nameless_party(option, true, body, &body[..0]))
+    let whole = Part {
+        start: 0,
+        len: body.len(),
+    };
+    accept(nameless_parts(option, true, whole, NO_PART))
 }
 
-// Whether no byte is above 127: the largest is not. The compiler takes this loop many bytes at a time.
+// Whether no byte is above 127: their bits together are not. The compiler takes this loop many bytes at a time.
 pub fn is_ascii(body: &[u8]) -> bool
     ensures { λ r. ⌜ r ≡ all ascii (now (body .entry)) ⌝ }
 {
-    let mut most = 0;
+    let mut seen = 0;
     let mut i = 0;
     while i < body.len() {
-        let b = body[i];
-        if most < b {
-            most = b;
-        }
+        seen = seen | body[i];
         i += 1;
     }
-    most <= 127
+    seen <= 127
 }
 
 // The most bytes of a body.
@@ -373,14 +448,10 @@ pub fn parse_body(body: &[u8]) -> Outcome
     }
 }
 
-// The reader of an option.
-pub fn read(option: PartyOption, body: &[u8]) -> Answer
-    ensures { λ r. ⌜ toldAnswer r ≡ readOf option (now (body .entry)) ⌝ }
+// The option's own checks, after 12 and 13.
+fn read_own(option: PartyOption, body: &[u8]) -> FoundAt
+    ensures { λ r. ⌜ toldParts (now (body .entry)) r ≡ readOwn option (now (body .entry)) ⌝ }
 {
-    let outcome = parse_body(body);
-    if let Outcome::Refused(e) = outcome {
-        return refuse(e);
-    }
     let limits = limits_of(option);
     let layout = limits.layout;
     match layout {
@@ -388,4 +459,50 @@ pub fn read(option: PartyOption, body: &[u8]) -> Answer
         Layout::TextOnly => read_text_only(option, body),
         Layout::ByLines => read_lines(option, body),
     }
+}
+
+// The reader of an option: the record is built from the parts that were found.
+pub fn read(option: PartyOption, body: &[u8]) -> Answer
+    ensures { λ r. ⌜ toldAnswer r ≡ readOf option (now (body .entry)) ⌝ }
+{
+    let outcome = parse_body(body);
+    if let Outcome::Refused(e) = outcome {
+        return refuse(e);
+    }
+    let found = read_own(option, body);
+    let own = found.outcome;
+    if let Outcome::Refused(e) = own {
+        return refuse(e);
+    }
+    let parts = found.parts;
+    Answer {
+        outcome: Outcome::Accepted,
+        party: party_of(body, parts),
+    }
+}
+
+// The option's own checks, after 12 and 13, with the record stored at the start of lent bytes, straight from the parts that were found; a
+// refusal changes none.
+pub fn read_own_into(option: PartyOption, body: &[u8], record: &mut [u8]) -> Outcome
+    ensures { λ r. ⌜ toldInto r (now («record» .exit)) ≡ readInto (readOwn option (now (body .entry))) (now («record» .entry)) ⌝ }
+{
+    let found = read_own(option, body);
+    let outcome = found.outcome;
+    if let Outcome::Refused(e) = outcome {
+        return Outcome::Refused(e);
+    }
+    let parts = found.parts;
+    store_parts(parts, body, record);
+    Outcome::Accepted
+}
+
+// The reader of an option, with the record stored at the start of lent bytes; a refusal changes none.
+pub fn read_into(option: PartyOption, body: &[u8], record: &mut [u8]) -> Outcome
+    ensures { λ r. ⌜ toldInto r (now («record» .exit)) ≡ readInto (readOf option (now (body .entry))) (now («record» .entry)) ⌝ }
+{
+    let outcome = parse_body(body);
+    if let Outcome::Refused(e) = outcome {
+        return Outcome::Refused(e);
+    }
+    read_own_into(option, body, record)
 }

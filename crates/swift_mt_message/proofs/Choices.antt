@@ -7,26 +7,24 @@ use Prim.Native.Nat.{ℕ}
 use native.Mathlib.Omega.{arith}
 use lib.Dec.{leb, eqb}
 use lib.ListN.{length, drop}
-use borrow.Author.Tests.{eqb-true, eqb-false, ne-eqb, le-leb, leb-true}
-use Rattle.errors.specs.Refusals.{Reply, accepted, refused, must}
-use Rattle.errors.proofs.Replies.{must-held, then-second}
+use borrow.Author.Tests.{eqb-true, eqb-false, ne-eqb, leb-true}
+use Rattle.errors.specs.Refusals.{Reply, accepted, refused}
 use Rattle.party.specs.declared.PartyOption.{PartyOption}
 use Rattle.party.specs.declared.PartyOption.the-variants.{Field50NoOption, Field50A, Field50F, Field50K, Field50C, Field50L, Field50G, Field50H, Field59NoOption, Field59A, Field59F}
 use Rattle.party.specs.declared.Party.{Party}
 use Rattle.party.specs.Limits.{limitsOf, placeOf}
 use Rattle.party.proofs.Options.{by-option, place-one}
-use Rattle.swift_utils.specs.Bytes.{all}
 use Rattle.field_utils.specs.Lines.{lines}
 use Rattle.field_utils.specs.Trim.{trimmed}
 use Rattle.field_utils.specs.Identifier.{isNumbered}
 use Rattle.reader.specs.Reading.{Reading}
-use Rattle.reader.specs.Options.{ascii, bodyMost, bodyReply, read}
-use Rattle.reader.proofs.Bodies.{body-length}
+use Rattle.reader.specs.Options.{bodyReply, read}
 use Rattle.choices.specs.declared.Choice.{Choice}
 use Rattle.choices.specs.declared.Choice.the-variants.{Field50InstructingParty, Field50OrderingCustomerFGH, Field50OrderingCustomerAFK, Field50OrderingCustomerNCF, Field50Creditor, Field59, Field59Debtor}
 use Rattle.choices.specs.Detection.{anyNumbered, firstLine, testLine}
 use Rattle.choices.specs.Choices.{trialsOf, triedText, wanted, refusing, when, orElse, firstThat, parse, letterReply, optionsOf, pickOf, parseWithVariant}
 use Rattle.choices.proofs.Trials.{by-choice, check-passed}
+use Rattle.choices.proofs.Trimmed.{trimmed-body}
 use Rattle.swift_mt_message.specs.Std.{Str, slash, Result, Ok, Err, Panic, if-ok, arm}
 use Rattle.swift_mt_message.specs.Field50 as rust50
 use Rattle.swift_mt_message.specs.Field59 as rust59
@@ -36,7 +34,7 @@ use Rattle.swift_mt_message.specs.Enums.{Enum}
 use Rattle.swift_mt_message.specs.Equal.{told, recordOf, recordBy, renumber, rustRead, rustParse, rustParseWithVariant, illegalAccount, FGH}
 use Rattle.swift_mt_message.proofs.Results.{by-test}
 use Rattle.swift_mt_message.proofs.Lines.{collected}
-use Rattle.swift_mt_message.proofs.Std.{started, trims, trimmed-part}
+use Rattle.swift_mt_message.proofs.Std.{started, trims}
 use Rattle.swift_mt_message.proofs.Detection.{any-number, first-line, one-line, last-bic, test-line, letters, no-letter}
 use Rattle.swift_mt_message.proofs.Field50.{at-50, at-50A, at-50F, at-50K, at-50C, at-50L, at-50G, at-50H}
 use Rattle.swift_mt_message.proofs.Field59.{at-59, at-59A, at-59F}
@@ -56,14 +54,6 @@ at-option =
 
 pub not-H : (o : PartyOption) (body : Str) → (o ≡ Field50H → ⊥) → reading body o ≡ read o body
 not-H o body n = rw (ne-eqb (placeOf o) (placeOf Field50H) (λ e. n (place-one o Field50H e)), reading)
-
--- a trimmed body passes 12 and 13 where the body does
-trimmed-body : (body : Str) → bodyReply body ≡ accepted → bodyReply (trimmed body) ≡ accepted
-trimmed-body body q =
-    let p = trimmed-part body in
-    let short = le-leb (length (trimmed body)) bodyMost (omega (arith, p .shorter, body-length body q)) in
-    let low = must-held (all ascii body) 13 0 (then-second (must (leb (length body) bodyMost) 12 0) (must (all ascii body) 13 0) q) in
-    rw (short, p .passes ascii low)
 
 -- the first option that accepts, and what a letter picks, of any reader's readings
 module _ (f : PartyOption → Reading) where

@@ -1,6 +1,6 @@
 -- What the Rust's std does is what document 01 says of bytes, lines and blanks. Assumes nothing.
 use mathlib.Core.Path.{_≡_, refl, sym, _∙_, ap}
-use mathlib.Core.Bool.{Bool, true, false, not, _&&_, _||_, or-comm, or-assoc, and-assoc, and-eq-true-iff, false≢true}
+use mathlib.Core.Bool.{Bool, true, false, not, _&&_, _||_, or-comm, or-assoc, and-assoc, false≢true}
 use mathlib.Core.List.{List, [], _∷_, _++_}
 use mathlib.Core.Option.{none, some, Option·map}
 use Prim.Native.Nat.{ℕ, zero, suc, _+_, _-_, _≤_, _<_}
@@ -185,40 +185,3 @@ found-at s c = found-in (by-upto c s)
 
 pub found-none : (s : Str) (c : ℕ) → length s ≤ upto c s → find s c ≡ none
 found-none s c = found-out (by-upto c s)
-
--- what is trimmed is no longer, and passes each test of all bytes that the whole passes
-pub record Part (s t : Str) : Type 0 where
-  pub shorter : length t ≤ length s
-  pub passes : (f : ℕ → Bool) → all f s ≡ true → all f t ≡ true
-
-start-part : (s : Str) → Part s (trimmedStart s)
-unfolding trimmedStart
-start-part [] = record { shorter = omega arith; passes = λ f e. e }
-start-part (b ∷ s) =
-    let p = start-part s in
-    by-test (white b)
-    (λ w. rw (w, trimmedStart) (record { shorter = omega (arith, p .shorter); passes = λ f e. p .passes f (and-eq-true-iff (f b) (all f s) .0 e .1) }))
-    (λ w. rw (w, trimmedStart) (record { shorter = omega arith; passes = λ f e. e }))
-
-keep-part : (b : ℕ) (s t : Str) → Part s t → Part (b ∷ s) (keep b t)
-unfolding keep
-keep-part b s [] p =
-    by-test (white b)
-    (λ w. rw (w, keep) (record { shorter = omega arith; passes = λ f e. refl }))
-    (λ w. rw (w, keep) (record { shorter = omega arith; passes = λ f e. rw (and-eq-true-iff (f b) (all f s) .0 e .0) }))
-keep-part b s (a ∷ t) p = record {
-  shorter = omega (arith, p .shorter);
-  passes = λ f e. let h = and-eq-true-iff (f b) (all f s) .0 e in rw (h .0) (p .passes f (h .1));
-}
-
-end-part : (s : Str) → Part s (trimmedEnd s)
-unfolding trimmedEnd
-end-part [] = record { shorter = omega arith; passes = λ f e. e }
-end-part (b ∷ s) = keep-part b s (trimmedEnd s) (end-part s)
-
-pub trimmed-part : (s : Str) → Part s (trimmed s)
-unfolding trimmed
-trimmed-part s =
-    let a = start-part s in
-    let b = end-part (trimmedStart s) in
-    record { shorter = omega (arith, a .shorter, b .shorter); passes = λ f e. b .passes f (a .passes f e) }

@@ -1,3 +1,4 @@
+pub mod Bits
 pub mod Table
 pub mod Classes
 pub mod Checks

@@ -8,8 +8,8 @@ use native.Mathlib.Omega.{arith}
 use lib.Dec.{leb}
 use lib.ListN.{getD}
 use borrow.Author.Tests.{leb-true, leb-false, lt-leb, ne-eqb}
-use Rattle.swift_utils.specs.Bytes.{all, among, letter, digit, alphanumeric, signs, legal}
-use Rattle.swift_utils.specs.Classes.{table, classOf, classTable, atLeast, entryAtLeast}
+use Rattle.swift_utils.specs.Bytes.{all, among, letter, small, digit, alphanumeric, signs, legal, narrowSigns, narrow}
+use Rattle.swift_utils.specs.Classes.{table, bitsOf, classesOf, classTable, hasBits, inClasses, entryIn}
 use Rattle.swift_utils.proofs.Classes.{all-agree}
 
 from : (f : ℕ → ℕ) (n i k : ℕ) → k < n → getD (table f i n) k 0 ≡ f (i + k)
@@ -39,6 +39,10 @@ signs-bytes : all (λ (c : ℕ). leb c 255) signs ≡ true
 unfolding signs
 signs-bytes = refl
 
+narrow-bytes : all (λ (c : ℕ). leb c 255) narrowSigns ≡ true
+unfolding narrowSigns
+narrow-bytes = refl
+
 letter-past : (b : ℕ) → 255 < b → letter b ≡ false
 unfolding letter
 letter-past b h = rw (lt-leb b 90 (omega arith), lt-leb b 122 (omega arith), and-false (leb 65 b), and-false (leb 97 b))
@@ -51,24 +55,32 @@ legal-past : (b : ℕ) → 255 < b → legal b ≡ false
 unfolding legal alphanumeric
 legal-past b h = rw (letter-past b h, digit-past b h, among-past signs b signs-bytes h)
 
-class-past : (b : ℕ) → 255 < b → classOf b ≡ 0
-unfolding classOf
-class-past b h = rw (letter-past b h, digit-past b h, legal-past b h, classOf)
+narrow-past : (b : ℕ) → 255 < b → narrow b ≡ false
+unfolding narrow alphanumeric
+narrow-past b h = rw (letter-past b h, digit-past b h, among-past narrowSigns b narrow-bytes h)
 
--- the entry of a byte is its class
-pub class-at : (b : ℕ) → getD classTable b 0 ≡ classOf b
+small-past : (b : ℕ) → 255 < b → small b ≡ false
+unfolding small
+small-past b h = rw (lt-leb b 122 (omega arith), and-false (leb 97 b))
+
+classes-past : (b : ℕ) → 255 < b → classesOf b ≡ 0
+unfolding classesOf bitsOf alphanumeric
+classes-past b h = rw (legal-past b h, narrow-past b h, letter-past b h, digit-past b h, small-past b h)
+
+-- the entry of a byte is its classes
+pub classes-at : (b : ℕ) → getD classTable b 0 ≡ classesOf b
 unfolding classTable
-class-at b = go (leb b 255) refl
+classes-at b = go (leb b 255) refl
   where
-    go : (t : Bool) → leb b 255 ≡ t → getD classTable b 0 ≡ classOf b
-    go true e = at classOf 256 b (omega (arith, leb-true b 255 e))
-    go false e = past classOf 256 0 b (omega (arith, leb-false b 255 e)) ∙ sym (class-past b (leb-false b 255 e))
+    go : (t : Bool) → leb b 255 ≡ t → getD classTable b 0 ≡ classesOf b
+    go true e = at classesOf 256 b (omega (arith, leb-true b 255 e))
+    go false e = past classesOf 256 0 b (omega (arith, leb-false b 255 e)) ∙ sym (classes-past b (leb-false b 255 e))
 
 -- what the test of a byte's entry says of the byte
-pub by-entry : (k b : ℕ) {l : List ℕ} {t : Bool} → l ≡ classTable → leb k (getD l b 0) ≡ t → atLeast k b ≡ t
-by-entry k b e g = rw (← (class-at b), ← e) g
+pub by-entry : (mask b : ℕ) {l : List ℕ} {t : Bool} → l ≡ classTable → entryIn l mask b ≡ t → inClasses mask b ≡ t
+by-entry mask b e g = rw (← (classes-at b), ← e) g
 
--- what the test of all entries says of the bytes, by a test that the class stands for
-pub by-entries : (k : ℕ) (f : ℕ → Bool) → ((b : ℕ) → atLeast k b ≡ f b) → (l s : List ℕ) → l ≡ classTable → all (entryAtLeast l k) s ≡ all f s
-by-entries k f agree l s e =
-    all-agree (entryAtLeast l k) f (λ b. ap (λ (c : List ℕ). leb k (getD c b 0)) e ∙ ap (leb k) (class-at b) ∙ agree b) s
+-- what the test of all entries says of the bytes, by a test that the mask stands for
+pub by-entries : (mask : ℕ) (f : ℕ → Bool) → ((b : ℕ) → inClasses mask b ≡ f b) → (l s : List ℕ) → l ≡ classTable → all (entryIn l mask) s ≡ all f s
+by-entries mask f agree l s e =
+    all-agree (entryIn l mask) f (λ b. ap (λ (c : List ℕ). hasBits mask (getD c b 0)) e ∙ ap (hasBits mask) (classes-at b) ∙ agree b) s

@@ -5,16 +5,27 @@ ghost use mathlib.Core.Path.{_≡_};
 ghost use Rattle.errors.specs.Refusals.{told};
 ghost use Rattle.swift_utils.specs.Bytes.{legal, digit, alphanumeric, all};
 ghost use Rattle.swift_utils.specs.Checks.{parseSwiftChars, parseLength, parseAccount, bicLength, parseBic};
-ghost use Rattle.swift_utils.specs.Classes.{classOf, classTable, entryAtLeast};
+ghost use Rattle.swift_utils.specs.Classes.{inClasses, classTable, entryIn};
 
-// The class of the network profile's signs, which digits and letters are above, and that of small letters.
-pub const NARROW: u8 = 3;
+// The classes of bytes, a bit each: the legal ones, those of them that are no LF, the network profile's, letters and digits, letters, digits,
+// small letters.
+pub const LEGAL: u8 = 1;
 
-pub const SMALL: u8 = 5;
+pub const PLAIN: u8 = 2;
 
-// The class of each byte: 0 illegal, 1 LF, 2 any other legal one outside the network profile, 3 space and the profile's signs, 4 a digit, 5 a
-// small letter, 6 a capital.
-const CLASS: [u8; 256] = [
+pub const NARROW: u8 = 4;
+
+pub const ALPHANUMERIC: u8 = 8;
+
+pub const LETTER: u8 = 16;
+
+pub const DIGIT: u8 = 32;
+
+pub const SMALL: u8 = 64;
+
+// The classes of each byte: 0 an illegal one, 1 LF, 3 any other legal one outside the network profile, 7 space and the profile's signs, 47 a
+// digit, 31 a capital, 95 a small letter.
+const CLASSES: [u8; 256] = [
     0, // 0
     0, // 1
     0, // 2
@@ -28,7 +39,7 @@ const CLASS: [u8; 256] = [
     1, // 10 LF
     0, // 11
     0, // 12
-    2, // 13 CR
+    3, // 13 CR
     0, // 14
     0, // 15
     0, // 16
@@ -47,100 +58,100 @@ const CLASS: [u8; 256] = [
     0, // 29
     0, // 30
     0, // 31
-    3, // 32 space
-    2, // 33 !
-    2, // 34 "
-    2, // 35 #
-    2, // 36 $
-    2, // 37 %
-    2, // 38 &
-    3, // 39 '
-    3, // 40 (
-    3, // 41 )
-    2, // 42 *
-    3, // 43 +
-    3, // 44 ,
-    3, // 45 -
-    3, // 46 .
-    3, // 47 /
-    4, // 48 0
-    4, // 49 1
-    4, // 50 2
-    4, // 51 3
-    4, // 52 4
-    4, // 53 5
-    4, // 54 6
-    4, // 55 7
-    4, // 56 8
-    4, // 57 9
-    3, // 58 :
-    2, // 59 ;
-    2, // 60 <
-    2, // 61 =
-    2, // 62 >
-    3, // 63 ?
-    2, // 64 @
-    6, // 65 A
-    6, // 66 B
-    6, // 67 C
-    6, // 68 D
-    6, // 69 E
-    6, // 70 F
-    6, // 71 G
-    6, // 72 H
-    6, // 73 I
-    6, // 74 J
-    6, // 75 K
-    6, // 76 L
-    6, // 77 M
-    6, // 78 N
-    6, // 79 O
-    6, // 80 P
-    6, // 81 Q
-    6, // 82 R
-    6, // 83 S
-    6, // 84 T
-    6, // 85 U
-    6, // 86 V
-    6, // 87 W
-    6, // 88 X
-    6, // 89 Y
-    6, // 90 Z
-    2, // 91 [
+    7, // 32 space
+    3, // 33 !
+    3, // 34 "
+    3, // 35 #
+    3, // 36 $
+    3, // 37 %
+    3, // 38 &
+    7, // 39 '
+    7, // 40 (
+    7, // 41 )
+    3, // 42 *
+    7, // 43 +
+    7, // 44 ,
+    7, // 45 -
+    7, // 46 .
+    7, // 47 /
+    47, // 48 0
+    47, // 49 1
+    47, // 50 2
+    47, // 51 3
+    47, // 52 4
+    47, // 53 5
+    47, // 54 6
+    47, // 55 7
+    47, // 56 8
+    47, // 57 9
+    7, // 58 :
+    3, // 59 ;
+    3, // 60 <
+    3, // 61 =
+    3, // 62 >
+    7, // 63 ?
+    3, // 64 @
+    31, // 65 A
+    31, // 66 B
+    31, // 67 C
+    31, // 68 D
+    31, // 69 E
+    31, // 70 F
+    31, // 71 G
+    31, // 72 H
+    31, // 73 I
+    31, // 74 J
+    31, // 75 K
+    31, // 76 L
+    31, // 77 M
+    31, // 78 N
+    31, // 79 O
+    31, // 80 P
+    31, // 81 Q
+    31, // 82 R
+    31, // 83 S
+    31, // 84 T
+    31, // 85 U
+    31, // 86 V
+    31, // 87 W
+    31, // 88 X
+    31, // 89 Y
+    31, // 90 Z
+    3, // 91 [
     0, // 92 \
-    2, // 93 ]
+    3, // 93 ]
     0, // 94 ^
-    2, // 95 _
+    3, // 95 _
     0, // 96 `
-    5, // 97 a
-    5, // 98 b
-    5, // 99 c
-    5, // 100 d
-    5, // 101 e
-    5, // 102 f
-    5, // 103 g
-    5, // 104 h
-    5, // 105 i
-    5, // 106 j
-    5, // 107 k
-    5, // 108 l
-    5, // 109 m
-    5, // 110 n
-    5, // 111 o
-    5, // 112 p
-    5, // 113 q
-    5, // 114 r
-    5, // 115 s
-    5, // 116 t
-    5, // 117 u
-    5, // 118 v
-    5, // 119 w
-    5, // 120 x
-    5, // 121 y
-    5, // 122 z
-    2, // 123 {
-    2, // 124 |
-    2, // 125 }
+    95, // 97 a
+    95, // 98 b
+    95, // 99 c
+    95, // 100 d
+    95, // 101 e
+    95, // 102 f
+    95, // 103 g
+    95, // 104 h
+    95, // 105 i
+    95, // 106 j
+    95, // 107 k
+    95, // 108 l
+    95, // 109 m
+    95, // 110 n
+    95, // 111 o
+    95, // 112 p
+    95, // 113 q
+    95, // 114 r
+    95, // 115 s
+    95, // 116 t
+    95, // 117 u
+    95, // 118 v
+    95, // 119 w
+    95, // 120 x
+    95, // 121 y
+    95, // 122 z
+    3, // 123 {
+    3, // 124 |
+    3, // 125 }
     0, // 126 ~
     0, // 127
     0, // 128
@@ -277,45 +288,45 @@ const CLASS: [u8; 256] = [
 pub fn class_table() -> [u8; 256]
     ensures { λ r. ⌜ r ≡ classTable ⌝ }
 {
-    CLASS
+    CLASSES
 }
 
-// The class of a byte.
-fn class(b: u8) -> u8
-    ensures { λ r. ⌜ r ≡ classOf b ⌝ }
+// Whether a byte is in all classes of a mask.
+fn is_in(b: u8, mask: u8) -> bool
+    ensures { λ r. ⌜ r ≡ inClasses mask b ⌝ }
 {
     let classes = class_table();
     let i = b as usize;
-    classes[i]
+    classes[i] & mask == mask
 }
 
 // Whether a byte is one of the 93 legal ones.
 pub fn is_legal(b: u8) -> bool
     ensures { λ r. ⌜ r ≡ legal b ⌝ }
 {
-    1 <= class(b)
+    is_in(b, LEGAL)
 }
 
 // Whether a byte is an ASCII digit.
 pub fn is_digit(b: u8) -> bool
     ensures { λ r. ⌜ r ≡ digit b ⌝ }
 {
-    class(b) == 4
+    is_in(b, DIGIT)
 }
 
-// Whether the entry of every byte in a table of classes is at least k.
-pub fn all_at_least(s: &[u8], classes: &[u8; 256], k: u8) -> bool
-    ensures { λ r. ⌜ r ≡ all (entryAtLeast (now (classes .entry)) k) (now (s .entry)) ⌝ }
+// Whether the entry of every byte in a table of classes has all bits of a mask. The bits that all have are gathered, and no byte ends the
+// loop.
+pub fn all_in(s: &[u8], classes: &[u8; 256], mask: u8) -> bool
+    ensures { λ r. ⌜ r ≡ all (entryIn (now (classes .entry)) mask) (now (s .entry)) ⌝ }
 {
+    let mut common = 255;
     let mut i = 0;
     while i < s.len() {
         let b = s[i] as usize;
-        if classes[b] < k {
-            return false;
-        }
+        common = common & classes[b];
         i += 1;
     }
-    true
+    common & mask == mask
 }
 
 // Whether every byte is a letter or a digit.
@@ -323,7 +334,7 @@ pub fn all_alphanumeric(s: &[u8]) -> bool
     ensures { λ r. ⌜ r ≡ all alphanumeric (now (s .entry)) ⌝ }
 {
     let classes = class_table();
-    all_at_least(s, &classes, 4)
+    all_in(s, &classes, ALPHANUMERIC)
 }
 
 // Legal bytes throughout, or 3 at the line that is handed in.
@@ -331,7 +342,7 @@ pub fn parse_swift_chars(input: &[u8], line: usize) -> Outcome
     ensures { λ r. ⌜ told r ≡ parseSwiftChars line (now (input .entry)) ⌝ }
 {
     let classes = class_table();
-    if all_at_least(input, &classes, 1) {
+    if all_in(input, &classes, LEGAL) {
         Outcome::Accepted
     } else {
         Outcome::Refused(ParseError::IllegalByte(line))
@@ -384,11 +395,11 @@ pub fn parse_bic(input: &[u8], line: usize) -> Outcome
     }
     let classes = class_table();
     let bank_and_country = &input[..6];
-    if !all_at_least(bank_and_country, &classes, 5) {
+    if !all_in(bank_and_country, &classes, LETTER) {
         return Outcome::Refused(ParseError::BicByte(line));
     }
     let location_and_branch = &input[6..];
-    if all_at_least(location_and_branch, &classes, 4) {
+    if all_in(location_and_branch, &classes, ALPHANUMERIC) {
         Outcome::Accepted
     } else {
         Outcome::Refused(ParseError::BicByte(line))

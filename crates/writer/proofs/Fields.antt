@@ -5,7 +5,7 @@ use mathlib.Core.Bool.{Bool, true, false}
 use mathlib.Core.List.{List, [], _∷_, _++_, map, append-assoc, append-nil}
 use native.Mathlib.Omega.{arith}
 use lib.Dec.{ltb, eqb}
-use lib.ListN.{length, take}
+use lib.ListN.{length, getD}
 use borrow.Author.Tests.{lt-ltb, eq-eqb, ne-eqb, eqb-true, eqb-false}
 use Rattle.party.specs.declared.PartyOption.{PartyOption}
 use Rattle.party.specs.declared.Party.{Party}
@@ -16,7 +16,8 @@ use Rattle.party.specs.Party.{said, where-limit}
 use Rattle.party.proofs.Options.{by-option}
 use Rattle.field_utils.specs.Tags.{capital, tagOf}
 use Rattle.writer.specs.Writing.{slashOf, headLines, nameLines, writtenLines, joined, writtenBody, writtenField}
-use Rattle.writer.specs.Code.{lead, led, hasHead, headOf, namesOn, restOn}
+use Rattle.flat.specs.Flat.{partyFrom}
+use Rattle.writer.specs.Code.{Lent, lead, led, hasHead, headOf, namesOn, restOn}
 
 -- ---- lines with LFs between them are lines with an LF before each but the first
 joined-cons : (l : List ℕ) (ls : List (List ℕ)) → joined (l ∷ ls) ≡ l ++ led true ls
@@ -75,6 +76,13 @@ field-parts p =
     ∙ ap (λ (r : List ℕ). r ++ led (after false head) (bic ++ names)) (h .bytes)
     ∙ ap (λ (b : Bool). headOf o (hasHead o (p .present)) (used (p .account)) ++ led b (bic ++ names)) (h .later))
 
+-- that of a lent record
+pub lent-parts :
+    (s : List ℕ) {o : PartyOption} {later : Bool} → Lent s o → later ≡ hasHead o (eqb (getD s 1 0) 1) →
+    writtenField (said (partyFrom s)) ≡ tagOf o ++ (headOf o later (used (partyFrom s .account)) ++ restOn later (partyFrom s))
+unfolding partyFrom
+lent-parts s lent e = rw (e, lent .is) (field-parts (partyFrom s))
+
 -- ---- what follows the account or identifier: an option has no BIC, or no names
 bic-alone : (o : PartyOption) → (limitsOf o .bic ≡ 0 → ⊥) → limitsOf o .names ≡ 0
 bic-alone =
@@ -92,7 +100,7 @@ rest-bic later p h =
     let names : said p .names ≡ [] = rw (bic-alone (p .option) h) in
     rw (bic, names) (append-nil (lead later ++ used (p .bic) .bytes))
 
--- ---- the tag, by the limits
+-- ---- the tag and the slash, by the limits
 module _ (o : PartyOption) {l : Limits} (e : l ≡ limitsOf o) where
   pub tag-plain : l .letter ≡ 0 → (58 ∷ (48 + l .field / 10) ∷ (48 + l .field % 10) ∷ 58 ∷ []) ≡ tagOf o
   unfolding tagOf
@@ -102,18 +110,19 @@ module _ (o : PartyOption) {l : Limits} (e : l ≡ limitsOf o) where
   unfolding tagOf
   tag-lettered h = rw (← e, ne-eqb (l .letter) 0 h, capital, ← e)
 
--- a tag has at most 5 bytes
-pub tag-most : (o : PartyOption) → length (tagOf o) ≤ 5
-tag-most o = go (eqb (limitsOf o .letter) 0) refl
-  where
-    go : (t : Bool) → eqb (limitsOf o .letter) 0 ≡ t → length (tagOf o) ≤ 5
-    go true e = omega (arith, ap length (tag-plain o refl (eqb-true _ _ e)))
-    go false e = omega (arith, ap length (tag-lettered o refl (eqb-false _ _ e)))
+  pub slash-here : l .slash ≡ true → slashOf o ≡ 47 ∷ []
+  slash-here h = let f : limitsOf o .slash ≡ true = sym (ap (λ (m : Limits). m .slash) e) ∙ h in rw (f, slashOf)
 
--- ---- the slash as a part of an array
-pub slash-part : (o : PartyOption) → take (length (slashOf o)) (47 ∷ []) ≡ slashOf o
-slash-part o = go (limitsOf o .slash)
+  pub slash-none : l .slash ≡ false → slashOf o ≡ []
+  slash-none h = let f : limitsOf o .slash ≡ false = sym (ap (λ (m : Limits). m .slash) e) ∙ h in rw (f, slashOf)
+
+-- a tag has 4 or 5 bytes
+pub tag-sizes : (o : PartyOption) → (4 ≤ length (tagOf o)) × (length (tagOf o) ≤ 5)
+tag-sizes o = go (eqb (limitsOf o .letter) 0) refl
   where
-    go : (t : Bool) → let slash = elim t as (λ x. List ℕ) [ true ↦ 47 ∷ [] | false ↦ [] ] in take (length slash) (47 ∷ []) ≡ slash
-    go true = refl
-    go false = refl
+    go : (t : Bool) → eqb (limitsOf o .letter) 0 ≡ t → (4 ≤ length (tagOf o)) × (length (tagOf o) ≤ 5)
+    go true e = let n = ap length (tag-plain o refl (eqb-true _ _ e)) in (omega arith, omega arith)
+    go false e = let n = ap length (tag-lettered o refl (eqb-false _ _ e)) in (omega arith, omega arith)
+
+pub tag-most : (o : PartyOption) → length (tagOf o) ≤ 5
+tag-most o = tag-sizes o .1

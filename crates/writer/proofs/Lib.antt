@@ -20,3 +20,4 @@ pub mod Back
 pub mod Sender
 pub mod Theorems
 pub mod Longest
+pub mod Capped

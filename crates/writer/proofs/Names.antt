@@ -13,15 +13,17 @@ use lib.Seq.{drop-cons, drop-drop, getD-drop, getD-take}
 use Rattle.party.specs.declared.PartyOption.{PartyOption}
 use Rattle.party.specs.declared.Text.{Text}
 use Rattle.party.specs.declared.Party.{Party}
+use Rattle.party.specs.declared.Limits.{Limits}
 use Rattle.party.specs.Limits.{limitsOf}
 use Rattle.party.specs.Text.{Used, used}
-use Rattle.party.specs.Party.{said, IsParty, namesOf, where-numbered}
+use Rattle.party.specs.Party.{said, namesOf, where-numbered}
 use Rattle.party.specs.declared.Numbering.{Numbering}
 use Rattle.party.specs.declared.Numbering.the-variants.{Unnumbered, Numbered, InTurn}
 use Rattle.party.proofs.Laws.{map-take, take-min}
 use Rattle.field_utils.specs.Names.{keptFrom}
 use Rattle.writer.specs.Writing.{numberOf, nameLines}
-use Rattle.writer.specs.Code.{lead, led, nameCount, isName, allNames}
+use Rattle.flat.specs.Flat.{partyFrom}
+use Rattle.writer.specs.Code.{Lent, lead, led, nameCount, isName, allNames}
 
 -- the text that stands for one past the end
 abbrev pub none : Text
@@ -41,12 +43,6 @@ pub marks-most : (f : Numbering) → keptFrom f ≤ 2
 marks-most Unnumbered = omega arith
 marks-most Numbered = omega arith
 marks-most InTurn = omega arith
-
--- a name's number as a part of an array
-pub number-part : (f : Numbering) (d : ℕ) → take (keptFrom f) (d ∷ 47 ∷ []) ≡ numberOf f d
-number-part Unnumbered d = refl
-number-part Numbered d = refl
-number-part InTurn d = refl
 
 -- the lines of names have as many digits as there are names, and none where the option has none beside its texts
 number-used : (f : Numbering) (n : ℕ) (ds : List ℕ) (i : ℕ) → i < n → numberOf f (getD (where-numbered f (take n ds)) i 0) ≡ numberOf f (getD ds i 0)
@@ -89,9 +85,9 @@ digit-here ds i = getD-drop i ds 0 0 ∙ ap (λ (k : ℕ). getD ds k 0) (add-zer
 digits-next : (ds : List ℕ) (i : ℕ) → drop 1 (drop i ds) ≡ drop (suc i) ds
 digits-next ds i = drop-drop 1 i ds ∙ ap (λ (k : ℕ). drop k ds) (add-one i)
 
-module _ (p : Party) (sizes : IsParty p) where
+module _ (p : Party) (four : length (p .«name_and_address») ≡ 4) where
   names-size : length (map used (p .«name_and_address»)) ≡ 4
-  names-size = length-map (p .«name_and_address») used ∙ sizes .size
+  names-size = length-map (p .«name_and_address») used ∙ four
 
   said-first : said p .names ≡ namesIn (nameCount (p .option) (p .count)) p
   unfolding said
@@ -161,3 +157,12 @@ module _ (p : Party) (sizes : IsParty p) where
     pub all-end : (f : Numbering) (longest i : ℕ) → n ≤ i → allNames f longest (suc i) (drop i (p .digits)) (drop i (namesIn n p)) ≡ true
     unfolding allNames
     all-end f longest i h = rw (names-end i h)
+
+-- ---- those of a lent record
+module _ (s : List ℕ) {o : PartyOption} (lent : Lent s o) where
+  pub lent-limits : {l : Limits} → l ≡ limitsOf o → l ≡ limitsOf (partyFrom s .option)
+  lent-limits e = e ∙ ap limitsOf (lent .is)
+
+  pub lent-count : {n : ℕ} → n ≡ nameCount o (getD s 2 0) → n ≡ nameCount (partyFrom s .option) (partyFrom s .count)
+  unfolding partyFrom
+  lent-count e = e ∙ ap (λ (q : PartyOption). nameCount q (getD s 2 0)) (lent .is)

@@ -9,9 +9,11 @@ use lib.ListN.{length, drop}
 use lib.Seq.{take-length}
 use borrow.Author.Tests.{le-leb, lt-leb}
 use Rattle.errors.specs.Refusals.{must}
-use Rattle.party.specs.Party.{Said}
-use Rattle.writer.specs.Writing.{writtenField, fieldMost, put}
-use Rattle.writer.specs.Given.{isGiven}
+use Rattle.party.specs.Text.{padded, textOf}
+use Rattle.party.specs.Party.{blank, Said, said}
+use Rattle.field_utils.specs.Names.{parseLines, parseNameAndAddress}
+use Rattle.writer.specs.Writing.{nameLines, writtenField, fieldMost, put}
+use Rattle.writer.specs.Given.{areNames, isGiven}
 use Rattle.writer.specs.Placing.{Measured, lengthIs, refusedWith, Placing, measuring, measure, place, Space, Pair}
 
 length≢refusal : {n k l : ℕ} → lengthIs n ≡ refusedWith k l → ⊥
@@ -20,6 +22,11 @@ length≢refusal e = let z : _≡_ {A = ℕ} 0 1 = cc in omega arith
 -- a text put at the start
 pub put-start : (buffer text : List ℕ) → put buffer 0 text ≡ text ++ drop (length text) buffer
 put-start buffer text = rw (take-length text, zero-add (length text))
+
+-- the blank record is not given
+pub blank-not : isGiven (said blank) ≡ false
+unfolding textOf padded said isGiven areNames nameLines parseNameAndAddress parseLines
+blank-not = refl
 
 module _ (s : Said) where
   abbrev field : List ℕ

@@ -8,7 +8,8 @@ use mathlib.Core.List.{List, [], _∷_, _++_, append-assoc, append-nil}
 use mathlib.Core.Bool.{true, false}
 use borrow.Author.Tests.{le-leb, lt-leb}
 use lib.ListN.{length, take, drop, set, length-append}
-use lib.Seq.{set-split, append-snoc, take-length, take-paste, drop-paste, drop-drop, length-paste, paste-zero}
+use lib.Seq.{paste, set-split, append-snoc, take-length, take-paste, drop-paste, drop-drop, length-paste, paste-zero}
+use Rattle.flat.proofs.Stores.{stores, stores-paste}
 use Rattle.writer.specs.Writing.{put, fits, placed}
 use Rattle.writer.specs.Code.{Puts}
 
@@ -31,15 +32,19 @@ module _ (d : List ℕ) (at : ℕ) (s : List ℕ) (h : at + length s ≤ length 
   put-drop = drop-paste d at s (length s) (omega arith) (le-refl (length s))
 
 -- nothing is put
-pub put-nil : (d : List ℕ) (at : ℕ) → put d at [] ≡ d
-put-nil d at = sym (paste-zero d at [])
-
 pub puts-none : (d : List ℕ) (at : ℕ) → Puts d at [] d at
 puts-none d at = record { bytes = paste-zero d at []; ends = omega arith }
 
 -- a byte is stored
 pub puts-byte : (d : List ℕ) (at b : ℕ) → at < length d → Puts d at (b ∷ []) (set d at b) (at + 1)
 puts-byte d at b h = record { bytes = set-split d at b h ∙ rw (add-one at) (sym (append-snoc (take at d) b (drop (suc at) d))); ends = refl }
+
+-- a text stored byte by byte
+pub puts-stores : (d : List ℕ) (at : ℕ) (s : List ℕ) (k : ℕ) → length s ≡ suc k → at + suc k ≤ length d → Puts d at s (stores d at s 0 k) (at + suc k)
+puts-stores d at s k e h = record {
+  bytes = stores-paste d at s 0 k (omega arith) (omega arith) ∙ ap (paste d at s) (sym e);
+  ends = ap (_+_ at) (sym e);
+}
 
 pub same-length : {d e s : List ℕ} {at m : ℕ} → Puts d at s e m → at + length s ≤ length d → length e ≡ length d
 same-length {d} {e} {s} {at} p room = ap length (p .bytes) ∙ put-length d at s room
@@ -99,8 +104,5 @@ module _ {d whole e : List ℕ} {at m : ℕ} (s t : List ℕ) (w : Partway d at 
 
 -- a text that fits is placed, and one that does not is not
 module _ (d : List ℕ) (at : ℕ) (text : List ℕ) where
-  pub placed-not : length d < at + length text → (false ≡ fits d at text) × (d ≡ placed d at text)
-  placed-not h = let e = lt-leb (at + length text) (length d) h in (sym e, rw (e, placed))
-
-  pub placed-here : {e : List ℕ} → at + length text ≤ length d → e ≡ put d at text → (true ≡ fits d at text) × (e ≡ placed d at text)
-  placed-here h k = let e = le-leb (at + length text) (length d) h in (sym e, rw (e, placed) k)
+  pub placed-fits : at + length text ≤ length d → placed d at text ≡ put d at text
+  placed-fits h = rw (le-leb (at + length text) (length d) h, placed)

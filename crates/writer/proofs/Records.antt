@@ -4,16 +4,16 @@ use mathlib.Core.Path.{_≡_, refl, sym, _∙_, ap}
 use mathlib.Core.Bool.{Bool, true, false, not, _&&_, and-true, and-false, and-assoc, and-comm}
 use mathlib.Core.List.{List, [], _∷_, _++_}
 use native.Mathlib.Omega.{arith}
-use lib.Dec.{leb, eqb}
+use lib.Dec.{leb, ltb, eqb}
 use lib.ListN.{length, take, drop, getD}
-use borrow.Author.Tests.{lt-ltb, le-leb, lt-leb, eq-eqb, ne-eqb}
+use borrow.Author.Tests.{lt-ltb, le-leb, lt-leb, eq-eqb, ne-eqb, eqb-true, eqb-false}
 use Rattle.errors.specs.Refusals.{Reply, accepted, refused, must, _then_}
 use Rattle.party.specs.declared.PartyOption.{PartyOption}
 use Rattle.party.specs.declared.Text.{Text}
 use Rattle.party.specs.declared.Party.{Party}
 use Rattle.party.specs.Limits.{limitsOf}
 use Rattle.party.specs.Text.{Used, used}
-use Rattle.party.specs.Party.{said, where-limit}
+use Rattle.party.specs.Party.{said, where-limit, namesOf}
 use Rattle.party.specs.declared.Numbering.{Numbering}
 use Rattle.party.specs.declared.Numbering.the-variants.{Unnumbered, Numbered, InTurn}
 use Rattle.party.specs.declared.First.the-variants.{Account, ShortAccount, AnyAccount}
@@ -25,9 +25,10 @@ use Rattle.field_utils.specs.Names.{skipOf, parseNumber, parseLine, parseLines,
 use Rattle.field_utils.proofs.NameLines.{and-first, number-room, number-legal}
 use Rattle.reader.specs.Options.{accountReply, lengthReply, ascii}
 use Rattle.writer.specs.Writing.{numberOf, nameLines}
-use Rattle.writer.specs.Given.{passes, every, isLine, textReply, isAccount, isPresence, isBic, areNames, isTaken, isGiven}
-use Rattle.writer.specs.Code.{lineReply, numberIn, isName, allNames, slashName}
+use Rattle.writer.specs.Given.{passes, every, isLine, textReply, isPresence, isBic, areNames, isTaken, isGiven}
+use Rattle.writer.specs.Code.{lineReply, numberIn, isName, allNames, headTest, namesPass, countTest, textsTest, slashName}
 use Rattle.writer.proofs.Texts.{all-plain}
+use Rattle.writer.proofs.Names.{said-names, said-lines}
 use Rattle.writer.proofs.NamePasses.{passed, written-length}
 
 pub passes-then : (r s : Reply) → passes (r then s) ≡ (passes r && passes s)
@@ -188,20 +189,89 @@ pub taken-short : (us : List Used) → isTaken ShortAccount us ≡ slashName us
 taken-short [] = refl
 taken-short (u ∷ us) = refl
 
+no-more : (f : Numbering) (longest k : ℕ) (ds : List ℕ) {us : List Used} → us ≡ [] → allNames f longest k ds us ≡ true
+unfolding allNames
+no-more f longest k ds e = rw e
+
 -- ---- the record
-module _ (p : Party) where
-  abbrev pub accountTest : Bool
-  accountTest = every (isAccount (p .option) (p .present)) (where-limit (limitsOf (p .option) .longest) (used (p .account) ∷ []))
+no-count : (p : Party) → p .count ≡ 0 → said p .names ≡ []
+unfolding said
+no-count p e = go (ltb 0 (limitsOf (p .option) .names))
+  where
+    go : (t : Bool) → _≡_ {A = List Used} (elim t as (λ x. List Used) [ true ↦ namesOf (p .count) p | false ↦ [] ]) []
+    go true = rw e
+    go false = refl
 
+pub none-pass : (p : Party) → p .count ≡ 0 → true ≡ namesPass p
+none-pass p e = sym (no-more (limitsOf (p .option) .numbering) (limitsOf (p .option) .name) 1 (p .digits) (no-count p e))
+
+abbrev pub namesTest : Party → Bool
+namesTest p = areNames (p .option) (p .count) (said p .digits) (said p .names)
+
+-- the test of names is that of their count and that of each
+module _ (p : Party) (four : length (p .«name_and_address») ≡ 4) where
+  abbrev o : PartyOption
+  o = p .option
+
+  abbrev us : List Used
+  us = said p .names
+
+  by-digits : namesTest p ≡ areNames o (p .count) (p .digits) us
+  by-digits =
+      names-alike o (p .count) (said p .digits) (p .digits) us
+      (said-lines p four refl ∙ ap (nameLines (limitsOf o .numbering) (p .digits)) (sym (said-names p four refl)))
+
+  no-names : limitsOf o .names ≡ 0 → us ≡ []
+  unfolding said
+  no-names z = rw z
+
+  names-parts : namesTest p ≡ (countTest p && namesPass p)
+  names-parts = go (eqb (length us) (p .count)) refl
+    where
+      passed : (e : length us ≡ p .count) (t : Bool) → eqb (limitsOf o .names) 0 ≡ t →
+          namesTest p ≡ (elim t as (λ x. Bool) [ true ↦ true | false ↦ passes (parseCount (limitsOf o .names) (length us)) ] && namesPass p)
+      passed e true z =
+          let none = no-names (eqb-true _ _ z) in
+          names-unused o (p .count) (said p .digits) us e (eqb-true _ _ z) none ∙ sym (no-more (limitsOf o .numbering) (limitsOf o .name) 1 (p .digits) none)
+      passed e false z =
+          by-digits ∙ names-used o (p .count) (p .digits) us e (eqb-false _ _ z) ∙ and-comm (namesPass p) (passes (parseCount (limitsOf o .names) (length us)))
+
+      go : (t : Bool) → eqb (length us) (p .count) ≡ t → namesTest p ≡ (countTest p && namesPass p)
+      go true e = passed (eqb-true _ _ e) (eqb (limitsOf o .names) 0) refl ∙ rw (e, countTest)
+      go false e = names-other o (p .count) (said p .digits) us (eqb-false _ _ e) ∙ rw (e, countTest)
+
+-- the tests in the order of the code
+in-order : (a b c k f x : Bool) → (a && b && c && (k && f) && x) ≡ (a && c && k && (b && x && f))
+in-order false b c k f x = refl
+in-order true false false k f x = refl
+in-order true false true false f x = refl
+in-order true false true true f x = refl
+in-order true true false k f x = refl
+in-order true true true false f x = refl
+in-order true true true true f x = and-comm f x
+
+module _ (o : PartyOption) (p : Party) where
   abbrev pub bicTest : Bool
-  bicTest = every isBic (where-limit (limitsOf (p .option) .bic) (used (p .bic) ∷ []))
+  bicTest = every isBic (where-limit (limitsOf o .bic) (used (p .bic) ∷ []))
 
-  abbrev pub namesTest : Bool
-  namesTest = areNames (p .option) (p .count) (said p .digits) (said p .names)
-
-  -- by what its parts' tests say
+  -- the record's test by its parts
   pub given-by :
-      {a b c d e : Bool} → isPresence (p .option) (p .present) ≡ a → accountTest ≡ b → bicTest ≡ c → namesTest ≡ d → p .present ≡ e →
-      (a && b && c && d && not (not e && isTaken (limitsOf (p .option) .first) (said p .names))) ≡ isGiven (said p)
+      {a b c d e : Bool} → o ≡ p .option → isPresence o (p .present) ≡ a → headTest o (p .present) p ≡ b → bicTest ≡ c → namesTest p ≡ d → p .present ≡ e →
+      (a && b && c && d && not (not e && isTaken (limitsOf o .first) (said p .names))) ≡ isGiven (said p)
   unfolding isGiven said
-  given-by f g h i j = rw (← f, ← g, ← h, ← i, ← j)
+  given-by is f g h i j = rw (← f, ← g, ← h, ← i, ← j, is)
+
+  -- as the code has it, by what the first of them say
+  pub given-in-order :
+      {a c k e : Bool} → length (p .«name_and_address») ≡ 4 → o ≡ p .option → isPresence o (p .present) ≡ a → bicTest ≡ c → countTest p ≡ k → p .present ≡ e →
+      (a && c && k && textsTest o e p) ≡ isGiven (said p)
+  given-in-order {a} {c} {k} {e} four is f h i j =
+      by e j ∙ given-by is f (ap (λ (b : Bool). headTest o b p) j) h (names-parts p four ∙ ap (λ (b : Bool). b && namesPass p) i) j
+    where
+      by : (e : Bool) → p .present ≡ e → (a && c && k && textsTest o e p) ≡ (a && headTest o e p && c && (k && namesPass p) && not (not e && isTaken (limitsOf o .first) (said p .names)))
+      by true j = ap (λ (b : Bool). a && c && k && (b && namesPass p)) (sym (and-true (headTest o true p))) ∙ sym (in-order a (headTest o true p) c k (namesPass p) true)
+      by false j = sym (in-order a (headTest o false p) c k (namesPass p) (not (isTaken (limitsOf o .first) (said p .names))))
+
+  -- the test of texts where there is no account or identifier
+  pub bare-by : {a b : Bool} → headTest o false p ≡ a → isTaken (limitsOf o .first) (said p .names) ≡ b → (a && not b && namesPass p) ≡ textsTest o false p
+  bare-by f g = rw (← f, ← g)

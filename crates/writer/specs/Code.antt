@@ -3,20 +3,32 @@ use Prim.Native.Nat.{ℕ, suc, _+_, _-_, _≤_, min}
 use mathlib.Core.Path.{_≡_}
 use mathlib.Core.Bool.{Bool, true, false, not, _&&_}
 use mathlib.Core.List.{List, [], _∷_, _++_, map}
-use lib.Dec.{ltb}
+use lib.Dec.{ltb, eqb}
 use lib.ListN.{length, getD, drop}
 use Rattle.errors.specs.Refusals.{Reply}
 use Rattle.party.specs.declared.PartyOption.{PartyOption}
+use Rattle.party.specs.declared.Text.{Text}
 use Rattle.party.specs.declared.Party.{Party}
 use Rattle.party.specs.Limits.{limitsOf}
-use Rattle.party.specs.Text.{Used}
-use Rattle.party.specs.Party.{said}
+use Rattle.party.specs.Text.{textMost, Used, used}
+use Rattle.party.specs.Party.{where-limit, said}
 use Rattle.party.specs.declared.Numbering.{Numbering}
 use Rattle.swift_utils.specs.Bytes.{among}
 use Rattle.field_utils.specs.Lines.{starts}
-use Rattle.field_utils.specs.Names.{skipOf, keptFrom, parseLine}
+use Rattle.field_utils.specs.Names.{skipOf, keptFrom, parseLine, parseCount}
+use Rattle.flat.specs.Flat.{recordSize, partyFrom}
 use Rattle.writer.specs.Writing.{slashOf, numberOf, nameLines, put}
-use Rattle.writer.specs.Given.{passes, isLine}
+use Rattle.writer.specs.Given.{passes, every, isLine, isAccount, isTaken}
+
+-- bytes that are enough for a lent record, and its option
+pub record Lent (s : List ℕ) (option : PartyOption) : Type 0 where
+  pub size : recordSize ≤ length s
+  pub is : option ≡ partyFrom s .option
+
+-- the bytes that a text uses, which are at most 38
+pub record Uses (t : Text) (text : List ℕ) : Type 0 where
+  pub is : text ≡ used t .bytes
+  pub most : length text ≤ textMost
 
 -- the length of a text, which is at most a bound
 pub record Counted (bound : ℕ) (text : List ℕ) (n : ℕ) : Type 0 where
@@ -75,6 +87,25 @@ isName f longest k digit u = isLine u && passes (parseLine f longest k k (number
 unfoldable pub allNames : Numbering → ℕ → ℕ → List ℕ → List Used → Bool
 allNames f longest k digits [] = true
 allNames f longest k digits (u ∷ us) = isName f longest k (getD digits 0 0) u && allNames f longest (suc k) (drop 1 digits) us
+
+-- whether a record's names pass as those of its option
+abbrev pub namesPass : Party → Bool
+namesPass p = allNames (limitsOf (p .option) .numbering) (limitsOf (p .option) .name) 1 (p .digits) (said p .names)
+
+-- whether they are as many as the count says, and as many as the option may have
+abbrev pub countTest : Party → Bool
+countTest p =
+    let n = length (said p .names) in
+    eqb n (p .count) && elim (eqb (limitsOf (p .option) .names) 0) [ true ↦ true | false ↦ passes (parseCount (limitsOf (p .option) .names) n) ]
+
+-- whether an account or identifier, that is there or not, passes as the option's, where it has one
+abbrev pub headTest : PartyOption → Bool → Party → Bool
+headTest o present p = every (isAccount o present) (where-limit (limitsOf o .longest) (used (p .account) ∷ []))
+
+-- and the names pass with it
+abbrev pub textsTest : PartyOption → Bool → Party → Bool
+textsTest o true p = headTest o true p && namesPass p
+textsTest o false p = headTest o false p && not (isTaken (limitsOf o .first) (said p .names)) && namesPass p
 
 -- whether there is a first name, and it starts with `/`
 abbrev pub slashName : List Used → Bool

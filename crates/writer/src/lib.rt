@@ -9,23 +9,33 @@ use field_utils::parse_count;
 use field_utils::parse_remaining;
 use field_utils::skip_of;
 use field_utils::starts_with_slash;
+use flat::DIGITS_AT;
+use flat::RECORD_SIZE;
+use flat::TEXT_SIZE;
+use flat::copies::copy;
+use flat::is_flat;
+use flat::store;
 use party::First;
 use party::Numbering;
 use party::Party;
 use party::PartyOption;
 use party::TEXT_MOST;
-use party::Text;
 use party::limits_of;
+use party::option_at;
 use reader::account_length;
 use reader::is_ascii;
-use swift_utils::all_at_least;
+use swift_utils::DIGIT;
+use swift_utils::PLAIN;
+use swift_utils::all_in;
 use swift_utils::class_table;
 use swift_utils::parse_bic;
 ghost use mathlib.Core.Path.{_≡_};
-ghost use mathlib.Core.Bool.{not};
+ghost use mathlib.Core.Bool.{true, false, not};
 ghost use mathlib.Core.List.{[], _∷_, _++_};
-ghost use Prim.Native.Nat.{_+_, _≤_};
-ghost use lib.ListN.{length};
+ghost use Prim.Native.Nat.{_+_, _≤_, _<_};
+ghost use lib.Dec.{leb};
+ghost use lib.ListN.{length, getD, drop};
+ghost use lib.Seq.{paste};
 ghost use Rattle.errors.specs.Refusals.{told};
 ghost use Rattle.party.specs.Limits.{limitsOf};
 ghost use Rattle.party.specs.Text.{textMost, used};
@@ -36,10 +46,11 @@ ghost use Rattle.swift_utils.specs.Classes.{classTable};
 ghost use Rattle.field_utils.specs.Names.{parseNumber};
 ghost use Rattle.field_utils.specs.Tags.{tagOf};
 ghost use Rattle.reader.specs.Options.{accountReply};
+ghost use Rattle.flat.specs.Flat.{digitsAt, recordSize, textAt, partyFrom, unflatten};
 ghost use Rattle.writer.specs.Writing.{slashOf, numberOf, writtenField, fits, placed};
-ghost use Rattle.writer.specs.Given.{passes, every, textReply, isAccount, isPresence, isBic, areNames, isTaken, isGiven};
+ghost use Rattle.writer.specs.Given.{passes, every, textReply, isAccount, isPresence, isBic, isTaken, isGiven};
 ghost use Rattle.writer.specs.Placing.{measure as measureOf, place as placeIn, toldMeasured, toldPlacing};
-ghost use Rattle.writer.specs.Code.{Counted, Puts, lead, hasHead, headOf, nameCount, namesOn, restOn, lineReply, numberIn, isName, allNames, slashName};
+ghost use Rattle.writer.specs.Code.{Lent, Uses, Counted, Puts, lead, hasHead, headOf, nameCount, namesOn, restOn, lineReply, numberIn, isName, headTest, namesPass, countTest, textsTest, slashName};
 
 // The most bytes of a written field.
 pub const FIELD_MOST: usize = 187;
@@ -50,12 +61,29 @@ pub enum Measured {
     Refused(ParseError),
 }
 
-// How many bytes a text uses: its length, or all 38 where that passes them.
-fn used_length(t: Text) -> usize
-    ensures { λ r. ⌜ Counted textMost (used t .bytes) r ⌝ }
+// Whether a text of a lent record, by its number among the six, is no longer than the 38 bytes that it has.
+fn is_whole(record: &[u8], n: usize) -> bool
+    requires { ⌜ (recordSize ≤ length (now «record»)) × (n < 6) ⌝ }
+    ensures { λ r. ⌜ r ≡ leb (textAt n (now («record» .entry)) .len) textMost ⌝ }
 {
-    let n = t.len;
-    if n < TEXT_MOST { n } else { TEXT_MOST }
+    let at = 3 + TEXT_SIZE * n;
+    record[at] as usize <= TEXT_MOST
+}
+
+// The bytes that it uses: as many as its length says, or all 38 where that passes them.
+fn used_text(record: &[u8], n: usize) -> &[u8]
+    requires { ⌜ (recordSize ≤ length (now «record»)) × (n < 6) ⌝ }
+    ensures { λ r. ⌜ Uses (textAt n (now («record» .entry))) (now r) ⌝ }
+{
+    let at = 3 + TEXT_SIZE * n;
+    let len = record[at] as usize;
+    let from = at + 1;
+    if TEXT_MOST < len {
+        let all = from + TEXT_MOST;
+        return &record[from..all];
+    }
+    let end = from + len;
+    &record[from..end]
 }
 
 // How many names are used: as many as the count says, at most four, and none where the option has none.
@@ -104,21 +132,23 @@ pub fn tag_length(option: PartyOption) -> usize
 }
 
 // The length of an account or identifier, where it is written.
-fn head_length(option: PartyOption, written: bool, account: Text) -> usize
-    ensures { λ r. ⌜ Counted 39 (headOf option written (used account)) r ⌝ }
+fn head_length(record: &[u8], option: PartyOption, written: bool) -> usize
+    requires { ⌜ recordSize ≤ length (now «record») ⌝ }
+    ensures { λ r. ⌜ Counted 39 (headOf option written (used (partyFrom (now («record» .entry)) .account))) r ⌝ }
 {
     if !written {
         return 0;
     }
-    slash_count(option) + used_length(account)
+    let text = used_text(record, 0);
+    slash_count(option) + text.len()
 }
 
 // The length of the names.
-fn names_length(p: Party, later: bool) -> usize
-    ensures { λ r. ⌜ Counted 164 (namesOn later p) r ⌝ }
+fn names_length(record: &[u8], option: PartyOption, later: bool) -> usize
+    requires { ⌜ Lent (now «record») option ⌝ }
+    ensures { λ r. ⌜ Counted 164 (namesOn later (partyFrom (now («record» .entry)))) r ⌝ }
 {
-    let option = p.option;
-    let n = name_count(option, p.count);
+    let n = name_count(option, record[2] as usize);
     let limits = limits_of(option);
     let numbering = limits.numbering;
     let mark = kept_from(numbering);
@@ -126,8 +156,8 @@ fn names_length(p: Party, later: bool) -> usize
     let mut total = 0;
     let mut i = 0;
     while i < n {
-        let t = p.name_and_address[i];
-        total += lf_count(after) + mark + used_length(t);
+        let text = used_text(record, 2 + i);
+        total += lf_count(after) + mark + text.len();
         after = true;
         i += 1;
     }
@@ -135,26 +165,25 @@ fn names_length(p: Party, later: bool) -> usize
 }
 
 // The length of the BIC, or of the names.
-fn rest_length(p: Party, later: bool) -> usize
-    ensures { λ r. ⌜ Counted 164 (restOn later p) r ⌝ }
+fn rest_length(record: &[u8], option: PartyOption, later: bool) -> usize
+    requires { ⌜ Lent (now «record») option ⌝ }
+    ensures { λ r. ⌜ Counted 164 (restOn later (partyFrom (now («record» .entry)))) r ⌝ }
 {
-    let option = p.option;
     let limits = limits_of(option);
     if limits.bic == 0 {
-        return names_length(p, later);
+        return names_length(record, option, later);
     }
-    let bic = p.bic;
-    lf_count(later) + used_length(bic)
+    let text = used_text(record, 1);
+    lf_count(later) + text.len()
 }
 
 // The length of the written field.
-fn written_length(p: Party) -> usize
-    ensures { λ r. ⌜ r ≡ length (writtenField (said p)) ⌝ }
+fn written_length(record: &[u8], option: PartyOption) -> usize
+    requires { ⌜ Lent (now «record») option ⌝ }
+    ensures { λ r. ⌜ r ≡ length (writtenField (said (partyFrom (now («record» .entry))))) ⌝ }
 {
-    let option = p.option;
-    let account = p.account;
-    let later = has_head(option, p.present);
-    tag_length(option) + head_length(option, later, account) + rest_length(p, later)
+    let later = has_head(option, record[1] == 1);
+    tag_length(option) + head_length(record, option, later) + rest_length(record, option, later)
 }
 
 // Puts a slice into the buffer at a place, and gives the place after it, as each function with `Puts` in its contract does.
@@ -162,12 +191,8 @@ fn put_bytes(buf: &mut [u8], at: usize, s: &[u8]) -> usize
     requires { ⌜ at + length (now s) ≤ length (now buf) ⌝ }
     ensures { λ r. ⌜ Puts (now (buf .entry)) at (now (s .entry)) (now (buf .exit)) r ⌝ }
 {
-    let mut i = 0;
-    while i < s.len() {
-        buf[at + i] = s[i];
-        i += 1;
-    }
-    at + i
+    copy(s, buf, at);
+    at + s.len()
 }
 
 // Puts a text at a place, if it fits; if not, no byte changes.
@@ -175,14 +200,7 @@ pub fn put_text(text: &[u8], buf: &mut [u8], at: usize) -> bool
     ensures { λ r. ⌜ r ≡ fits (now (buf .entry)) at (now (text .entry)) ⌝ }
     ensures { λ _. ⌜ now (buf .exit) ≡ placed (now (buf .entry)) at (now (text .entry)) ⌝ }
 {
-    if buf.len() < at {
-        return false;
-    }
-    if buf.len() - at < text.len() {
-        return false;
-    }
-    put_bytes(buf, at, text);
-    true
+    copy(text, buf, at)
 }
 
 // Puts an LF, where it is asked for.
@@ -197,16 +215,37 @@ fn put_lf(buf: &mut [u8], at: usize, later: bool) -> usize
     at
 }
 
-// Puts a line: an LF unless it is the first line, a mark, and a text.
-fn put_line(buf: &mut [u8], at: usize, later: bool, mark: &[u8], t: Text) -> usize
-    requires { ⌜ at + length (lead later ++ (now mark ++ used t .bytes)) ≤ length (now buf) ⌝ }
-    ensures { λ r. ⌜ Puts (now (buf .entry)) at (lead later ++ (now (mark .entry) ++ used t .bytes)) (now (buf .exit)) r ⌝ }
+// Puts a name's number, where the option writes it before the name.
+fn put_number(buf: &mut [u8], at: usize, numbering: Numbering, digit: u8) -> usize
+    requires { ⌜ at + length (numberOf numbering digit) ≤ length (now buf) ⌝ }
+    ensures { λ r. ⌜ Puts (now (buf .entry)) at (numberOf numbering digit) (now (buf .exit)) r ⌝ }
+{
+    match numbering {
+        Numbering::Unnumbered => at,
+        Numbering::Numbered => {
+            buf[at] = digit;
+            buf[at + 1] = b'/';
+            at + 2
+        }
+        Numbering::InTurn => at,
+    }
+}
+
+// Puts a line: an LF unless it is the first line, a number, and a text.
+fn put_line(
+    buf: &mut [u8],
+    at: usize,
+    later: bool,
+    numbering: Numbering,
+    digit: u8,
+    text: &[u8],
+) -> usize
+    requires { ⌜ at + length (lead later ++ (numberOf numbering digit ++ now text)) ≤ length (now buf) ⌝ }
+    ensures { λ r. ⌜ Puts (now (buf .entry)) at (lead later ++ (numberOf numbering digit ++ now (text .entry))) (now (buf .exit)) r ⌝ }
 {
     let start = put_lf(buf, at, later);
-    let text = put_bytes(buf, start, mark);
-    let n = used_length(t);
-    let bytes = t.bytes;
-    put_bytes(buf, text, &bytes[..n])
+    let from = put_number(buf, start, numbering, digit);
+    put_bytes(buf, from, text)
 }
 
 // Puts the option's tag.
@@ -215,47 +254,61 @@ fn put_tag(buf: &mut [u8], at: usize, option: PartyOption) -> usize
     ensures { λ r. ⌜ Puts (now (buf .entry)) at (tagOf option) (now (buf .exit)) r ⌝ }
 {
     let limits = limits_of(option);
-    let tens = b'0' + limits.field / 10;
-    let ones = b'0' + limits.field % 10;
     let letter = limits.letter;
+    buf[at] = b':';
+    buf[at + 1] = b'0' + limits.field / 10;
+    buf[at + 2] = b'0' + limits.field % 10;
     if letter == 0 {
-        let tag = [b':', tens, ones, b':'];
-        return put_bytes(buf, at, &tag);
+        buf[at + 3] = b':';
+        return at + 4;
     }
-    let tag = [b':', tens, ones, letter, b':'];
-    put_bytes(buf, at, &tag)
+    buf[at + 3] = letter;
+    buf[at + 4] = b':';
+    at + 5
+}
+
+// Puts the slash before an account or identifier, where the option has it.
+fn put_slash(buf: &mut [u8], at: usize, option: PartyOption) -> usize
+    requires { ⌜ at + length (slashOf option) ≤ length (now buf) ⌝ }
+    ensures { λ r. ⌜ Puts (now (buf .entry)) at (slashOf option) (now (buf .exit)) r ⌝ }
+{
+    let limits = limits_of(option);
+    if limits.slash {
+        buf[at] = b'/';
+        return at + 1;
+    }
+    at
 }
 
 // Puts an account or identifier, where it is written.
-fn put_head(buf: &mut [u8], at: usize, option: PartyOption, written: bool, account: Text) -> usize
-    requires { ⌜ at + length (headOf option written (used account)) ≤ length (now buf) ⌝ }
-    ensures { λ r. ⌜ Puts (now (buf .entry)) at (headOf option written (used account)) (now (buf .exit)) r ⌝ }
+fn put_head(buf: &mut [u8], at: usize, record: &[u8], option: PartyOption, written: bool) -> usize
+    requires { ⌜ recordSize ≤ length (now «record») ⌝ }
+    requires { ⌜ at + length (headOf option written (used (partyFrom (now «record») .account))) ≤ length (now buf) ⌝ }
+    ensures { λ r. ⌜ Puts (now (buf .entry)) at (headOf option written (used (partyFrom (now («record» .entry)) .account))) (now (buf .exit)) r ⌝ }
 {
     if !written {
         return at;
     }
-    let slash = [b'/'];
-    let n = slash_count(option);
-    put_line(buf, at, false, &slash[..n], account)
+    let from = put_slash(buf, at, option);
+    put_bytes(buf, from, used_text(record, 0))
 }
 
 // Puts the names, each with the digit of its line where the option has it beside the name.
-fn put_names(buf: &mut [u8], at: usize, later: bool, p: Party) -> usize
-    requires { ⌜ at + length (namesOn later p) ≤ length (now buf) ⌝ }
-    ensures { λ r. ⌜ Puts (now (buf .entry)) at (namesOn later p) (now (buf .exit)) r ⌝ }
+fn put_names(buf: &mut [u8], at: usize, later: bool, record: &[u8], option: PartyOption) -> usize
+    requires { ⌜ Lent (now «record») option ⌝ }
+    requires { ⌜ at + length (namesOn later (partyFrom (now «record»))) ≤ length (now buf) ⌝ }
+    ensures { λ r. ⌜ Puts (now (buf .entry)) at (namesOn later (partyFrom (now («record» .entry)))) (now (buf .exit)) r ⌝ }
 {
-    let option = p.option;
-    let n = name_count(option, p.count);
+    let n = name_count(option, record[2] as usize);
     let limits = limits_of(option);
     let numbering = limits.numbering;
-    let marks = kept_from(numbering);
     let mut after = later;
     let mut end = at;
     let mut i = 0;
     while i < n {
-        let mark = [p.digits[i], b'/'];
-        let t = p.name_and_address[i];
-        end = put_line(buf, end, after, &mark[..marks], t);
+        let digit = record[DIGITS_AT + i];
+        let text = used_text(record, 2 + i);
+        end = put_line(buf, end, after, numbering, digit, text);
         after = true;
         i += 1;
     }
@@ -263,30 +316,29 @@ fn put_names(buf: &mut [u8], at: usize, later: bool, p: Party) -> usize
 }
 
 // Puts the BIC, or the names.
-fn put_rest(buf: &mut [u8], at: usize, later: bool, p: Party) -> usize
-    requires { ⌜ at + length (restOn later p) ≤ length (now buf) ⌝ }
-    ensures { λ r. ⌜ Puts (now (buf .entry)) at (restOn later p) (now (buf .exit)) r ⌝ }
+fn put_rest(buf: &mut [u8], at: usize, later: bool, record: &[u8], option: PartyOption) -> usize
+    requires { ⌜ Lent (now «record») option ⌝ }
+    requires { ⌜ at + length (restOn later (partyFrom (now «record»))) ≤ length (now buf) ⌝ }
+    ensures { λ r. ⌜ Puts (now (buf .entry)) at (restOn later (partyFrom (now («record» .entry)))) (now (buf .exit)) r ⌝ }
 {
-    let option = p.option;
     let limits = limits_of(option);
     if limits.bic == 0 {
-        return put_names(buf, at, later, p);
+        return put_names(buf, at, later, record, option);
     }
-    let bic = p.bic;
-    put_line(buf, at, later, b"", bic)
+    let from = put_lf(buf, at, later);
+    put_bytes(buf, from, used_text(record, 1))
 }
 
 // Puts the whole field.
-fn put_parts(buf: &mut [u8], at: usize, p: Party) -> usize
-    requires { ⌜ at + length (writtenField (said p)) ≤ length (now buf) ⌝ }
-    ensures { λ r. ⌜ Puts (now (buf .entry)) at (writtenField (said p)) (now (buf .exit)) r ⌝ }
+fn put_parts(buf: &mut [u8], at: usize, record: &[u8], option: PartyOption) -> usize
+    requires { ⌜ Lent (now «record») option ⌝ }
+    requires { ⌜ at + length (writtenField (said (partyFrom (now «record»)))) ≤ length (now buf) ⌝ }
+    ensures { λ r. ⌜ Puts (now (buf .entry)) at (writtenField (said (partyFrom (now («record» .entry))))) (now (buf .exit)) r ⌝ }
 {
-    let option = p.option;
-    let account = p.account;
-    let later = has_head(option, p.present);
+    let later = has_head(option, record[1] == 1);
     let head = put_tag(buf, at, option);
-    let rest = put_head(buf, head, option, later, account);
-    put_rest(buf, rest, later, p)
+    let rest = put_head(buf, head, record, option, later);
+    put_rest(buf, rest, later, record, option)
 }
 
 // Whether the checks passed.
@@ -318,14 +370,14 @@ fn is_one_line(text: &[u8]) -> bool
 }
 
 // Whether a line is an account by its length and its bytes. One test of a byte's class says that it is legal and no LF.
-fn is_plain_account(option: PartyOption, text: &[u8]) -> bool
+fn is_plain_account(option: PartyOption, text: &[u8], classes: &[u8; 256]) -> bool
+    requires { ⌜ now classes ≡ classTable ⌝ }
     ensures { λ r. ⌜ r ≡ lineReply (accountReply option (now (text .entry))) (now (text .entry)) ⌝ }
 {
     if !is_accepted(account_length(text, option)) {
         return false;
     }
-    let classes = class_table();
-    all_at_least(text, &classes, 2)
+    all_in(text, classes, PLAIN)
 }
 
 // Whether a line is 50H's account: its length, and bytes of any kind up to 127.
@@ -353,7 +405,8 @@ fn is_identifier(option: PartyOption, text: &[u8]) -> bool
 }
 
 // Whether the option's reader takes a line for an account or identifier.
-fn is_account_text(option: PartyOption, text: &[u8]) -> bool
+fn is_account_text(option: PartyOption, text: &[u8], classes: &[u8; 256]) -> bool
+    requires { ⌜ now classes ≡ classTable ⌝ }
     ensures { λ r. ⌜ r ≡ lineReply (textReply (limitsOf option .first) option (now (text .entry))) (now (text .entry)) ⌝ }
 {
     let limits = limits_of(option);
@@ -361,43 +414,50 @@ fn is_account_text(option: PartyOption, text: &[u8]) -> bool
     match first {
         First::Identified => is_identifier(option, text),
         First::AnyAccount => is_any_account(option, text),
-        _ => is_plain_account(option, text),
+        _ => is_plain_account(option, text, classes),
     }
 }
 
 // Whether the account or identifier, where the option has one, is one that its reader gives.
-fn is_account(option: PartyOption, present: bool, t: Text) -> bool
-    ensures { λ r. ⌜ r ≡ every (isAccount option present) (where-limit (limitsOf option .longest) (used t ∷ [])) ⌝ }
+fn is_account(record: &[u8], option: PartyOption, classes: &[u8; 256]) -> bool
+    requires { ⌜ (recordSize ≤ length (now «record»)) × (now classes ≡ classTable) ⌝ }
+    ensures { λ r. ⌜ r ≡ headTest option true (partyFrom (now («record» .entry))) ⌝ }
 {
     let limits = limits_of(option);
     if limits.longest == 0 {
         return true;
     }
-    if !present {
-        return t.len == 0;
-    }
-    let n = used_length(t);
-    if n != t.len {
+    if !is_whole(record, 0) {
         return false;
     }
-    let bytes = t.bytes;
-    is_account_text(option, &bytes[..n])
+    is_account_text(option, used_text(record, 0), classes)
+}
+
+// Whether one that is not there is empty, where the option has one.
+fn is_no_account(record: &[u8], option: PartyOption) -> bool
+    requires { ⌜ recordSize ≤ length (now «record») ⌝ }
+    ensures { λ r. ⌜ r ≡ headTest option false (partyFrom (now («record» .entry))) ⌝ }
+{
+    let limits = limits_of(option);
+    if limits.longest == 0 {
+        return true;
+    }
+    record[3] == 0
 }
 
 // Whether the BIC, where the option has one, is one. A BIC has no LF.
-fn is_bic(option: PartyOption, t: Text) -> bool
-    ensures { λ r. ⌜ r ≡ every isBic (where-limit (limitsOf option .bic) (used t ∷ [])) ⌝ }
+fn is_bic(record: &[u8], option: PartyOption) -> bool
+    requires { ⌜ recordSize ≤ length (now «record») ⌝ }
+    ensures { λ r. ⌜ r ≡ every isBic (where-limit (limitsOf option .bic) (used (partyFrom (now («record» .entry)) .bic) ∷ [])) ⌝ }
 {
     let limits = limits_of(option);
     if limits.bic == 0 {
         return true;
     }
-    let n = used_length(t);
-    if n != t.len {
+    if !is_whole(record, 1) {
         return false;
     }
-    let bytes = t.bytes;
-    is_accepted(parse_bic(&bytes[..n], 1))
+    is_accepted(parse_bic(used_text(record, 1), 1))
 }
 
 // Whether a name has the number of its turn, where it is kept with its number, or its digit is one, where that stands beside it.
@@ -415,7 +475,7 @@ fn is_in_turn(
         Numbering::Unnumbered => true,
         Numbering::Numbered => {
             let i = digit as usize;
-            classes[i] == 4
+            classes[i] & DIGIT == DIGIT
         }
         Numbering::InTurn => {
             if !is_numbered_line(text) {
@@ -433,46 +493,42 @@ fn number_length(numbering: Numbering) -> usize
     skip_of(numbering) - kept_from(numbering)
 }
 
-// Whether a text with a digit is the turn-th name of an option with such names, as its reader gives them.
+// Whether a name of a lent record, by its place from 0 on, is one of an option with such names, as its reader gives them.
 fn is_name(
-    t: Text,
-    turn: usize,
-    digit: u8,
+    record: &[u8],
+    i: usize,
     numbering: Numbering,
     longest: usize,
     classes: &[u8; 256],
 ) -> bool
-    requires { ⌜ (turn ≤ 4) × (now classes ≡ classTable) ⌝ }
-    ensures { λ r. ⌜ r ≡ isName numbering longest turn digit (used t) ⌝ }
+    requires { ⌜ (recordSize ≤ length (now «record»)) × (i < 4) × (now classes ≡ classTable) ⌝ }
+    ensures { λ r. ⌜ r ≡ isName numbering longest (i + 1) (getD (now («record» .entry)) (digitsAt + i) 0) (used (textAt (2 + i) (now («record» .entry)))) ⌝ }
 {
-    let n = used_length(t);
-    if n != t.len {
+    if !is_whole(record, 2 + i) {
         return false;
     }
-    let bytes = t.bytes;
-    if !is_in_turn(&bytes[..n], turn, digit, numbering, classes) {
+    let text = used_text(record, 2 + i);
+    if !is_in_turn(text, i + 1, record[DIGITS_AT + i], numbering, classes) {
         return false;
     }
-    if longest < n - number_length(numbering) {
+    if longest < text.len() - number_length(numbering) {
         return false;
     }
-    all_at_least(&bytes[..n], classes, 2)
+    all_in(text, classes, PLAIN)
 }
 
 // Whether each name is one that the option's reader gives.
-fn all_names(p: Party) -> bool
-    ensures { λ r. ⌜ r ≡ allNames (limitsOf (p .option) .numbering) (limitsOf (p .option) .name) 1 (p .digits) (said p .names) ⌝ }
+fn all_names(record: &[u8], option: PartyOption, classes: &[u8; 256]) -> bool
+    requires { ⌜ Lent (now «record») option ⌝ }
+    requires { ⌜ now classes ≡ classTable ⌝ }
+    ensures { λ r. ⌜ r ≡ namesPass (partyFrom (now («record» .entry))) ⌝ }
 {
-    let option = p.option;
     let limits = limits_of(option);
     let numbering = limits.numbering;
-    let n = name_count(option, p.count);
-    let classes = class_table();
+    let n = name_count(option, record[2] as usize);
     let mut i = 0;
     while i < n {
-        let t = p.name_and_address[i];
-        let digit = p.digits[i];
-        if !is_name(t, i + 1, digit, numbering, limits.name, &classes) {
+        if !is_name(record, i, numbering, limits.name, classes) {
             return false;
         }
         i += 1;
@@ -480,111 +536,139 @@ fn all_names(p: Party) -> bool
     true
 }
 
-// Whether the names are as many as the count says, and are names that the option's reader gives.
-fn are_names(p: Party) -> bool
-    ensures { λ r. ⌜ r ≡ areNames (p .option) (p .count) (said p .digits) (said p .names) ⌝ }
+// Whether the names are as many as the count says, and as many as the option may have.
+fn is_counted(record: &[u8], option: PartyOption) -> bool
+    requires { ⌜ Lent (now «record») option ⌝ }
+    ensures { λ r. ⌜ r ≡ countTest (partyFrom (now («record» .entry))) ⌝ }
 {
-    let option = p.option;
     let limits = limits_of(option);
-    let n = name_count(option, p.count);
-    if n != p.count {
+    let count = record[2] as usize;
+    let n = name_count(option, count);
+    if n != count {
         return false;
     }
     if limits.names == 0 {
         return true;
     }
-    if !all_names(p) {
-        return false;
-    }
     is_accepted(parse_count(n, limits.names))
 }
 
 // Whether there is a first name, and it starts with a slash.
-fn has_slash_name(p: Party) -> bool
-    ensures { λ r. ⌜ r ≡ slashName (said p .names) ⌝ }
+fn has_slash_name(record: &[u8], option: PartyOption) -> bool
+    requires { ⌜ Lent (now «record») option ⌝ }
+    ensures { λ r. ⌜ r ≡ slashName (said (partyFrom (now («record» .entry))) .names) ⌝ }
 {
-    let option = p.option;
-    if name_count(option, p.count) == 0 {
+    if name_count(option, record[2] as usize) == 0 {
         return false;
     }
-    let t = p.name_and_address[0];
-    let n = used_length(t);
-    let bytes = t.bytes;
-    starts_with_slash(&bytes[..n])
+    starts_with_slash(used_text(record, 2))
 }
 
 // Whether the first name would be taken for an account.
-fn is_taken(p: Party) -> bool
-    ensures { λ r. ⌜ r ≡ isTaken (limitsOf (p .option) .first) (said p .names) ⌝ }
+fn is_taken(record: &[u8], option: PartyOption) -> bool
+    requires { ⌜ Lent (now «record») option ⌝ }
+    ensures { λ r. ⌜ r ≡ isTaken (limitsOf option .first) (said (partyFrom (now («record» .entry))) .names) ⌝ }
 {
-    let option = p.option;
     let limits = limits_of(option);
     let first = limits.first;
     match first {
         First::NoAccount => false,
         First::Identified => false,
-        First::Account => has_slash_name(p),
-        First::ShortAccount => has_slash_name(p),
+        First::Account => has_slash_name(record, option),
+        First::ShortAccount => has_slash_name(record, option),
         First::SlashAccount => false,
         First::AnyAccount => false,
         First::WholeLine => false,
     }
 }
 
-// Whether a record is the same as one that an accepted body gives.
-fn is_given(p: Party) -> bool
-    ensures { λ r. ⌜ r ≡ isGiven (said p) ⌝ }
+// Whether the account or identifier and the names are such that the option's reader gives.
+fn are_texts(record: &[u8], option: PartyOption) -> bool
+    requires { ⌜ Lent (now «record») option ⌝ }
+    ensures { λ r. ⌜ r ≡ textsTest option true (partyFrom (now («record» .entry))) ⌝ }
 {
-    let option = p.option;
-    let present = p.present;
+    let classes = class_table();
+    if !is_account(record, option, &classes) {
+        return false;
+    }
+    if record[2] == 0 {
+        return true;
+    }
+    all_names(record, option, &classes)
+}
+
+// The same where there is no account or identifier. The table is not taken where there is no name to test either.
+fn are_bare_texts(record: &[u8], option: PartyOption) -> bool
+    requires { ⌜ Lent (now «record») option ⌝ }
+    ensures { λ r. ⌜ r ≡ textsTest option false (partyFrom (now («record» .entry))) ⌝ }
+{
+    if !is_no_account(record, option) {
+        return false;
+    }
+    if is_taken(record, option) {
+        return false;
+    }
+    if record[2] == 0 {
+        return true;
+    }
+    let classes = class_table();
+    all_names(record, option, &classes)
+}
+
+// Whether a lent record is the same as one that an accepted body gives.
+fn is_given(record: &[u8], option: PartyOption) -> bool
+    requires { ⌜ Lent (now «record») option ⌝ }
+    ensures { λ r. ⌜ r ≡ isGiven (said (partyFrom (now («record» .entry)))) ⌝ }
+{
+    let present = record[1] == 1;
     if !is_presence(option, present) {
         return false;
     }
-    let account = p.account;
-    if !is_account(option, present, account) {
+    if !is_bic(record, option) {
         return false;
     }
-    let bic = p.bic;
-    if !is_bic(option, bic) {
-        return false;
-    }
-    if !are_names(p) {
+    if !is_counted(record, option) {
         return false;
     }
     if present {
-        return true;
+        return are_texts(record, option);
     }
-    !is_taken(p)
+    are_bare_texts(record, option)
 }
 
-// Measures a record, and puts its field at the start of the buffer where it fits. The answer is that of measuring, whatever the space.
-fn put_measured(p: Party, buf: &mut [u8]) -> Measured
-    ensures { λ r. ⌜ toldMeasured r ≡ measureOf (said p) ⌝ }
-    ensures { λ _. ⌜ now (buf .exit) ≡ placeIn (said p) (now (buf .entry)) .buffer ⌝ }
+// Measures a lent record, and puts its field at the start of the buffer where it fits. The answer is that of measuring, whatever the space.
+fn put_measured(record: &[u8], buf: &mut [u8]) -> Measured
+    ensures { λ r. ⌜ toldMeasured r ≡ measureOf (said (unflatten (now («record» .entry)))) ⌝ }
+    ensures { λ _. ⌜ now (buf .exit) ≡ placeIn (said (unflatten (now («record» .entry)))) (now (buf .entry)) .buffer ⌝ }
 {
-    if !is_given(p) {
+    if !is_flat(record) {
         return Measured::Refused(ParseError::NoSuchRecord);
     }
-    let n = written_length(p);
+    let option = option_at(record[0] as usize);
+    if !is_given(record, option) {
+        return Measured::Refused(ParseError::NoSuchRecord);
+    }
+    let n = written_length(record, option);
     if n <= buf.len() {
-        put_parts(buf, 0, p);
+        put_parts(buf, 0, record, option);
     }
     Measured::Length(n)
 }
 
-// Measures a record: the length of its written field, or 22 for one that no reader gives. No space is lent for it.
-pub fn measure(p: Party) -> Measured
-    ensures { λ r. ⌜ toldMeasured r ≡ measureOf (said p) ⌝ }
+// Measures a lent record, as crate flat lays it out: the length of its written field, or 22 for one that no reader gives. No space is
+// lent for it.
+pub fn measure_record(record: &[u8]) -> Measured
+    ensures { λ r. ⌜ toldMeasured r ≡ measureOf (said (unflatten (now («record» .entry)))) ⌝ }
 {
     let mut none = [0u8; 0];
-    put_measured(p, &mut none)
+    put_measured(record, &mut none)
 }
 
-// Places the field of a record at the start of the buffer, and measures for itself: 22, 24. A refusal changes no byte.
-pub fn place(p: Party, buf: &mut [u8]) -> Measured
-    ensures { λ r. ⌜ toldPlacing r (now (buf .exit)) ≡ placeIn (said p) (now (buf .entry)) ⌝ }
+// Places the field of a lent record at the start of the buffer, and measures for itself: 22, 24. A refusal changes no byte.
+pub fn place_record(record: &[u8], buf: &mut [u8]) -> Measured
+    ensures { λ r. ⌜ toldPlacing r (now (buf .exit)) ≡ placeIn (said (unflatten (now («record» .entry)))) (now (buf .entry)) ⌝ }
 {
-    match put_measured(p, buf) {
+    match put_measured(record, buf) {
         Measured::Length(n) => {
             if buf.len() < n {
                 return Measured::Refused(ParseError::NoSpace);
@@ -593,4 +677,22 @@ pub fn place(p: Party, buf: &mut [u8]) -> Measured
         }
         Measured::Refused(e) => Measured::Refused(e),
     }
+}
+
+// Measures a record, through its bytes.
+pub fn measure(p: Party) -> Measured
+    ensures { λ r. ⌜ toldMeasured r ≡ measureOf (said p) ⌝ }
+{
+    let mut record = [0u8; RECORD_SIZE];
+    store(p, &mut record);
+    measure_record(&record)
+}
+
+// Places the field of a record, through its bytes.
+pub fn place(p: Party, buf: &mut [u8]) -> Measured
+    ensures { λ r. ⌜ toldPlacing r (now (buf .exit)) ≡ placeIn (said p) (now (buf .entry)) ⌝ }
+{
+    let mut record = [0u8; RECORD_SIZE];
+    store(p, &mut record);
+    place_record(&record, buf)
 }

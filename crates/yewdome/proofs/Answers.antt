@@ -16,7 +16,7 @@ use Rattle.party.specs.Party.{said}
 use Rattle.reader.specs.declared.Answer.{Answer}
 use Rattle.swift_utils.specs.Bytes.{all}
 use Rattle.field_utils.specs.Lines.{lines}
-use Rattle.reader.specs.Reading.{Reading, toldAnswer}
+use Rattle.reader.specs.Reading.{Reading, toldAnswer, Into, storing as readingInto, readInto, toldInto}
 use Rattle.reader.specs.Options.{ascii, bodyMost, bodyReply, read}
 use Rattle.reader.proofs.LineCounts.{lines-most}
 use Rattle.choices.specs.declared.Choice.{Choice}
@@ -64,6 +64,27 @@ passes len known e z = go (leb recordSize len) known (sym e ∙ z)
 pub stores : (known : Bool) (a : Answer) (bytes : List ℕ) {o : Outcome} → lentReply (length bytes) known ≡ accepted → a .outcome ≡ o
     → storing (told o) (a .party) bytes ≡ given known (toldAnswer a) bytes
 stores known a bytes p e = rw (p, e)
+
+-- a reading into lent bytes, after the tests of the lent record
+into : (r : Reply) (p : Party) (bytes : List ℕ) → _≡_ {A = Called} (record { code = codeOf (readingInto r p bytes .reply); bytes = readingInto r p bytes .bytes }) (storing r p bytes)
+into accepted p bytes = refl
+into (refused k n) p bytes = refl
+
+pub reads : (known : Bool) (r : Reading) (bytes : List ℕ) (o : Outcome) {out : List ℕ} {n : ℕ} → lentReply (length bytes) known ≡ accepted → toldInto o out ≡ readInto r bytes → n ≡ codeOf (told o)
+    → _≡_ {A = Called} (record { code = n; bytes = out }) (given known r bytes)
+reads known r bytes o {out} {n} e i c =
+    ap {B = Called} (λ (k : ℕ). record { code = k; bytes = out }) c
+    ∙ ap {B = Called} (λ (x : Into). record { code = codeOf (x .reply); bytes = x .bytes }) i
+    ∙ into (r .reply) (r .party) bytes
+    ∙ sym (ap (λ (t : Reply). asked t (storing (r .reply) (r .party) bytes) bytes) e)
+
+-- and what is said of it is what the reading says
+pub reads-named : (r : Reading) (bytes : List ℕ) (o : Outcome) {out : List ℕ} → toldInto o out ≡ readInto r bytes → Named (r .reply) → Named (told o)
+reads-named r bytes o i h = subst Named (sym (ap (λ (x : Into). x .reply) i ∙ by (r .reply))) h
+  where
+    by : (t : Reply) → readingInto t (r .party) bytes .reply ≡ t
+    by accepted = refl
+    by (refused k n) = refl
 
 pub parse-line : (choice : Choice) (body : List ℕ) → Named (parse choice body .reply)
 parse-line = every-parse (λ r. Named (r .reply)) read-line (λ k h. (h, omega arith))
@@ -145,13 +166,13 @@ module _ (p : Party) where
       (must-then (isGiven (said p)) 22 0 (must space 24 0) (omega arith) (omega arith) (must-line space 24 0 (omega arith) (omega arith)))
       (λ e. most (then-first given-test (must space 24 0) e)))
 
--- the record that was loaded is the one that was measured or placed
-module _ (flat : List ℕ) {p : Party} (l : p ≡ unflatten flat) (a : recordReply flat ≡ accepted) where
-  pub measures : measuredCode (measure (said p)) ≡ partyMeasure flat
-  measures = ap (λ (x : Party). measuredCode (measure (said x))) l ∙ rw a
+-- the record that was lent is the one that was measured or placed
+module _ (flat : List ℕ) (a : recordReply flat ≡ accepted) where
+  pub measures : measuredCode (measure (said (unflatten flat))) ≡ partyMeasure flat
+  measures = rw a
 
-  pub places : (buffer : List ℕ) → placedCall (place (said p) buffer) ≡ partyPlace flat buffer
-  places buffer = ap (λ (x : Party). placedCall (place (said x) buffer)) l ∙ rw a
+  pub places : (buffer : List ℕ) → placedCall (place (said (unflatten flat)) buffer) ≡ partyPlace flat buffer
+  places buffer = rw a
 
 -- what placing answered is told
 pub placed-told : (r : MeasuredAs) {last : List ℕ} {c : Placing} {code : ℕ} → toldPlacing r last ≡ c → code ≡ measuredCode (toldMeasured r) → (record { code = code; bytes = last }) ≡ placedCall c

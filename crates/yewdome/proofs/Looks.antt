@@ -11,7 +11,7 @@ use Rattle.page_reader.specs.declared.index.Lookup.{Lookup}
 use Rattle.page_reader.specs.declared.index.LookOutcome.{LookOutcome}
 use Rattle.page_reader.specs.Pages.{pageMost, PageRead, readAt}
 use Rattle.page_reader.specs.Reads.{Read}
-use Rattle.page_reader.specs.Index.{Looked, found, notFound, fieldAt, isThere, hasEntry, entryOf, lookUp, bodyOf, toldLooked, toldLookup}
+use Rattle.page_reader.specs.Index.{Looked, found, notFound, fieldAt, isThere, hasEntry, entryOf, lookUp, bodyOf, toldLooked, toldLookup, lookBytes}
 use Rattle.page_reader.proofs.Moves.{next-most}
 use Rattle.page_reader.proofs.Entries.{found-here, refusal-of}
 use Rattle.yewdome.specs.Interface.{Called, codeOf, lentReply, readInto, askedRead, pageRead, lookedInto, askedLook, pageLookUp}
@@ -28,6 +28,11 @@ look-read page index k into r e = go (lentReply (length into) true)
     go (refused i n) =
         let z : codeOf (refused i n) * 4294967296 ≡ codeOf (refused i n) * 4294967296 + (r .at - r .at) = omega arith in
         ap {B = Called} (λ (c : ℕ). record { code = c; bytes = into }) z
+
+-- its bytes
+pub look-bytes : (x : Looked) (bytes : List ℕ) → lookBytes x bytes ≡ lookedInto x bytes .bytes
+look-bytes (found r) bytes = refl
+look-bytes (notFound k n) bytes = refl
 
 -- what a lookup's number and line are within, and where its read leads
 abbrev pub Bounded : Looked → Type 0
@@ -54,7 +59,7 @@ module _ (page index : List ℕ) (k : ℕ) where
     abbrev told : Looked
     told = toldLooked x (r .party) (bodyOf (lookUp page index k))
 
-    told-is : told ≡ lookUp page index k
+    pub told-is : told ≡ lookUp page index k
     told-is = ap (λ (y : LookOutcome). toldLooked y (r .party) (bodyOf (lookUp page index k))) (sym q) ∙ e
 
     pub told-bounded : Bounded told

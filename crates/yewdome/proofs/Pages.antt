@@ -16,14 +16,14 @@ use Rattle.writer.specs.Writing.{writtenField, put}
 use Rattle.writer.specs.Given.{isGiven}
 use Rattle.page_reader.specs.declared.PageRead.{PageRead as Read}
 use Rattle.page_reader.specs.declared.ReadOutcome.{ReadOutcome as OutcomeAt}
-use Rattle.page_reader.specs.Pages.{pageMost, ReadOutcome, aRecord, theEnd, aRefusal, PageRead, outcomeOf, readAt, toldOutcome, toldRead}
+use Rattle.page_reader.specs.Pages.{pageMost, ReadOutcome, aRecord, theEnd, aRefusal, PageRead, outcomeOf, readAt, toldOutcome, toldRead, readBytes}
 use Rattle.page_reader.proofs.Moves.{stays-or-moves, next-most, every-read}
 use Rattle.page_writer.specs.declared.Filed.{Filed as FiledAt}
 use Rattle.page_writer.specs.Beside.{Beside}
 use Rattle.page_writer.specs.Adding.{isCarried, writable, hasSpace, withLf, endLine, positionAfter, Call, putting, recordSpace, asked, recordReply, addReply, freeBeside, add, addIndex, close, toldFiled, toldCall}
 use Rattle.page_writer.proofs.Addings.{position≢refusal, reply-space}
 use Rattle.flat.specs.Flat.{unflatten}
-use Rattle.yewdome.specs.Interface.{Called, codeOf, lentReply, recordReply as lentRecordReply, readCode, readBytes, readInto, askedRead, pageRead, filedCode, filed, pageAdd, pageAddIndex}
+use Rattle.yewdome.specs.Interface.{Called, codeOf, lentReply, recordReply as lentRecordReply, readCode, readInto, askedRead, pageRead, filedCode, filed, pageAdd, pageAddIndex}
 use Rattle.yewdome.specs.Code.{Named, Within}
 use Rattle.yewdome.proofs.LineBounds.{must-line, must-then, read-line}
 

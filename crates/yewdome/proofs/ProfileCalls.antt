@@ -23,7 +23,8 @@ use Rattle.yewdome.specs.Code.{Named}
 use Rattle.yewdome.specs.Profile.{CallPromise, ExportedProfile}
 use Rattle.yewdome.proofs.Answers.{profile-read-line, profile-parse-line, profile-variant-line}
 use Rattle.yewdome.proofs.Pages.{adds}
-use Rattle.yewdome.proofs.Theorems.{Loads, read-loads, parse-loads, variant-loads, accepts, loads}
+use Rattle.reader.proofs.Loading.{Loads, read-loads}
+use Rattle.yewdome.proofs.Theorems.{parse-loads, variant-loads, accepts, loads}
 use Rattle.yewdome.proofs.Profile.{Taken, read-taken, parse-taken, variant-taken, under-accepted, under-same, page-accepts}
 
 -- a lent record that a reader can give passes the tests of a lent one, since the blank record is none

@@ -13,7 +13,7 @@ use Rattle.party.specs.Party.{said}
 use Rattle.party.specs.Limits.{optionAt}
 use Rattle.party.proofs.Options.{placed, place-most}
 use Rattle.writer.specs.Writing.{writtenField}
-use Rattle.page_reader.specs.Pages.{ReadOutcome, aRecord, theEnd, aRefusal, PageRead, readAt}
+use Rattle.page_reader.specs.Pages.{ReadOutcome, aRecord, theEnd, aRefusal, PageRead, readAt, readBytes}
 use Rattle.page_reader.proofs.Moves.{next-most}
 use Rattle.page_reader.specs.Reads.{readHere}
 use Rattle.page_writer.specs.Beside.{noIndex}
@@ -26,7 +26,7 @@ use Rattle.flat.specs.Flat.{recordSize, flatten, stored, unflatten}
 use Rattle.flat.proofs.Laws.{stored-whole}
 use Rattle.flat.proofs.Theorems.{bit-back}
 use Rattle.yewdome.specs.Filing.{openPage, filedAs}
-use Rattle.yewdome.specs.Interface.{Called, recordReply, readCode, readBytes, readInto, pageRead, causesCode, causedNumber, pageKept, filedCode, filed, pageAdd}
+use Rattle.yewdome.specs.Interface.{Called, recordReply, readCode, readInto, pageRead, causesCode, causedNumber, pageKept, filedCode, filed, pageAdd}
 use Rattle.yewdome.specs.Code.{Named, Within, stepBy, WasRead, WasFiled}
 use Rattle.yewdome.proofs.Pages.{add-within, add-taken, adds, replyOf, page-line, onward-from}
 use Rattle.yewdome.proofs.Theorems.{page-loads}

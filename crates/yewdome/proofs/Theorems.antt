@@ -1,135 +1,37 @@
 -- What a caller in another language gets: a number that tells the answer, and a record that loads as the one that was read. Assumes nothing.
-use Prim.Native.Nat.{ℕ, zero, suc, _+_, _*_, _-_, _/_, _%_, _<_, _≤_}
+use Prim.Native.Nat.{ℕ, _+_, _*_, _/_, _%_, _<_, _≤_}
 use mathlib.Core.Path.{_≡_, refl, sym, ap, _∙_, subst}
-use mathlib.Core.Bool.{Bool, true}
-use mathlib.Core.List.{List, [], _∷_, _++_, map}
+use mathlib.Core.Bool.{Bool}
+use mathlib.Core.List.{List, _++_}
 use native.Mathlib.Nat.{add-zero, add-comm, div-eq-of-lt, mod-eq-of-lt, mul-add-div-right, add-mul-mod-self-right}
 use native.Mathlib.Omega.{arith}
 use borrow.Author.Tests.{leb-true, le-leb}
-use lib.Dec.{ltb, leb}
-use lib.ListN.{length, getD, take, drop, replicate, length-append, length-take, length-map, length-replicate}
-use lib.Seq.{getD-take}
-use Rattle.errors.specs.Refusals.{Reply, accepted, refused, must, _then_}
+use lib.Dec.{leb}
+use lib.ListN.{length, getD, take, drop}
+use Rattle.errors.specs.Refusals.{Reply, accepted, refused, must}
 use Rattle.errors.proofs.Replies.{must-held, then-first}
-use Rattle.party.specs.declared.PartyOption.{PartyOption}
-use Rattle.party.specs.declared.Text.{Text}
 use Rattle.party.specs.declared.Party.{Party}
-use Rattle.party.specs.Limits.{limitsOf, optionAt}
-use Rattle.party.specs.Text.{textMost, padded, textOf, four, Used}
-use Rattle.party.specs.Party.{blank, where-limit, namesOf, said}
-use Rattle.reader.specs.Reading.{Reading, giving, partyOf, Found}
-use Rattle.reader.specs.Options.{foundBy, bodyReply, read}
+use Rattle.party.specs.Limits.{optionAt}
+use Rattle.party.specs.Party.{said}
+use Rattle.reader.specs.Reading.{Reading}
+use Rattle.reader.specs.Options.{read}
 use Rattle.choices.specs.declared.Choice.{Choice}
 use Rattle.choices.specs.Choices.{parse, parseWithVariant}
 use Rattle.choices.proofs.Every.{every-parse, every-variant}
-use Rattle.writer.specs.Given.{isGiven}
 use Rattle.writer.specs.Writing.{writtenField}
 use Rattle.writer.specs.Placing.{Measured, lengthIs, refusedWith, measure, place}
-use Rattle.writer.proofs.Facts.{facts, is-given, names-are}
-use Rattle.writer.proofs.Back.{accepted-is}
 use Rattle.writer.proofs.Theorems.{measure-and-place}
 use Rattle.page_reader.specs.Pages.{pageMost, ReadOutcome, aRecord, theEnd, aRefusal, outcomeOf, readAt, bodyPlace}
 use Rattle.page_reader.proofs.Moves.{every-read}
 use Rattle.page_reader.proofs.Bodies.{body-there, body-most}
-use Rattle.flat.specs.Flat.{recordSize, textsOf, flatten, stored, unflatten}
-use Rattle.flat.proofs.Laws.{none, Sizes, stored-whole}
-use Rattle.flat.proofs.Theorems.{loads-back}
+use Rattle.flat.specs.Flat.{recordSize, stored, unflatten}
 use Rattle.yewdome.specs.Interface.{Called, codeOf, lentReply, recordReply, asked, storing, given, partyRead, choiceAt, partyParse, partyParseWithVariant, measuredCode, codeOr, partyMeasure, placedCall, partyPlace, readCode, pageRead, pageBody}
 use Rattle.yewdome.specs.Code.{Named, Measurable}
-use Rattle.yewdome.proofs.LineBounds.{by-test, must-line, must-then, read-line}
+use Rattle.yewdome.proofs.LineBounds.{must-line, must-then, read-line}
+use Rattle.reader.proofs.Loading.{Loads, blank-loads, read-loads, stored-loads}
 use Rattle.yewdome.proofs.Answers.{parse-line, variant-line, measure-within, place-within, measures, places}
 
--- ---- a reader's texts
--- 38 bytes, of which at most 38 are used
-record Good (t : Text) : Type 0 where
-  size : length (t .bytes) ≡ textMost
-  len : t .len ≤ textMost
-
-good : (l : List ℕ) → Good (textOf l)
-unfolding textOf padded
-good l = record {
-  size = omega (arith, length-append (take textMost l) (replicate (textMost - length (take textMost l)) 0), length-replicate {A = ℕ} (textMost - length (take textMost l)) 0, length-take textMost l);
-  len = omega (arith, length-take textMost l);
-}
-
-abbrev blanks : List Text
-blanks = textOf [] ∷ textOf [] ∷ textOf [] ∷ textOf [] ∷ []
-
-good-at : (names : List (List ℕ)) (i : ℕ) → i < 4 → Good (getD (map textOf names ++ blanks) i none)
-good-at [] zero h = good []
-good-at [] (suc zero) h = good []
-good-at [] (suc (suc zero)) h = good []
-good-at [] (suc (suc (suc zero))) h = good []
-good-at [] (suc (suc (suc (suc i)))) h = absurd (omega arith)
-good-at (l ∷ names) zero h = good l
-good-at (l ∷ names) (suc i) h = good-at names i (omega arith)
-
--- ---- records of such texts load as they were stored, whatever follows them
-abbrev pub Loads : Party → Type 0
-Loads p = (rest : List ℕ) → unflatten (flatten p ++ rest) ≡ p
-
-record Made (p : Party) : Type 0 where
-  account : Good (p .account)
-  bic : Good (p .bic)
-  four : length (p .«name_and_address») ≡ 4
-  name : (i : ℕ) → i < 4 → Good (getD (p .«name_and_address») i none)
-  digits : length (p .digits) ≡ 4
-
-made-loads : (p : Party) → Made p → p .count ≤ 4 → Loads p
-made-loads p m h rest =
-    loads-back p rest (m .four) (m .digits) texts
-    (record { account = omega (arith, m .account .len); bic = omega (arith, m .bic .len); count = omega arith; name = λ i l. omega (arith, m .name i l .len) })
-  where
-    texts : Sizes (textsOf p)
-    texts zero l = m .account .size
-    texts (suc zero) l = m .bic .size
-    texts (suc (suc i)) l = m .name i (omega (arith, m .four)) .size
-
-found-made : (o : PartyOption) (f : Found) → Made (partyOf o f)
-unfolding partyOf four
-found-made o f = record {
-  account = good (f .account);
-  bic = good (f .bic);
-  four = simp (length-take, length-append) (omega arith);
-  name = λ i h. rw (getD-take 4 (map textOf (f .names) ++ blanks) i none h) (good-at (f .names) i h);
-  digits = simp (length-take, length-append) (omega arith);
-}
-
-blank-loads : Loads blank
-blank-loads = made-loads blank (record { account = good []; bic = good []; four = refl; name = good-at []; digits = refl }) (omega arith)
-
--- ---- the count of an accepted body's record
-where-length : (limit : ℕ) (us : List Used) → length (where-limit limit us) ≤ length us
-where-length limit us = by-test (λ (vs : List Used). length vs ≤ length us) us [] (ltb 0 limit) (omega arith) (omega arith)
-
-given-count : (p : Party) → isGiven (said p) ≡ true → length (p .«name_and_address») ≡ 4 → p .count ≤ 4
-unfolding said
-given-count p e four =
-    let counted = names-are (p .option) (p .count) (said p .digits) (said p .names) (facts (said p) e .names) .counted in
-    let most = where-length (limitsOf (p .option) .names) (namesOf (p .count) p) in
-    let names : length (namesOf (p .count) p) ≤ 4 = simp (length-map, length-take) (omega arith) in
-    omega arith
-
--- ---- every reading
-pub read-loads : (o : PartyOption) (body : List ℕ) → Loads (read o body .party)
-unfolding read
-read-loads o body = go (bodyReply body then f .reply) refl
-  where
-    f : Found
-    f = foundBy (limitsOf o .layout) o body
-
-    whole : {r : Reply} → (bodyReply body then f .reply) ≡ r → read o body ≡ giving r (partyOf o f)
-    whole e = ap (λ (r : Reply). giving r (partyOf o f)) e
-
-    go : (r : Reply) → (bodyReply body then f .reply) ≡ r → Loads (read o body .party)
-    go accepted e =
-        let a = accepted-is o body (ap (λ (x : Reading). x .reply) (whole e)) in
-        let party : read o body .party ≡ partyOf o f = ap (λ (x : Reading). x .party) (whole e) in
-        let m = found-made o f in
-        let n = given-count (partyOf o f) (ap (λ (x : Party). isGiven (said x)) (sym party) ∙ (ap isGiven (a .says) ∙ is-given _ (a .good .facts))) (m .four) in
-        subst Loads (sym party) (made-loads (partyOf o f) m n)
-    go (refused k n) e = subst Loads (sym (ap (λ (x : Reading). x .party) (whole e))) blank-loads
-
+-- ---- every reading's record loads as it was stored
 pub parse-loads : (choice : Choice) (body : List ℕ) → Loads (parse choice body .party)
 parse-loads = every-parse (λ r. Loads (r .party)) read-loads (λ k h. blank-loads)
 
@@ -156,9 +58,6 @@ pub lent-size : (len : ℕ) (known : Bool) → lentReply len known ≡ accepted 
 lent-size len known e = leb-true recordSize len (must-held (leb recordSize len) 42 0 (then-first _ (must known 41 0) e))
 
 -- ---- what a call leaves
-pub stored-loads : (p : Party) (bytes : List ℕ) → Loads p → recordSize ≤ length bytes → unflatten (stored p bytes) ≡ p
-stored-loads p bytes l h = ap unflatten (stored-whole p bytes h) ∙ l (drop recordSize bytes)
-
 module _ (known : Bool) (r : Reading) (bytes : List ℕ) (n : Named (r .reply)) (e : given known r bytes .code ≡ 0) where
   abbrev c : Called
   c = storing (r .reply) (r .party) bytes
@@ -222,7 +121,7 @@ write-accepts flat buffer h =
     let p = unflatten flat in
     let c = place (said p) buffer in
     let a : recordReply flat ≡ accepted = asked-passed (recordReply flat) (placedCall c) buffer (lent-named (length flat) (leb (getD flat 0 0) 10)) h in
-    let is : measuredCode (c .answer) ≡ partyPlace flat buffer .code = ap (λ (x : Called). x .code) (places flat refl a buffer) in
+    let is : measuredCode (c .answer) ≡ partyPlace flat buffer .code = ap (λ (x : Called). x .code) (places flat a buffer) in
     record { passes = a; accepts = told-length (c .answer) (place-within p buffer) (omega (arith, is, h)) ∙ ap lengthIs is }
 
 -- one that measuring gave says that too, and is the length of the field: so many bytes are enough to place it, and it takes no other;
@@ -238,13 +137,13 @@ pub measure-accepts : (flat buffer : List ℕ) → partyMeasure flat < 65536 →
 measure-accepts flat buffer h =
     let p = unflatten flat in
     let a : recordReply flat ≡ accepted = code-passed (recordReply flat) (measuredCode (measure (said p))) (lent-named (length flat) (leb (getD flat 0 0) 10)) h in
-    let is : measuredCode (measure (said p)) ≡ partyMeasure flat = measures flat refl a in
+    let is : measuredCode (measure (said p)) ≡ partyMeasure flat = measures flat a in
     let s = measure-and-place p buffer .measured (told-length (measure (said p)) (measure-within p) (omega (arith, is, h)) ∙ ap lengthIs is) in
     record {
       passes = a;
       exact = s .exact;
-      enough = λ e. sym (places flat refl a buffer) ∙ ap placedCall (s .enough e);
-      short = λ e. sym (places flat refl a buffer) ∙ ap placedCall (s .short e);
+      enough = λ e. sym (places flat a buffer) ∙ ap placedCall (s .enough e);
+      short = λ e. sym (places flat a buffer) ∙ ap placedCall (s .short e);
     }
 
 -- ---- numbers

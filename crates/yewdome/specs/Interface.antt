@@ -16,7 +16,7 @@ use Rattle.choices.specs.Choices.{parse, parseWithVariant}
 use Rattle.profile.specs.Profile.{readProfiled, parseProfiled, parseWithVariantProfiled}
 use Rattle.writer.specs.Writing.{put}
 use Rattle.writer.specs.Placing.{Measured, lengthIs, refusedWith, Placing, measure, place}
-use Rattle.page_reader.specs.Pages.{ReadOutcome, aRecord, theEnd, aRefusal, PageRead, bodiless, outcomeOf, readAt, bodyPlace}
+use Rattle.page_reader.specs.Pages.{ReadOutcome, aRecord, theEnd, aRefusal, PageRead, bodiless, outcomeOf, readAt, readBytes, bodyPlace}
 use Rattle.page_reader.specs.Reads.{Read, readHere, reads}
 use Rattle.page_reader.specs.Index.{Looked, found, notFound, lookUp}
 use Rattle.page_writer.specs.Beside.{Beside}
@@ -55,12 +55,6 @@ asked accepted c bytes = c
 asked (refused k n) c bytes = record { code = codeOf (refused k n); bytes = bytes }
 
 -- ---- reading
--- a record is stored; the end of a page and a refusal change no byte
-abbrev pub readBytes : ReadOutcome → List ℕ → List ℕ
-readBytes (aRecord p) bytes = stored p bytes
-readBytes theEnd bytes = bytes
-readBytes (aRefusal k n) bytes = bytes
-
 -- what a reader gives, in these terms
 abbrev pub storing : Reply → Party → List ℕ → Called
 storing r p bytes = record { code = codeOf r; bytes = readBytes (outcomeOf r p) bytes }

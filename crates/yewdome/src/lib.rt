@@ -2,12 +2,11 @@
 // out. The number that a call gives is the refusal's number × 65,536 and its line, or below 65,536 where it accepts; the reads and
 // the filing of a page give more beside it. A refusal changes no byte and no number that is lent.
 use choices::Choice;
-use choices::parse;
-use choices::parse_with_variant;
+use choices::parse_into;
+use choices::parse_with_variant_into;
 use errors::Outcome;
 use errors::ParseError;
 use flat::RECORD_SIZE;
-use flat::load;
 use flat::store;
 use kept::Causes;
 use kept::Kept;
@@ -16,22 +15,22 @@ use page_reader::ReadOutcome;
 use page_reader::body_place;
 use page_reader::index::INDEX_SIZE;
 use page_reader::index::LookOutcome;
-use page_reader::index::look_up;
-use page_reader::read_at;
+use page_reader::index::look_up_into;
+use page_reader::read_at_into;
 use page_writer::Filed;
-use page_writer::add;
-use page_writer::add_indexed;
+use page_writer::add_indexed_record;
+use page_writer::add_record;
 use page_writer::close;
 use party::option_at;
 use reader::Answer;
-use reader::read;
+use reader::read_into;
 use writer::Measured;
-use writer::measure;
-use writer::place;
+use writer::measure_record;
+use writer::place_record;
 ghost use mathlib.Core.Path.{_≡_};
 ghost use Prim.Native.Nat.{_≤_, _<_};
 ghost use lib.ListN.{length};
-ghost use Rattle.errors.specs.Refusals.{toldError};
+ghost use Rattle.errors.specs.Refusals.{told, toldError};
 ghost use Rattle.reader.specs.Reading.{toldAnswer};
 ghost use Rattle.writer.specs.Placing.{toldMeasured};
 ghost use Rattle.page_reader.specs.Pages.{readAt};
@@ -126,12 +125,27 @@ fn give(known: bool, answer: Answer, out: &mut [u8]) -> u32
     0
 }
 
+// What was said of a reading into a lent record, as a number.
+fn said(outcome: Outcome) -> u32
+    requires { ⌜ Named (told outcome) ⌝ }
+    ensures { λ r. ⌜ r ≡ codeOf (told outcome) ⌝ }
+{
+    match outcome {
+        Outcome::Accepted => 0,
+        Outcome::Refused(e) => code(e),
+    }
+}
+
 // Reads a body by the option at a place in the table, 0 to 10, and stores the record.
 #[no_mangle]
 pub extern "C" fn yewdome_party_read(option: u8, body: &[u8], record: &mut [u8]) -> u32
     ensures { λ r. ⌜ (record { code = r; bytes = now («record» .exit) }) ≡ partyRead option (now (body .entry)) (now («record» .entry)) ⌝ }
 {
-    give(option <= 10, read(option_at(option as usize), body), record)
+    let refusal = lent(record.len(), option <= 10);
+    if refusal != 0 {
+        return refusal;
+    }
+    said(read_into(option_at(option as usize), body, record))
 }
 
 // Reads a body by the choice at a place, 0 to 6 in document 01's order, which detects the option, and stores the record.
@@ -139,7 +153,11 @@ pub extern "C" fn yewdome_party_read(option: u8, body: &[u8], record: &mut [u8])
 pub extern "C" fn yewdome_party_parse(choice: u8, body: &[u8], record: &mut [u8]) -> u32
     ensures { λ r. ⌜ (record { code = r; bytes = now («record» .exit) }) ≡ partyParse choice (now (body .entry)) (now («record» .entry)) ⌝ }
 {
-    give(choice <= 6, parse(choice_at(choice), body), record)
+    let refusal = lent(record.len(), choice <= 6);
+    if refusal != 0 {
+        return refusal;
+    }
+    said(parse_into(choice_at(choice), body, record))
 }
 
 // The same by a letter, 0 for none.
@@ -152,11 +170,11 @@ pub extern "C" fn yewdome_party_parse_with_variant(
 ) -> u32
     ensures { λ r. ⌜ (record { code = r; bytes = now («record» .exit) }) ≡ partyParseWithVariant choice (now (body .entry)) letter (now («record» .entry)) ⌝ }
 {
-    give(
-        choice <= 6,
-        parse_with_variant(choice_at(choice), body, letter),
-        record,
-    )
+    let refusal = lent(record.len(), choice <= 6);
+    if refusal != 0 {
+        return refusal;
+    }
+    said(parse_with_variant_into(choice_at(choice), body, letter, record))
 }
 
 // Reads a body by the option at a place under the network profile, and stores the record.
@@ -216,7 +234,7 @@ pub extern "C" fn yewdome_party_measure(record: &[u8]) -> u32
     if refusal != 0 {
         return refusal;
     }
-    measured(measure(load(record)))
+    measured(measure_record(record))
 }
 
 // Places the field of a stored record at the start of a buffer, and gives its length. It measures for itself.
@@ -228,7 +246,7 @@ pub extern "C" fn yewdome_party_place(record: &[u8], buf: &mut [u8]) -> u32
     if refusal != 0 {
         return refusal;
     }
-    measured(place(load(record), buf))
+    measured(place_record(record, buf))
 }
 
 // Reads the page at a position and stores the record that it gives; the end changes no byte. Gives the number × 4,294,967,296, 65,536 more
@@ -241,15 +259,11 @@ pub extern "C" fn yewdome_page_read(page: &[u8], at: usize, record: &mut [u8]) -
     if refusal != 0 {
         return (refusal as u64) * 4294967296;
     }
-    let got = read_at(page, at);
+    let got = read_at_into(page, at, record);
     let moved = (got.next - at) as u64;
     let outcome = got.outcome;
     match outcome {
-        ReadOutcome::Record => {
-            let party = got.party;
-            store(party, record);
-            moved
-        }
+        ReadOutcome::Record => moved,
         ReadOutcome::End => 65536 + moved,
         ReadOutcome::Refused(e) => (code(e) as u64) * 4294967296 + moved,
     }
@@ -270,14 +284,9 @@ pub extern "C" fn yewdome_page_look_up(
     if refusal != 0 {
         return (refusal as u64) * 4294967296;
     }
-    let got = look_up(page, index, k);
-    let outcome = got.outcome;
+    let outcome = look_up_into(page, index, k, record);
     match outcome {
-        LookOutcome::Record { at, next } => {
-            let party = got.party;
-            store(party, record);
-            (next - at) as u64
-        }
+        LookOutcome::Record { at, next } => (next - at) as u64,
         LookOutcome::Refused { error, at, next } => {
             (code(error) as u64) * 4294967296 + ((next - at) as u64)
         }
@@ -315,7 +324,7 @@ pub extern "C" fn yewdome_page_add(record: &[u8], buf: &mut [u8], position: usiz
     if refusal != 0 {
         return refusal;
     }
-    filed(add(load(record), buf, position))
+    filed(add_record(record, buf, position))
 }
 
 // Adds a stored record to the page with an index in a buffer at a position, notes its entry, and gives the position after.
@@ -333,7 +342,7 @@ pub extern "C" fn yewdome_page_add_indexed(
     if refusal != 0 {
         return refusal;
     }
-    filed(add_indexed(load(record), buf, position, index))
+    filed(add_indexed_record(record, buf, position, index))
 }
 
 // Closes the page in a buffer at a position, and gives the page's length.

@@ -1,40 +1,42 @@
 -- `choices::holds` meets its contract: each arm is its test. Assumes nothing.
-use mathlib.Core.Path.{_≡_, sym, _∙_, ap}
-use mathlib.Core.Bool.{Bool}
+use mathlib.Core.Path.{_≡_, refl, sym, _∙_, ap}
+use mathlib.Core.Bool.{Bool, _&&_, _||_}
 use mathlib.Core.List.{List}
 use Prim.Native.Nat.{ℕ}
 use denote.Ref.{now}
+use lib.Dec.{eqb}
 use borrow.Author.Needs.{needs}
+use Rattle.swift_utils.specs.Bytes.{between}
+use Rattle.swift_utils.specs.Checks.{bicShort, bicLong}
 use Rattle.field_utils.specs.Lines.{lines}
-use Rattle.field_utils.specs.Identifier.{isNumbered}
-use Rattle.field_utils.specs.Trim.{trimmed}
 use Rattle.choices.specs.declared.Test.{Test}
-use Rattle.choices.specs.Detection.{anyNumbered, bicLike, holds}
-use Rattle.choices.proofs.LineTests.{later-two}
+use Rattle.choices.specs.Detection.{holds}
+use Rattle.choices.proofs.LineTests.{any-split, later-two}
 use Rattle.choices.proofs.holds.Statement.{statement}
 use Rattle.choices.proofs.holds.Tie as tie
 
 -- a test that is known
-known : {r : Bool} (body : List ℕ) {t u : Test} → t ≡ u → r ≡ holds u (lines body) → r ≡ holds t (lines body)
-known body e f = f ∙ ap (λ (t : Test). holds t (lines body)) (sym e)
+known : {r : Bool} (text : List ℕ) {t u : Test} → t ≡ u → r ≡ holds u (lines text) → r ≡ holds t (lines text)
+known text e f = f ∙ ap (λ (t : Test). holds t (lines text)) (sym e)
 
 returns-2 : tie.Need-returns-2
 returns-2 c =
-    let body = now (c .before .before .before .before .before .args .body) in
-    known body (c .before .before .enum-told2 .given .1)
-    (c .any-numbered .ensures ∙ ap anyNumbered (c .before .after-first .ensures) ∙ sym (later-two (lines body)))
+    let a = c .before .before .before in
+    let text = now (a .args .text) in
+    known text (c .enum-told2 .given .1) (a .pre .later ∙ sym (later-two (lines text)))
 
-returns-6 : tie.Need-returns-6
-returns-6 c =
-    let t = c .before .before .before in
-    known (now (t .before .before .before .args .body)) (t .enum-told6 .given .1)
-    (c .is-bic-like .ensures ∙ ap bicLike (c .before .trim .ensures ∙ ap trimmed (c .before .before .last-line .ensures)))
+returns-5 : tie.Need-returns-5
+returns-5 c =
+    let t = c .before in
+    let a = t .before .before .before in
+    let text = now (a .args .text) in
+    known text (t .enum-told5 .given .1) (c .any-numbered .ensures ∙ (λ i. a .pre .one i || a .pre .later i) ∙ sym (any-split (lines text)))
 
-returns-8 : tie.Need-returns-8
-returns-8 c =
-    let t = c .before .before in
-    known (now (t .before .before .before .args .body)) (t .enum-told8 .given .1)
-    (c .is-numbered-line .ensures ∙ ap isNumbered (c .before .test-line .ensures))
+returns-7 : tie.Need-returns-7
+returns-7 c =
+    let t = c .before in
+    let a = t .before .before .before in
+    known (now (a .args .text)) (t .enum-told7 .given .1) (c .is-bic-sized .ensures ∙ (λ i. eqb (a .pre .count i) 1 && between bicShort bicLong (a .pre .first i)))
 
 pub holds-spec : {M : Type 1} → statement M
 holds-spec =
@@ -42,8 +44,6 @@ holds-spec =
     (tie.spec
     (λ c. search needs)
     (λ c. search needs)
-    (λ c κs. search needs)
-    (λ c κs. search needs)
     (λ c. search needs)
     (λ c κs. search needs)
     (λ c. search needs)
@@ -52,18 +52,15 @@ holds-spec =
     (λ c κs. search needs)
     (λ c. search needs)
     (λ c κs. search needs)
-    (λ c κs. search needs)
-    (λ c κs. search needs)
     (λ c. search needs)
     (λ c κs. search needs)
     (λ c. search needs)
     (λ c κs. search needs)
-    (λ c κs. search needs)
-    (λ c. search needs)
+    (λ c. known (now (c .before .before .before .args .text)) (c .enum-told .given .1) refl)
     returns-2
-    (λ c. known (now (c .before .before .before .before .args .body)) (c .before .enum-told3 .given .1) (c .slash-first-of-two .ensures))
-    (λ c. known (now (c .before .before .before .before .args .body)) (c .before .enum-told4 .given .1) (c .slash-first .ensures))
-    (λ c. known (now (c .before .before .before .before .args .body)) (c .before .enum-told5 .given .1) (c .any-numbered2 .ensures))
-    returns-6
-    (λ c. known (now (c .before .before .before .before .args .body)) (c .before .enum-told7 .given .1) (c .is-bic-sized .ensures))
-    returns-8)
+    (λ c. known (now (c .before .before .before .before .args .text)) (c .before .enum-told3 .given .1) (c .slash-first-of-two .ensures))
+    (λ c. known (now (c .before .before .before .before .args .text)) (c .before .enum-told4 .given .1) (c .slash-first .ensures))
+    returns-5
+    (λ c. known (now (c .before .before .before .before .args .text)) (c .before .enum-told6 .given .1) (c .last-is-bic .ensures))
+    returns-7
+    (λ c. known (now (c .before .before .before .before .args .text)) (c .before .enum-told8 .given .1) (c .first-numbered .ensures)))

@@ -1,26 +1,22 @@
--- `choices::parse` meets its contract: the body's check, then the options. Assumes nothing.
-use mathlib.Core.Path.{sym, _∙_, ap}
-use borrow.Author.Needs.{needs}
-use Rattle.errors.specs.Refusals.{told}
+-- `choices::parse` meets its contract: the record that the room holds. Assumes nothing.
+use mathlib.Core.Path.{_∙_, ap}
+use native.Mathlib.Omega.{arith}
+use denote.Ref.{now}
 use Rattle.reader.specs.Reading.{toldAnswer}
 use Rattle.choices.specs.Choices.{parse}
-use Rattle.choices.proofs.Trials.{check-refused, check-passed}
+use Rattle.choices.proofs.ByValue.{parse-back, answered}
+use borrow.Author.Needs.{needs}
 use Rattle.choices.proofs.parse.Statement.{statement}
 use Rattle.choices.proofs.parse.Tie as tie
 
 returns : tie.Need-returns
-unfolding parse
 returns c =
-    let p = c .before .before .before .before in
-    ap toldAnswer (c .refuse .ensures) ∙ sym (check-refused _ (sym (p .parse-body .ensures) ∙ ap told (c .before .before .outcome .given .1)))
-
-returns-2 : tie.Need-returns-2
-unfolding parse
-returns-2 c =
     let p = c .before .before .before in
-    c .first-that .ensures ∙ sym (check-passed _ (sym (p .parse-body .ensures) ∙ ap told (c .before .enum-told .given .1)))
+    let a = p .before .before .before .args in
+    ap toldAnswer (c .answer-from .ensures)
+    ∙ answered (parse (a .choice) (now (a .body))) (p .parse-into .result) _ _ (parse-back (a .choice) (now (a .body))) (omega arith) (p .parse-into .ensures)
 
 pub parse-spec : {M : Type 1} → statement M
 parse-spec =
     tie.close
-    (tie.spec (λ c κs. search needs) (λ c. search needs) (λ c κs. search needs) returns (λ c. search needs) (λ c κs. search needs) returns-2)
+    (tie.spec (λ c. search needs) (λ c κs. search needs) (λ c. search needs) (λ c κs. search needs) returns)

@@ -1,25 +1,23 @@
 -- `choices::slash_first_of_two` meets its contract. Assumes nothing.
-use mathlib.Core.Path.{ap}
-use Prim.Native.Nat.{ℕ}
-use lib.Dec.{eqb}
+use mathlib.Core.Path.{_≡_, sym, _∙_}
+use mathlib.Core.Bool.{and-true, and-false}
+use lib.ListN.{length}
 use denote.Ref.{now}
-use borrow.Author.Tests.{not-true, not-false}
+use borrow.Author.Tests.{ne-eqb}
 use borrow.Author.Needs.{needs}
 use Rattle.field_utils.specs.Lines.{lines}
-use Rattle.choices.proofs.LineTests.{slash-by, slash-two}
+use Rattle.choices.proofs.LineTests.{slash-at}
 use Rattle.choices.proofs.slash_first_of_two.Statement.{statement}
 use Rattle.choices.proofs.slash_first_of_two.Tie as tie
 
 returns : tie.Need-returns
-returns c =
-    let s = c .before in
-    rw (slash-two (lines (now (s .before .before .args .body))), slash-by (now (s .before .before .args .body)) (s .starts-with-slash .ensures) (not-true _ (c .if1 .taken)))
+returns c = let a = c .before .before .before in rw (ne-eqb (length (lines (now (a .args .text)))) 2 (λ e. c .if1 .taken (a .pre .count ∙ e)), and-false)
 
 returns-2 : tie.Need-returns-2
 returns-2 c =
-    let s = c .before .before in
-    rw (slash-two (lines (now (s .before .before .args .body))), slash-by (now (s .before .before .args .body)) (s .starts-with-slash .ensures) (not-false _ (c .before .if1 .left)))
-    (ap (λ (n : ℕ). eqb n 2) (c .count-lines .ensures))
+    let a = c .before .before .before .before in
+    let n : length (lines (now (a .args .text))) ≡ 2 = sym (a .pre .count) ∙ c .before .if1 .left in
+    rw (n, slash-at (now (a .args .text)), and-true) (c .starts-with-slash .ensures)
 
 pub slash-first-of-two-spec : {M : Type 1} → statement M
-slash-first-of-two-spec = tie.close (tie.spec (λ c κs. search needs) returns (λ c κs. search needs) returns-2)
+slash-first-of-two-spec = tie.close (tie.spec returns (λ c κs. search needs) returns-2)

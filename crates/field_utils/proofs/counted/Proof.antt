@@ -1,6 +1,9 @@
 -- `counted` meets its contract: an illegal byte refuses the names, and else their count says. Assumes nothing.
 use mathlib.Core.Path.{_≡_, sym, _∙_, ap}
+use Prim.Native.Nat.{ℕ}
+use mathlib.Core.List.{List}
 use Rattle.errors.specs.Refusals.{Reply, told}
+use Rattle.party.specs.Text.{textsIn, four}
 use Rattle.field_utils.specs.Names.{NamesRead, toldNames}
 use Rattle.field_utils.specs.Code.{parseRest, givenNames}
 use Rattle.field_utils.proofs.NameLines.{rest-illegal, rest-counted}
@@ -10,8 +13,8 @@ use Rattle.field_utils.proofs.counted.Tie as tie
 
 -- what the reply after the lines gives
 module _ (t : tie.Start) where
-  abbrev gives : Reply → NamesRead
-  gives r = givenNames r (t .args .count) (t .args .texts) (t .args .digits)
+  abbrev gives : List ℕ → Reply → NamesRead
+  gives body r = givenNames r (t .args .count) (textsIn body (t .args .parts)) (t .args .digits)
 
   abbrev rest : Reply
   rest = parseRest (t .args .illegal) (t .args .most) (t .args .count)
@@ -21,19 +24,21 @@ by-count : (c : tie.After-parse-count) → rest (c .before .before) ≡ told (c 
 by-count c = let a = c .before .before .args in rest-counted (a .illegal) (a .most) (a .count) (c .before .if1 .left) ∙ sym (c .parse-count .ensures)
 
 returns : tie.Need-returns
-returns c =
+unfolding four
+returns c body =
     let t = c .before .before in
-    ap toldNames (c .refuse-names .ensures) ∙ sym (ap (gives t) (rest-illegal (t .args .illegal) (t .args .most) (t .args .count) (c .before .if1 .taken)))
+    ap (toldNames body) (c .refuse-names .ensures) ∙ sym (ap (gives t body) (rest-illegal (t .args .illegal) (t .args .most) (t .args .count) (c .before .if1 .taken)))
 
 returns-2 : tie.Need-returns-2
-returns-2 c =
+unfolding four
+returns-2 c body =
     let p = c .before .before .before .before in
-    ap toldNames (c .refuse-names2 .ensures) ∙ sym (ap (gives (p .before .before)) (by-count p ∙ ap told (c .before .before .outcome .given .1)))
+    ap (toldNames body) (c .refuse-names2 .ensures) ∙ sym (ap (gives (p .before .before) body) (by-count p ∙ ap told (c .before .before .outcome .given .1)))
 
 returns-3 : tie.Need-returns-3
-returns-3 c =
+returns-3 c body =
     let p = c .before .before in
-    sym (ap (gives (p .before .before)) (by-count p ∙ ap told (c .enum-told .given .1)))
+    sym (ap (gives (p .before .before) body) (by-count p ∙ ap told (c .enum-told .given .1)))
 
 pub counted-spec : {M : Type 1} → statement M
 counted-spec =

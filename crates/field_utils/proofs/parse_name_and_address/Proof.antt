@@ -7,41 +7,41 @@ use mathlib.Core.List.{List, [], _∷_}
 use Prim.Native.Nat.{ℕ, suc, _+_, _-_, _≤_, _<_}
 use native.Mathlib.Omega.{arith}
 use denote.Ref.{now}
-use lib.Dec.{leb}
 use lib.ListN.{length, drop, getD}
 use borrow.Author.Needs.{needs}
-use borrow.Author.Tests.{le-leb, lt-leb}
+use borrow.Author.Tests.{eq-eqb, ne-eqb}
 use Rattle.errors.specs.Refusals.{Reply, accepted, refused, told, must}
 use Rattle.party.specs.declared.PartyOption.{PartyOption}
 use Rattle.party.specs.declared.Limits.{Limits}
-use Rattle.party.specs.declared.Text.{Text}
-use Rattle.party.specs.Text.{padded, textOf, four, fourTexts}
+use Rattle.party.specs.declared.Part.{Part}
+use Rattle.party.specs.Text.{textsIn, four, fourTexts}
 use Rattle.party.specs.declared.Numbering.{Numbering}
 use Rattle.swift_utils.specs.Bytes.{all, legal}
+use Rattle.swift_utils.specs.Classes.{hasBits}
 use Rattle.swift_utils.proofs.Classes.{class-legal, all-fails, all-passes, all-done}
 use Rattle.swift_utils.proofs.Table.{by-entry}
-use Rattle.swift_utils.proofs.Parts.{part, part-end}
+use Rattle.swift_utils.proofs.Parts.{part, part-length, part-end, part-drop}
 use Rattle.field_utils.specs.Lines.{lines}
 use Rattle.field_utils.specs.Names.{parseLine, parseCount, NamesRead, readNames, toldNames}
 use Rattle.field_utils.specs.Code.{parseShape, parseRest, givenNames}
 use Rattle.field_utils.proofs.Places.{Found, found}
 use Rattle.field_utils.proofs.NameLines.{kept-room, line-refused, line-bytes, rest-illegal, rest-counted, read-refused}
-use Rattle.field_utils.proofs.NameTexts.{Passed, passed-none, passed-refused, passed-more, passed-past, passed-all}
+use Rattle.field_utils.proofs.NameTexts.{Passed, no-parts, passed-none, passed-refused, passed-more, passed-past, passed-all}
 use Rattle.field_utils.proofs.parse_name_and_address.Statement.{statement}
 use Rattle.field_utils.proofs.parse_name_and_address.Tie as tie
 
 abbrev Inv-loop : tie.InvT-loop
-Inv-loop body start-idx limits numbering kept classes texts digits count start end rest turn line input i₀ i = all legal input ≡ all legal (part i (length input) input)
+Inv-loop body start-idx limits numbering kept classes parts digits count start end rest turn line input i₀ i = all legal input ≡ all legal (part i (length input) input)
 
 abbrev μ-loop : tie.MeasureT-loop
-μ-loop body start-idx limits numbering kept classes texts digits count start end rest turn line input i₀ i = length input - i
+μ-loop body start-idx limits numbering kept classes parts digits count start end rest turn line input i₀ i = length input - i
 
 abbrev Inv-lines : tie.InvT-lines
-Inv-lines body start-idx limits numbering kept classes texts₀ digits₀ cursor₀ count₀ texts digits cursor count =
-    (count ≤ cursor .at) × Passed numbering (limits .name) start-idx kept (lines (drop (cursor₀ .at) body)) count texts digits (lines (drop (cursor .at) body))
+Inv-lines body start-idx limits numbering kept classes parts₀ digits₀ cursor₀ count₀ parts digits cursor count =
+    (count ≤ cursor .at) × Passed body numbering (limits .name) start-idx kept (lines (drop (cursor₀ .at) body)) count parts digits (lines (drop (cursor .at) body))
 
 abbrev μ-lines : tie.MeasureT-lines
-μ-lines body start-idx limits numbering kept classes texts₀ digits₀ cursor₀ count₀ texts digits cursor count = length body - cursor .at
+μ-lines body start-idx limits numbering kept classes parts₀ digits₀ cursor₀ count₀ parts digits cursor count = length body - cursor .at
 
 -- at the head of the loop over the lines
 module _ (t : tie.At-lines Inv-loop μ-loop Inv-lines μ-lines) where
@@ -55,8 +55,8 @@ module _ (t : tie.At-lines Inv-loop μ-loop Inv-lines μ-lines) where
   abbrev count : ℕ
   count = t .lines .count
 
-  abbrev texts : List Text
-  texts = t .lines .texts
+  abbrev parts : List Part
+  parts = t .lines .parts
 
   abbrev digits : List ℕ
   digits = t .lines .digits
@@ -116,8 +116,8 @@ module _ (k : tie.After-known-told Inv-loop μ-loop Inv-lines μ-lines) where
   counts = omega (arith, fits .moved, head .lines .inv .0)
 
   -- those before it have passed
-  so-far : Passed (numbering head) (limits head .name) (earlier head) (skip head) (names head) (count head) (texts head) (digits head) (line ∷ lines (drop rest (body head)))
-  so-far = subst (Passed _ _ _ _ _ _ _ _) (fits .line) (head .lines .inv .1)
+  so-far : Passed (body head) (numbering head) (limits head .name) (earlier head) (skip head) (names head) (count head) (parts head) (digits head) (line ∷ lines (drop rest (body head)))
+  so-far = subst (Passed _ _ _ _ _ _ _ _ _) (fits .line) (head .lines .inv .1)
 
   -- what the line says before its bytes, and whole
   abbrev shape : Reply
@@ -140,10 +140,10 @@ shape-says p = sym (p .parse-line .ensures)
 -- past that test, at its bytes
 module _ (l : tie.At-loop Inv-loop μ-loop Inv-lines μ-lines) where
   abbrev here : tie.After-known-told Inv-loop μ-loop Inv-lines μ-lines
-  here = l .before .before .before .before .before
+  here = l .before .before .before .before .before .before .before
 
   shaped : shape here ≡ accepted
-  shaped = shape-says (l .before .before .before) ∙ ap told (l .before .enum-told2 .given .1)
+  shaped = shape-says (l .before .before .before .before .before) ∙ ap told (l .before .before .before .enum-told2 .given .1)
 
   -- those left say the rest
   by-bytes : {t : Bool} → all legal (part (l .loop .i) (length (line here)) (line here)) ≡ t → says here ≡ must t 3 (number here)
@@ -164,7 +164,7 @@ module _ (c : tie.After-shared-slice-known2 Inv-loop μ-loop Inv-lines μ-lines)
   abbrev class : ℕ
   class = getD (head this .before .class-table .result) byte 0
 
-  by-table : {t : Bool} → leb 1 class ≡ t → legal byte ≡ t
+  by-table : {t : Bool} → hasBits 1 class ≡ t → legal byte ≡ t
   by-table e = sym (class-legal byte) ∙ by-entry 1 byte (head this .before .class-table .ensures) e
 
 illegal-byte : (c : tie.Then1 Inv-loop μ-loop Inv-lines μ-lines) → let k = this (c .before) in _≡_ {A = NamesRead} (record { reply = refused 3 (number k); count = 0; texts = fourTexts []; digits = four 0 [] }) (answer (head k))
@@ -172,7 +172,7 @@ illegal-byte c =
     let k = this (c .before) in
     refusal k
     (by-bytes (c .before .before .before)
-    (all-fails legal (line k) _ (length (line k)) (c .before .before .loop-test .taken) (omega arith) (by-table (c .before) (lt-leb 1 (class (c .before)) (omega (arith, c .if1 .taken))))))
+    (all-fails legal (line k) _ (length (line k)) (c .before .before .loop-test .taken) (omega arith) (by-table (c .before) (ne-eqb _ _ (c .if1 .taken)))))
 
 -- a line that passed
 module _ (e : tie.After-loop Inv-loop μ-loop Inv-lines μ-lines) where
@@ -182,16 +182,20 @@ module _ (e : tie.After-loop Inv-loop μ-loop Inv-lines μ-lines) where
   room : skip (head passed) ≤ length (line passed)
   room = omega (arith, kept-room (numbering (head passed)) (limits (head passed) .name) (number passed) (turn passed) (line passed) (shaped (e .before)), head passed .before .before .kept-from .ensures)
 
+  -- what is kept of it starts before its end
+  ends-at : (start passed + skip (head passed) ≤ end passed) × (end passed ≤ length (body (head passed)))
+  ends-at = (omega (arith, room, part-length (start passed) (end passed) (body (head passed)) (omega (arith, fits passed .before, fits passed .within)), fits passed .forward), omega (arith, fits passed .before, fits passed .within))
+
   passes : says passed ≡ accepted
   passes = by-bytes (e .before) (all-done legal (line passed) _ (length (line passed)) (e .loop-test .left))
 
 -- no line is left
 all-passed : (c : tie.After-enum-told Inv-loop μ-loop Inv-lines μ-lines) → let t = c .before .before .before in
-    givenNames (parseCount (limits t .names) (count t)) (count t) (texts t) (digits t) ≡ answer t
+    givenNames (parseCount (limits t .names) (count t)) (count t) (textsIn (body t) (parts t)) (digits t) ≡ answer t
 all-passed c =
     let t = c .before .before .before in
     let none = found (body t) (place t) (c .before .before .next .ensures) (c .enum-told .given .1) .0 in
-    sym (passed-all (option t) (t .before .before .before .limits-of .ensures) (t .before .before .kept-from .ensures) (subst (Passed _ _ _ _ _ _ _ _) none (t .lines .inv .1)))
+    sym (passed-all (option t) (t .before .before .before .limits-of .ensures) (t .before .before .kept-from .ensures) (subst (Passed _ _ _ _ _ _ _ _ _) none (t .lines .inv .1)))
 
 -- the loop was left with no line left, or with the line of an illegal byte
 module _ (m : tie.At-match-came Inv-loop μ-loop Inv-lines μ-lines) where
@@ -199,7 +203,7 @@ module _ (m : tie.At-match-came Inv-loop μ-loop Inv-lines μ-lines) where
   last = m .before .before
 
   abbrev gives : Reply → NamesRead
-  gives r = givenNames r (count last) (texts last) (digits last)
+  gives r = givenNames r (count last) (textsIn (body last) (parts last)) (digits last)
 
   ends : gives (parseRest (m .match .illegal) (limits last .names) (count last)) ≡ answer last
   ends =
@@ -210,34 +214,37 @@ module _ (m : tie.At-match-came Inv-loop μ-loop Inv-lines μ-lines) where
       (λ w.
       let k : tie.After-known-told Inv-loop μ-loop Inv-lines μ-lines = record { before = record { before = record { before = m .before; match = w .0 }; found = w .1 }; known-told = w .2 } in
       let e : tie.After-enum-told2 Inv-loop μ-loop Inv-lines μ-lines = record { before = record { before = record { before = record { before = k; input = w .3 }; parse-line = w .4 }; match2 = w .5 }; enum-told2 = w .6 } in
-      let b : tie.After-shared-slice-known2 Inv-loop μ-loop Inv-lines μ-lines = record { before = record { before = record { before = e; loop = w .7 }; loop-test = w .8 }; shared-slice-known2 = w .9 } in
-      let is : m .match .illegal ≡ number k = w .11 in
+      let b : tie.After-shared-slice-known2 Inv-loop μ-loop Inv-lines μ-lines = record { before = record { before = record { before = record { before = record { before = e; classes = w .7 }; pass-bytes = w .8 }; loop = w .9 }; loop-test = w .10 }; shared-slice-known2 = w .11 } in
+      let is : m .match .illegal ≡ number k = w .13 in
       ap gives (rest-illegal (m .match .illegal) (limits last .names) (count last) (λ z. omega (arith, z, is)) ∙ ap (refused 3) is)
-      ∙ illegal-byte (record { before = b; if1 = w .10 }))
+      ∙ illegal-byte (record { before = b; if1 = w .12 }))
       (m .match .came)
 
 lines-holds : tie.Need-lines-holds Inv-loop μ-loop Inv-lines μ-lines
-unfolding four padded textOf
-lines-holds c = (omega arith, passed-none _ _ _ _ _ refl refl)
+unfolding four
+lines-holds c = (omega arith, passed-none (now (c .before .before .before .before .args .body)) _ _ _ _ _ (no-parts (now (c .before .before .before .before .args .body))) refl)
 
 returns : tie.Need-returns Inv-loop μ-loop Inv-lines μ-lines
+unfolding four
 returns c =
     let p = c .before .before .before .before in
     let k = p .before .before in
-    ap toldNames (c .refuse-names .ensures)
+    ap (toldNames (body (head k))) (c .refuse-names .ensures)
     ∙ refusal k (line-refused _ _ _ _ _ (shape-says p ∙ ap told (c .before .before .outcome .given .1)))
+
+loop-holds : tie.Need-loop-holds Inv-loop μ-loop Inv-lines μ-lines
+loop-holds c = c .pass-bytes .ensures .says ∙ ap (all legal) (sym (part-end (line (c .before .before .before .before .before .before)) (c .pass-bytes .result)))
 
 loop-again : tie.Need-loop-again Inv-loop μ-loop Inv-lines μ-lines
 loop-again c =
     let k = this (c .before) in
     c .before .before .before .loop .inv
-    ∙ all-passes legal (line k) _ (length (line k)) (c .before .before .loop-test .taken) (omega arith) (by-table (c .before) (le-leb 1 (class (c .before)) (omega (arith, c .if1 .left))))
+    ∙ all-passes legal (line k) _ (length (line k)) (c .before .before .loop-test .taken) (omega arith) (by-table (c .before) (eq-eqb _ _ (c .if1 .left)))
 
 lines-again : tie.Need-lines-again Inv-loop μ-loop Inv-lines μ-lines
 lines-again c =
-    let text = c .before in
-    let e = text .before .before .before in
-    (counts (passed e), passed-more (so-far (passed e)) (passes e) (text .before .before .if2 .taken) (text .text-of .ensures ∙ ap textOf (part-end (line (passed e)) (skip (head (passed e))))) (c .digit-of .ensures))
+    let e = c .before .before in
+    (counts (passed e), passed-more (so-far (passed e)) (passes e) _ (c .before .if2 .taken) (sym (part-drop (skip (head (passed e))) (start (passed e)) (end (passed e)) (body (head (passed e))))) (c .digit-of .ensures))
 
 lines-again-2 : tie.Need-lines-again-2 Inv-loop μ-loop Inv-lines μ-lines
 lines-again-2 c = let e = c .before in (counts (passed e), passed-past (so-far (passed e)) (passes e) (c .if2 .left))
@@ -267,24 +274,23 @@ parse-name-and-address-spec =
     (λ c κs. search needs)
     returns
     (λ c. search needs)
-    (λ c. ap (all legal) (sym (part-end (line (c .before .before .before .before)) 0)))
+    (λ c κs. head (c .before .before .before .before .before) .before .class-table .ensures)
+    loop-holds
     (λ c. omega (arith, c .before .loop-test .taken))
     (λ c. omega (arith, is-byte c))
     (λ c. is-byte c)
     (λ c. omega (arith, c .before .before .loop-test .taken))
     (λ c. omega (arith, c .before .before .loop-test .taken))
     loop-again
-    (λ c. room (c .before))
-    (λ c. room (c .before))
-    (λ c. omega arith)
+    (λ c. omega (arith, ends-at (c .before)))
+    (λ c. omega (arith, ends-at (c .before)))
+    (λ c. omega (arith, c .if2 .taken))
+    (λ c. omega (arith, c .if2 .taken))
     (λ c κs. search needs)
-    (λ c. omega (arith, c .before .before .if2 .taken))
-    (λ c. omega (arith, c .before .before .if2 .taken))
-    (λ c κs. search needs)
-    (λ c. omega (arith, c .before .before .before .if2 .taken))
-    (λ c. let k = passed (c .before .before .before .before) in omega (arith, fits k .moved, fits k .within))
+    (λ c. omega (arith, c .before .if2 .taken))
+    (λ c. let k = passed (c .before .before) in omega (arith, fits k .moved, fits k .within))
     lines-again
     (λ c. let k = passed (c .before) in omega (arith, fits k .moved, fits k .within))
     lines-again-2
     (λ c κs. search needs)
-    (λ c. c .counted .ensures ∙ ends (c .before)))
+    (λ c. c .counted .ensures (body (last (c .before))) ∙ ends (c .before)))

@@ -3,27 +3,26 @@
 use Prim.Native.Nat.{_≤_, _-_}
 use mathlib.Core.Path.{_≡_}
 use native.Mathlib.Omega.{arith}
-use Rattle.party.proofs.Values.{is-party}
+use lib.ListN.{length-map}
 use Rattle.flat.specs.Flat.{digitsAt}
 use Rattle.flat.proofs.Laws.{Copied, copied-none, copied-more}
 use Rattle.flat.proofs.put_digits.Statement.{statement}
 use Rattle.flat.proofs.put_digits.Tie as tie
 
 abbrev Inv-loop : tie.InvT-loop
-Inv-loop out₀ p i₀ out i = (i ≤ 4) × Copied out₀ digitsAt (p .digits) i out
+Inv-loop out₀ digits i₀ out i = (i ≤ 4) × Copied out₀ digitsAt digits i out
 
 abbrev μ-loop : tie.MeasureT-loop
-μ-loop out₀ p i₀ out i = 4 - i
+μ-loop out₀ digits i₀ out i = 4 - i
 
 loop-holds : tie.Need-loop-holds Inv-loop μ-loop
 loop-holds c = (omega arith, copied-none _ digitsAt _)
 
 loop-again : tie.Need-loop-again Inv-loop μ-loop
 loop-again c =
-    let at = c .before .before in
+    let at = c .before in
     let start = at .before in
-    let p = start .args .t1 in
-    (omega arith, copied-more (start .args .out .now) digitsAt (p .digits) (at .loop .i) (at .loop .out) (at .loop .inv .1) (omega arith) (omega (arith, is-party p _ (start .good .0) .digits)))
+    (omega arith, copied-more (start .args .out .now) digitsAt (start .args .t1) (at .loop .i) (at .loop .out) (at .loop .inv .1) (omega arith) (omega (arith, length-map (start .args .t1) (λ v. v), start .good .0 .1 .0 .1)))
 
 same-length : tie.Need-same-length Inv-loop μ-loop
 same-length c = c .before .loop .inv .1 .size

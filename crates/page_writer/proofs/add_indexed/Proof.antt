@@ -1,106 +1,43 @@
--- `page_writer::add_indexed` meets its contract, by what adding answers. Assumes nothing.
-use mathlib.Core.Path.{_≡_, sym, _∙_, ap}
-use mathlib.Core.List.{List, [], _∷_}
-use Prim.Native.Nat.{ℕ, _+_}
-use native.Mathlib.Omega.{arith}
-use borrow.Author.Tests.{ltb-true}
-use lib.Dec.{ltb}
-use lib.ListN.{length, length-append}
+-- `page_writer::add_indexed` meets its contract: what was stored is added as the record. Assumes nothing.
+use mathlib.Core.Path.{_∙_, ap}
+use mathlib.Core.List.{List}
+use Prim.Native.Nat.{ℕ}
+use native.Mathlib.Nat.{le-refl}
 use denote.Ref.{now}
 use borrow.Author.Needs.{needs}
-use Rattle.errors.specs.Refusals.{Reply, accepted}
-use Rattle.party.specs.Party.{Said, said}
-use Rattle.writer.specs.Writing.{writtenField}
-use Rattle.page_reader.specs.Index.{Entry, indexMost, entriesOf}
-use Rattle.page_writer.specs.declared.Filed.{Filed}
-use Rattle.page_writer.specs.Beside.{anIndex, noted}
-use Rattle.page_writer.specs.Adding.{withLf, addReply, freeBeside, add, toldCall}
-use Rattle.page_writer.specs.Code.{heldCall, Notes}
-use Rattle.page_writer.proofs.Addings.{add-by, reply-space, reply-free, add-record, put-accepted, put-refused, index-by, entry-is}
+use Rattle.party.specs.Party.{said}
+use Rattle.party.proofs.Values.{is-party}
+use Rattle.flat.specs.Flat.{recordSize, unflatten}
+use Rattle.page_writer.specs.Beside.{anIndex}
+use Rattle.page_writer.specs.Adding.{add as addTo, addIndex}
+use Rattle.page_writer.proofs.Addings.{add-stored, index-stored}
 use Rattle.page_writer.proofs.add_indexed.Statement.{statement}
 use Rattle.page_writer.proofs.add_indexed.Tie as tie
 
-module _ (k : tie.After-file-held) where
-  abbrev h : tie.After-hold
-  h = k .before .before .before .before
-
-  abbrev e : tie.After-entry-count
-  e = h .before .before .before
-
-  abbrev start : tie.Start
-  start = e .before .before .before
-
-  abbrev buffer : List ℕ
-  buffer = now (start .args .buf)
-
-  abbrev at : ℕ
-  at = start .args .at
-
-  abbrev s : Said
-  s = said (start .args .p)
-
-  abbrev d : List ℕ
-  d = now (start .args .index)
-
-  abbrev reply : Reply
-  reply = addReply buffer at (freeBeside (anIndex d)) s
-
-  counted : e .entry-count .result ≡ length (entriesOf d)
-  counted = e .entry-count .ensures .0
-
-  -- what the add is
-  called : {r : Filed} → k .file-held .result ≡ r → toldCall r (k .file-held .last .0) ≡ add buffer at (anIndex d) s
-  called q =
-      sym (ap (λ (x : Filed). toldCall x (k .file-held .last .0)) q) ∙ k .file-held .ensures
-      ∙ ap (λ (n : ℕ). heldCall buffer at (h .hold .result) (h .hold .last .1 .1 .1 .0) (ltb n indexMost)) counted ∙ h .hold .ensures .adds (anIndex d)
-
--- an accepted one
-module _ (t : tie.After-next) where
-  abbrev f : tie.After-file-held
-  f = t .before .before .before .before
-
-  abbrev next : ℕ
-  next = t .next .given .0 .0
-
-  passed : (reply f ≡ accepted) × (next ≡ at f + length (withLf (writtenField (s f))))
-  passed = put-accepted (reply f) (buffer f) (at f) (withLf (writtenField (s f))) (called f (t .next .given .1) ∙ add-by (buffer f) (at f) (anIndex (d f)) (s f))
-
-  notes : Notes (d f) (e f .entry-count .result) (at f) next
-  notes =
-      let r = add-record (buffer f) (at f) (freeBeside (anIndex (d f))) (s f) (passed .0) in
-      let free = ltb-true (length (entriesOf (d f))) indexMost (reply-free (length (buffer f)) (at f) (freeBeside (anIndex (d f))) (s f) r) in
-      let space = reply-space (length (buffer f)) (at f) (freeBeside (anIndex (d f))) (s f) r in
-      let n = length-append (writtenField (s f)) (10 ∷ []) in
-      record {
-        size = e f .entry-count .ensures .1;
-        entries = counted f;
-        free = omega (arith, free, counted f);
-        from = omega (arith, passed .1, n);
-        most = omega (arith, passed .1, space);
-      }
+returns : tie.Need-returns
+returns c =
+    let r = c .before .before in
+    let t = r .before .before .before .before .before in
+    let start = t .before .before .before in
+    let a = start .args in
+    let buffer = now (a .buf) in
+    let b = anIndex (now (a .index)) in
+    let is = is-party (a .p) _ (start .good .0) in (
+      r .add-indexed-record .ensures .0
+          ∙ ap (λ (s : List ℕ). addTo buffer (a .at) b (said (unflatten s))) (t .store .ensures .1)
+          ∙ add-stored (a .p) is _ (le-refl recordSize) buffer (a .at) b,
+      r .add-indexed-record .ensures .1
+          ∙ ap (λ (s : List ℕ). addIndex buffer (a .at) b (said (unflatten s))) (t .store .ensures .1)
+          ∙ index-stored (a .p) is _ (le-refl recordSize) buffer (a .at) b,
+    )
 
 pub add-indexed-spec : {M : Type 1} → statement M
 add-indexed-spec =
     tie.close
     (tie.spec
-    (λ c κs. search needs)
     (λ c. search needs)
     (λ c κs. search needs)
     (λ c. search needs)
-    (λ c κs. c .before .before .before .hold .ensures .fits)
+    (λ c κs. search needs)
     (λ c. search needs)
-    (λ c κs. notes (c .before .before))
-    (λ c. search needs)
-    (λ c. search needs)
-    (λ c.
-    let t = c .before .before .before in
-    let k = f t in (
-      called k (t .next .given .1),
-      ap anIndex (c .note .ensures ∙ ap (λ (e : Entry). noted e (d k)) (entry-is (start k .args .p) (at k) (passed t .1))) ∙ sym (index-by (buffer k) (at k) (anIndex (d k)) (s k) (passed t .0)),
-    ))
-    (λ c. search needs)
-    (λ c.
-    let t = c .before in
-    let k = t .before .before .before .before in
-    let q = called k (t .e .given .1) in
-    (q, sym (index-by (buffer k) (at k) (anIndex (d k)) (s k) (put-refused (reply k) (buffer k) (at k) (withLf (writtenField (s k))) (q ∙ add-by (buffer k) (at k) (anIndex (d k)) (s k)))))))
+    returns)

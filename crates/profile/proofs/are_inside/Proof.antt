@@ -6,13 +6,13 @@ use mathlib.Core.Logic.{⊎-elim}
 use Prim.Native.Nat.{ℕ, _-_, _≤_, _<_}
 use native.Mathlib.Omega.{arith}
 use denote.Ref.{now}
-use lib.Dec.{leb, eqb}
 use lib.ListN.{length, getD}
-use borrow.Author.Tests.{le-leb, lt-leb}
+use borrow.Author.Tests.{eq-eqb, ne-eqb}
 use Rattle.swift_utils.specs.Bytes.{all, small, narrow}
+use Rattle.swift_utils.specs.Classes.{hasBits}
 use Rattle.swift_utils.proofs.Classes.{class-narrow, class-small, all-fails, all-passes, all-done}
 use Rattle.swift_utils.proofs.Parts.{part, part-end}
-use Rattle.swift_utils.proofs.Table.{class-at, by-entry}
+use Rattle.swift_utils.proofs.Table.{by-entry}
 use Rattle.field_utils.proofs.Tests.{both}
 use Rattle.profile.proofs.Laws.{byteInside, bytes-inside}
 use Rattle.profile.proofs.are_inside.Statement.{statement}
@@ -38,11 +38,11 @@ module _ (c : tie.At-loop Inv-loop μ-loop) where
   abbrev entry : ℕ
   entry = getD (now (c .before .args .classes)) b 0
 
-  narrow-is : {t : Bool} → leb 3 entry ≡ t → narrow b ≡ t
-  narrow-is e = sym (class-narrow b) ∙ by-entry 3 b (c .before .pre) e
+  narrow-is : {t : Bool} → hasBits 4 entry ≡ t → narrow b ≡ t
+  narrow-is e = sym (class-narrow b) ∙ by-entry 4 b (c .before .pre) e
 
-  small-is : {t : Bool} → eqb entry 5 ≡ t → small b ≡ t
-  small-is e = sym (class-small b) ∙ ap (λ (k : ℕ). eqb k 5) (sym (class-at b)) ∙ ap (λ (l : List ℕ). eqb (getD l b 0) 5) (sym (c .before .pre)) ∙ e
+  small-is : {t : Bool} → hasBits 64 entry ≡ t → small b ≡ t
+  small-is e = sym (class-small b) ∙ by-entry 64 b (c .before .pre) e
 
   fails : c .loop .i < length line → byteInside holds b ≡ false → all (byteInside holds) line ≡ false
   fails h t = c .loop .inv .1 ∙ all-fails (byteInside holds) line (c .loop .i) (length line) h (omega arith) t
@@ -62,7 +62,7 @@ element-copy-out-class c = is-byte c
 returns : tie.Need-returns Inv-loop μ-loop
 returns c =
     let l = c .before .before .before .before in
-    let n : narrow (b l) ≡ false = narrow-is l (lt-leb _ _ (c .if1 .taken)) in
+    let n : narrow (b l) ≡ false = narrow-is l (ne-eqb _ _ (c .if1 .taken)) in
     sym (sym (bytes-inside (holds l) (line l)) ∙ fails l (omega arith) (rw n))
 
 returns-2 : tie.Need-returns-2 Inv-loop μ-loop
@@ -76,7 +76,7 @@ returns-2 c =
 passed : (c : tie.Joined2 Inv-loop μ-loop) → let l = c .before .before .before .before .before in byteInside (holds l) (b l) ≡ true
 passed c =
     let l = c .before .before .before .before .before in
-    let n : narrow (b l) ≡ true = narrow-is l (le-leb _ _ (c .before .if1 .left)) in
+    let n : narrow (b l) ≡ true = narrow-is l (eq-eqb _ _ (c .before .if1 .left)) in
     let other : (not (holds l) || not (small (b l))) ≡ true =
     ⊎-elim (λ e. let s : small (b l) ≡ false = small-is l (e .1 .left) in rw s (or-true (not (holds l)))) (λ e. rw (e .left)) (c .if2 .came) in
     both (narrow (b l)) (not (holds l) || not (small (b l))) n other

@@ -1,28 +1,17 @@
--- `reader::read` meets its contract, by the layout. Assumes nothing.
+-- `reader::read` meets its contract: 12 and 13, then the option's own. Assumes nothing.
 use mathlib.Core.Path.{_≡_, sym, _∙_, ap}
 use denote.Ref.{now}
+use Rattle.errors.specs.declared.Outcome.{Outcome}
 use Rattle.errors.specs.Refusals.{accepted, told}
-use Rattle.party.specs.declared.Layout.{Layout}
-use Rattle.party.specs.declared.Limits.{Limits}
-use Rattle.reader.specs.Reading.{toldAnswer}
-use Rattle.reader.specs.Options.{foundBy, bodyReply, read}
-use Rattle.reader.specs.Code.{readingOf}
+use Rattle.party.specs.declared.Party.{Party}
+use Rattle.party.specs.Party.{partyIn}
+use Rattle.reader.specs.Reading.{Reading, giving, toldAnswer}
+use Rattle.reader.specs.Options.{read}
+use Rattle.reader.specs.Code.{toldParts}
 use Rattle.reader.proofs.Bodies.{body-refused, body-passed}
 use borrow.Author.Needs.{needs}
 use Rattle.reader.proofs.read.Statement.{statement}
 use Rattle.reader.proofs.read.Tie as tie
-
--- past 12 and 13
-passed : (c : tie.After-enum-told) → bodyReply (now (c .before .before .before .before .args .body)) ≡ accepted
-passed c = sym (c .before .before .parse-body .ensures) ∙ ap told (c .enum-told .given .1)
-
--- what the option finds, by its layout
-by : (g : tie.After-limits-of) {k : Layout} → g .limits-of .result .layout ≡ k → let a = g .before .before .before .before .before .args in
-    readingOf (a .option) (foundBy k (a .option) (now (a .body))) ≡ read (a .option) (now (a .body))
-by g e =
-    let a = g .before .before .before .before .before .args in
-    ap (λ (w : Layout). readingOf (a .option) (foundBy w (a .option) (now (a .body)))) (sym e ∙ ap (λ (m : Limits). m .layout) (g .limits-of .ensures))
-    ∙ sym (body-passed (a .option) (now (a .body)) (passed (g .before)))
 
 returns : tie.Need-returns
 returns c =
@@ -30,14 +19,27 @@ returns c =
     let a = p .before .before .args in
     ap toldAnswer (c .refuse .ensures) ∙ sym (body-refused (a .option) (now (a .body)) (c .before .before .outcome .given .0 .0) (sym (p .parse-body .ensures) ∙ ap told (c .before .before .outcome .given .1)))
 
+-- past 12 and 13 the option's own checks say it
+owned : (o : tie.After-read-own) → let p = o .before .before .before in let a = p .before .before .args in
+    toldParts (now (a .body)) (o .read-own .result) ≡ read (a .option) (now (a .body))
+owned o =
+    let p = o .before .before .before in
+    let a = p .before .before .args in
+    o .read-own .ensures ∙ sym (body-passed (a .option) (now (a .body)) (sym (p .parse-body .ensures) ∙ ap told (o .before .enum-told .given .1)))
+
 returns-2 : tie.Need-returns-2
-returns-2 c = c .read-bic-only .ensures ∙ by (c .before .before .before) (c .before .enum-told2 .given .1)
+returns-2 c =
+    let o = c .before .before .before .before in
+    let a = o .before .before .before .before .before .args in
+    ap toldAnswer (c .refuse2 .ensures) ∙ ap (λ (x : Outcome). giving (told x) (partyIn (now (a .body)) (o .read-own .result .parts))) (sym (c .before .before .own .given .1)) ∙ owned o
 
 returns-3 : tie.Need-returns-3
-returns-3 c = c .read-text-only .ensures ∙ by (c .before .before .before) (c .before .enum-told3 .given .1)
-
-returns-4 : tie.Need-returns-4
-returns-4 c = c .read-lines .ensures ∙ by (c .before .before .before) (c .before .enum-told4 .given .1)
+returns-3 c =
+    let o = c .before .before .before .before in
+    let a = o .before .before .before .before .before .args in
+    ap {B = Reading} (λ (p : Party). record { reply = accepted; party = p }) (c .party-of .ensures)
+    ∙ ap (λ (x : Outcome). giving (told x) (partyIn (now (a .body)) (o .read-own .result .parts))) (sym (c .before .before .enum-told2 .given .1))
+    ∙ owned o
 
 pub read-spec : {M : Type 1} → statement M
 read-spec =
@@ -51,10 +53,7 @@ read-spec =
     (λ c κs. search needs)
     (λ c. search needs)
     (λ c κs. search needs)
-    (λ c. search needs)
-    (λ c κs. search needs)
-    (λ c. search needs)
-    (λ c κs. search needs)
     returns-2
-    returns-3
-    returns-4)
+    (λ c. search needs)
+    (λ c κs. search needs)
+    returns-3)

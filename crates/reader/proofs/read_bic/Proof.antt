@@ -7,6 +7,7 @@ use native.Mathlib.Omega.{arith}
 use denote.Ref.{now}
 use lib.ListN.{drop}
 use Rattle.errors.specs.Refusals.{told}
+use Rattle.party.specs.Text.{partIn}
 use Rattle.swift_utils.specs.Checks.{parseBic}
 use Rattle.swift_utils.proofs.Parts.{part}
 use Rattle.field_utils.specs.Lines.{lines}
@@ -20,55 +21,47 @@ use Rattle.reader.proofs.read_bic.Statement.{statement}
 use Rattle.reader.proofs.read_bic.Tie as tie
 
 -- what the line that was found says
-fits : (c : tie.After-known-told) → let v = c .before .found .given .0 in let a = c .before .before .before .before .before .before .args in
+fits : (c : tie.After-known-told) → let v = c .before .found .given .0 in let a = c .before .before .before .before .before .args in
     Found (now (a .body)) (a .from .at) (v .0) (v .1 .0) (v .1 .1 .0 .at)
 fits c =
-    let a = c .before .before .before .before .before .before .args in
+    let a = c .before .before .before .before .before .args in
     found (now (a .body)) (a .from .at) (c .before .before .before .next .ensures) (c .before .found .given .1)
 
 -- what is said of it
-said : (c : tie.After-parse-bic) → let k = c .before .before in let a = k .before .before .before .before .before .before .args in
-    withBic (suc (a .start-idx)) (passedHead (a .present) (now (a .account))) (lines (drop (a .from .at) (now (a .body)))) .reply ≡ told (c .parse-bic .result)
+said : (c : tie.After-parse-bic) → let k = c .before .before in let a = k .before .before .before .before .before .args in
+    withBic (suc (a .start-idx)) (passedHead (a .present) (partIn (now (a .body)) (a .account))) (lines (drop (a .from .at) (now (a .body)))) .reply ≡ told (c .parse-bic .result)
 said c =
     let k = c .before .before in
-    let a = k .before .before .before .before .before .before .args in
+    let a = k .before .before .before .before .before .args in
     let v = k .before .found .given .0 in
-    ap (λ (ls : List (List ℕ)). withBic (suc (a .start-idx)) (passedHead (a .present) (now (a .account))) ls .reply) (fits k .line)
+    ap (λ (ls : List (List ℕ)). withBic (suc (a .start-idx)) (passedHead (a .present) (partIn (now (a .body)) (a .account))) ls .reply) (fits k .line)
     ∙ ap (λ (n : ℕ). parseBic n (part (v .0) (v .1 .0) (now (a .body)))) (sym (add-one (a .start-idx)))
     ∙ sym (c .parse-bic .ensures)
 
 returns : tie.Need-returns
 returns c =
     let n = c .before .before .before in
-    let a = n .before .before .before .args in
-    refusing (a .option) _ (c .refuse .ensures)
-    (ap (λ (ls : List (List ℕ)). withBic (suc (a .start-idx)) (passedHead (a .present) (now (a .account))) ls .reply)
+    let a = n .before .before .args in
+    refusing (a .option) _ (now (a .body)) (c .turn-away .result) (c .turn-away .ensures)
+    (ap (λ (ls : List (List ℕ)). withBic (suc (a .start-idx)) (passedHead (a .present) (partIn (now (a .body)) (a .account))) ls .reply)
     (found (now (a .body)) (a .from .at) (n .next .ensures) (c .before .enum-told .given .1) .0))
-
-sub-bic : tie.Need-sub-bic
-sub-bic c = omega (arith, fits c .forward)
-
-part-bic-start : tie.Need-part-bic-start
-part-bic-start c = omega (arith, fits c .forward)
-
-part-bic-end : tie.Need-part-bic-end
-part-bic-end c = omega (arith, fits c .before, fits c .within)
 
 returns-2 : tie.Need-returns-2
 returns-2 c =
     let p = c .before .before .before .before in
-    refusing _ _ (c .refuse2 .ensures) (said p ∙ ap told (c .before .before .outcome .given .1))
+    let a = p .before .before .before .before .before .before .before .args in
+    refusing (a .option) _ (now (a .body)) (c .turn-away2 .result) (c .turn-away2 .ensures) (said p ∙ ap told (c .before .before .outcome .given .1))
 
 returns-3 : tie.Need-returns-3
 unfolding partyOf
 returns-3 c =
     let p = c .before .before .before .before in
     let k = p .before .before in
-    let a = k .before .before .before .before .before .before .args in
-    accepting (a .option) (withBic (suc (a .start-idx)) (passedHead (a .present) (now (a .account))) (lines (drop (a .from .at) (now (a .body))))) (c .accept .ensures)
+    let a = k .before .before .before .before .before .args in
+    accepting (a .option) (withBic (suc (a .start-idx)) (passedHead (a .present) (partIn (now (a .body)) (a .account))) (lines (drop (a .from .at) (now (a .body))))) (now (a .body)) (c .accept .result) _ (c .accept .ensures)
     (said p ∙ ap told (c .before .before .enum-told2 .given .1))
-    (c .before .nameless-party .ensures
-    ∙ ap (λ (ls : List (List ℕ)). partyOf (a .option) (withBic (suc (a .start-idx)) (passedHead (a .present) (now (a .account))) ls)) (sym (fits k .line)))
+    (c .before .nameless-parts .ensures (now (a .body))
+    ∙ ap (λ (ls : List (List ℕ)). partyOf (a .option) (withBic (suc (a .start-idx)) (passedHead (a .present) (partIn (now (a .body)) (a .account))) ls)) (sym (fits k .line)))
 
 pub read-bic-spec : {M : Type 1} → statement M
 read-bic-spec =
@@ -79,15 +72,16 @@ read-bic-spec =
     (λ c. search needs)
     (λ c κs. search needs)
     returns
-    sub-bic
-    part-bic-start
-    part-bic-end
+    (λ c. omega (arith, fits c .forward))
+    (λ c. omega (arith, fits c .forward))
+    (λ c. omega (arith, fits c .before, fits c .within))
     (λ c. search needs)
     (λ c κs. search needs)
     (λ c. search needs)
     (λ c κs. search needs)
     returns-2
     (λ c. search needs)
+    (λ c. omega (arith, fits (c .before .before .before .before) .forward))
     (λ c κs. search needs)
     (λ c κs. search needs)
     returns-3)

@@ -1,16 +1,19 @@
 -- `reader::read_lines` meets its contract: the count, the first line, then the lines after it. Assumes nothing.
-use mathlib.Core.Path.{_≡_, sym, _∙_, ap}
-use mathlib.Core.Bool.{Bool, false}
+use mathlib.Core.Path.{_≡_, refl, sym, _∙_, ap}
+use mathlib.Core.Bool.{Bool, true, false}
 use mathlib.Core.List.{List, [], _∷_}
-use Prim.Native.Nat.{ℕ}
+use Prim.Native.Nat.{ℕ, suc}
 use native.Mathlib.Omega.{arith}
 use denote.Ref.{now}
 use lib.ListN.{length, drop}
 use borrow.Author.Tests.{not-true, not-false}
-use Rattle.errors.specs.Refusals.{told}
+use Rattle.errors.specs.Refusals.{accepted, told}
+use Rattle.party.specs.declared.PartyOption.{PartyOption}
+use Rattle.party.specs.Text.{partIn}
 use Rattle.swift_utils.proofs.Parts.{part}
 use Rattle.field_utils.specs.Lines.{lines}
 use Rattle.field_utils.proofs.Places.{Found, found}
+use Rattle.reader.specs.declared.RestAt.{RestAt}
 use Rattle.reader.specs.Options.{isCounted, afterHead, byLines}
 use Rattle.reader.specs.Code.{passedHead, readingOf}
 use Rattle.reader.proofs.Readings.{refusing}
@@ -39,11 +42,11 @@ returns : tie.Need-returns
 returns c =
     let n = c .before .before .before in
     let a = n .before .before .args in
-    refusing (a .option) _ (c .refuse .ensures)
+    refusing (a .option) _ (now (a .body)) (c .turn-away .result) (c .turn-away .ensures)
     (ap (λ (ls : List (List ℕ)). byLines (a .option) ls .reply) (found (now (a .body)) 0 (n .next .ensures) (c .before .enum-told .given .1) .0))
 
 counts-requires : tie.Need-counts-requires
-counts-requires c κs = omega (arith, fits c .moved, fits c .within)
+counts-requires c κs = ap length (fits c .line)
 
 returns-2 : tie.Need-returns-2
 returns-2 c =
@@ -51,17 +54,8 @@ returns-2 c =
     let k = n .before in
     let v = k .before .found .given .0 in
     let a = k .before .before .before .before .before .args in
-    refusing (a .option) _ (c .refuse2 .ensures)
+    refusing (a .option) _ (now (a .body)) (c .turn-away2 .result) (c .turn-away2 .ensures)
     (ap (λ (ls : List (List ℕ)). byLines (a .option) ls .reply) (fits k .line) ∙ lines-count (a .option) (part (v .0) (v .1 .0) (now (a .body))) (lines (drop (v .1 .1 .0 .at) (now (a .body)))) (counted n (not-true _ (c .before .if1 .taken))))
-
-sub-line : tie.Need-sub-line
-sub-line c = omega (arith, fits (c .before .before) .forward)
-
-part-line-start : tie.Need-part-line-start
-part-line-start c = omega (arith, fits (c .before .before) .forward)
-
-part-line-end : tie.Need-part-line-end
-part-line-end c = omega (arith, fits (c .before .before) .before, fits (c .before .before) .within)
 
 returns-3 : tie.Need-returns-3
 returns-3 c =
@@ -70,40 +64,66 @@ returns-3 c =
     let k = n .before in
     let v = k .before .found .given .0 in
     let a = k .before .before .before .before .before .args in
-    refusing (a .option) _ (c .refuse3 .ensures)
+    refusing (a .option) _ (now (a .body)) (c .turn-away3 .result) (c .turn-away3 .ensures)
     (ap (λ (ls : List (List ℕ)). byLines (a .option) ls .reply) (fits k .line)
     ∙ head-refused (a .option) (part (v .0) (v .1 .0) (now (a .body))) (lines (drop (v .1 .1 .0 .at) (now (a .body)))) (p .parse-head .ensures) (counted n (not-false _ (p .before .before .if1 .left))) (ap told (c .before .before .outcome .given .1)))
 
+-- past the first line, by whether it has an account or identifier
+module _ (o : tie.After-rest-of) where
+  abbrev e : tie.After-enum-told2
+  e = o .before
+
+  abbrev p : tie.After-parse-head
+  p = e .before .before
+
+  abbrev n : tie.After-counts
+  n = p .before .before .before
+
+  abbrev k : tie.After-known-told
+  k = n .before
+
+  abbrev option : PartyOption
+  option = k .before .before .before .before .before .args .option
+
+  abbrev body : List ℕ
+  body = now (k .before .before .before .before .before .args .body)
+
+  -- the first line, and those after it
+  abbrev line : List ℕ
+  line = part (k .before .found .given .0 .0) (k .before .found .given .0 .1 .0) body
+
+  abbrev others : List (List ℕ)
+  others = lines (drop (k .before .found .given .0 .1 .1 .0 .at) body)
+
+  abbrev later : RestAt
+  later = o .rest-of .result
+
+  passed : isCounted option (length (line ∷ others)) ≡ true
+  passed = counted n (not-false _ (p .before .before .if1 .left))
+
+  accepts : told (p .parse-head .result .outcome) ≡ accepted
+  accepts = ap told (e .enum-told2 .given .1)
+
+  rest-is : (t : Bool) → p .parse-head .result .present ≡ t
+      → afterHead option (suc (later .«start_idx»)) (passedHead (p .parse-head .result .present) (partIn body (later .account))) (lines (drop (later .from .at) body)) ≡ byLines option (lines body)
+  rest-is true q =
+      let i = o .rest-of .ensures .0 q in
+      let found : afterHead option (suc (later .«start_idx»)) (passedHead (p .parse-head .result .present) (partIn body (later .account))) (lines (drop (later .from .at) body)) ≡ afterHead option 2 (passedHead true (drop (p .parse-head .result .skip) line)) others =
+      λ j. afterHead option (suc (i .one j)) (passedHead (q j) (i .account body j)) (lines (drop (i .from j .at) body)) in
+      found
+      ∙ sym (ap (byLines option) (fits k .line) ∙ head-there option line others (p .parse-head .ensures) passed q (told-text line (p .parse-head .result) q) accepts)
+  rest-is false q =
+      let r = o .rest-of .ensures .1 q in
+      let found : afterHead option (suc (later .«start_idx»)) (passedHead (p .parse-head .result .present) (partIn body (later .account))) (lines (drop (later .from .at) body)) ≡ afterHead option 1 (passedHead false []) (lines body) =
+      λ j. afterHead option (suc (r j .«start_idx»)) (passedHead (q j) (partIn body (r j .account))) (lines (drop (r j .from .at) body)) in
+      found
+      ∙ ap (afterHead option 1 (passedHead false [])) (fits k .line)
+      ∙ sym (ap (byLines option) (fits k .line) ∙ head-none option line others (p .parse-head .ensures) passed q (told-none line (p .parse-head .result) q) accepts)
+
 returns-4 : tie.Need-returns-4
 returns-4 c =
-    let e = c .before .before .before in
-    let p = e .before .before in
-    let n = p .before .before .before in
-    let k = n .before in
-    let v = k .before .found .given .0 in
-    let a = k .before .before .before .before .before .args in
-    c .read-rest .ensures
-    ∙ ap (readingOf (a .option))
-    (sym
-    (ap (byLines (a .option)) (fits k .line)
-    ∙ head-there (a .option) (part (v .0) (v .1 .0) (now (a .body))) (lines (drop (v .1 .1 .0 .at) (now (a .body)))) (p .parse-head .ensures) (counted n (not-false _ (p .before .before .if1 .left))) (c .before .before .if2 .taken)
-    (told-text (part (v .0) (v .1 .0) (now (a .body))) (p .parse-head .result) (c .before .before .if2 .taken) ∙ sym (c .before .behind .ensures)) (ap told (e .enum-told2 .given .1))))
-
-returns-5 : tie.Need-returns-5
-returns-5 c =
-    let e = c .before .before .before in
-    let p = e .before .before in
-    let n = p .before .before .before in
-    let k = n .before in
-    let v = k .before .found .given .0 in
-    let a = k .before .before .before .before .before .args in
-    c .read-rest2 .ensures
-    ∙ ap (readingOf (a .option))
-    (ap (afterHead (a .option) 1 (passedHead false [])) (fits k .line)
-    ∙ sym
-    (ap (byLines (a .option)) (fits k .line)
-    ∙ head-none (a .option) (part (v .0) (v .1 .0) (now (a .body))) (lines (drop (v .1 .1 .0 .at) (now (a .body)))) (p .parse-head .ensures) (counted n (not-false _ (p .before .before .if1 .left))) (c .before .before .if2 .left)
-    (told-none (part (v .0) (v .1 .0) (now (a .body))) (p .parse-head .result) (c .before .before .if2 .left)) (ap told (e .enum-told2 .given .1))))
+    let o = c .before .before .before in
+    c .read-rest .ensures ∙ ap (readingOf (option o)) (rest-is o (p o .parse-head .result .present) refl)
 
 pub read-lines-spec : {M : Type 1} → statement M
 read-lines-spec =
@@ -117,9 +137,9 @@ read-lines-spec =
     counts-requires
     (λ c κs. search needs)
     returns-2
-    sub-line
-    part-line-start
-    part-line-end
+    (λ c. omega (arith, fits (c .before .before) .forward))
+    (λ c. omega (arith, fits (c .before .before) .forward))
+    (λ c. omega (arith, fits (c .before .before) .before, fits (c .before .before) .within))
     (λ c κs. search needs)
     (λ c. search needs)
     (λ c κs. search needs)
@@ -127,7 +147,4 @@ read-lines-spec =
     (λ c. search needs)
     (λ c κs. search needs)
     (λ c κs. search needs)
-    (λ c. search needs)
-    (λ c κs. search needs)
-    returns-4
-    returns-5)
+    returns-4)

@@ -1,10 +1,12 @@
 -- `reader::read_names` meets its contract: names that pass are those of the record. Assumes nothing.
-use mathlib.Core.Path.{_≡_, sym, _∙_, ap}
+use mathlib.Core.Path.{_≡_, refl, sym, _∙_, ap}
 use mathlib.Core.List.{List}
 use Prim.Native.Nat.{ℕ, suc}
 use denote.Ref.{now}
 use lib.ListN.{drop}
 use Rattle.errors.specs.Refusals.{told}
+use Rattle.party.specs.Text.{partIn}
+use Rattle.party.specs.Party.{partyIn}
 use Rattle.field_utils.specs.Lines.{lines}
 use Rattle.field_utils.specs.Names.{parseNameAndAddress, NamesRead}
 use Rattle.reader.specs.Options.{withNames}
@@ -17,7 +19,7 @@ use Rattle.reader.proofs.read_names.Tie as tie
 -- the lines that are read as names, and what is said of them
 module _ (p : tie.After-parse-name-and-address) where
   abbrev start : tie.Start
-  start = p .before .before .before
+  start = p .before .before
 
   abbrev names : List (List ℕ)
   names = lines (drop (start .args .from .at) (now (start .args .body)))
@@ -28,17 +30,20 @@ module _ (p : tie.After-parse-name-and-address) where
       ∙ sym (ap (λ (w : NamesRead). w .reply) (p .parse-name-and-address .ensures))
 
 returns : tie.Need-returns
-returns c = refusing _ _ (c .refuse .ensures) (says (c .before .before .before .before) ∙ ap told (c .before .before .outcome .given .1))
+returns c =
+    let a = start (c .before .before .before .before) .args in
+    refusing (a .option) _ (now (a .body)) (c .turn-away .result) (c .turn-away .ensures) (says (c .before .before .before .before) ∙ ap told (c .before .before .outcome .given .1))
 
 returns-2 : tie.Need-returns-2
+unfolding partyIn
 returns-2 c =
-    let e = c .before .before .before .before .before .before in
+    let e = c .before .before .before in
     let p = e .before .before in
     let a = start p .args in
+    let head = passedHead (a .present) (partIn (now (a .body)) (a .account)) in
     let passed = says p ∙ ap told (e .enum-told .given .1) in
-    accepting (a .option) (withNames (a .option) (suc (a .start-idx)) (passedHead (a .present) (now (a .account))) (names p)) (c .accept .ensures) passed
-    (party-named (a .option) (suc (a .start-idx)) (passedHead (a .present) (now (a .account))) (names p) passed
-    (c .before .before .before .text-of .ensures) (c .before .text-of2 .ensures) (p .parse-name-and-address .ensures))
+    accepting (a .option) (withNames (a .option) (suc (a .start-idx)) head (names p)) (now (a .body)) (c .accept .result) _ (c .accept .ensures) passed
+    (party-named (a .option) (suc (a .start-idx)) head (names p) passed refl refl (p .parse-name-and-address .ensures))
 
 pub read-names-spec : {M : Type 1} → statement M
 read-names-spec =
@@ -49,8 +54,5 @@ read-names-spec =
     (λ c κs. search needs)
     returns
     (λ c. search needs)
-    (λ c κs. search needs)
-    (λ c. search needs)
-    (λ c κs. search needs)
     (λ c κs. search needs)
     returns-2)

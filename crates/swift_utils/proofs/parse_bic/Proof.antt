@@ -10,7 +10,7 @@ use lib.Seq.{length-take-le}
 use borrow.Author.Tests.{not-true, not-false}
 use Rattle.errors.specs.Refusals.{must}
 use Rattle.swift_utils.specs.Bytes.{all, letter, alphanumeric}
-use Rattle.swift_utils.specs.Classes.{entryAtLeast}
+use Rattle.swift_utils.specs.Classes.{entryIn}
 use Rattle.swift_utils.specs.Checks.{bicLength, parseBic}
 use Rattle.swift_utils.proofs.Classes.{class-letter, class-alphanumeric}
 use Rattle.swift_utils.proofs.Table.{by-entries}
@@ -35,31 +35,31 @@ module _ (c : tie.Else1) where
   long = bicLength-least _ right
 
 -- past the test of the first six
-module _ (c : tie.After-all-at-least) where
+module _ (c : tie.After-all-in) where
   abbrev classes : tie.After-class-table
   classes = c .before .before .before
 
   abbrev tested : tie.Else1
   tested = classes .before
 
-  bank : {t : Bool} → c .all-at-least .result ≡ t → all letter (take 6 (input tested)) ≡ t
+  bank : {t : Bool} → c .all-in .result ≡ t → all letter (take 6 (input tested)) ≡ t
   bank e =
-      sym (by-entries 5 letter class-letter (classes .class-table .result) (take 6 (input tested)) (classes .class-table .ensures))
-      ∙ sym (c .all-at-least .ensures)
+      sym (by-entries 16 letter class-letter (classes .class-table .result) (take 6 (input tested)) (classes .class-table .ensures))
+      ∙ sym (c .all-in .ensures)
       ∙ e
 
 -- past the test of the rest
-module _ (c : tie.After-all-at-least2) where
-  abbrev six : tie.After-all-at-least
+module _ (c : tie.After-all-in2) where
+  abbrev six : tie.After-all-in
   six = c .before .before .before .before
 
-  rest : {t : Bool} → c .all-at-least2 .result ≡ t → must t 10 (line (tested six)) ≡ parseBic (line (tested six)) (input (tested six))
+  rest : {t : Bool} → c .all-in2 .result ≡ t → must t 10 (line (tested six)) ≡ parseBic (line (tested six)) (input (tested six))
   rest e =
       sym
       (bic-rest (line (tested six)) (input (tested six)) (right (tested six)) (bank six (not-false _ (c .before .before .before .if2 .left)))
-      (sym (by-entries 4 alphanumeric class-alphanumeric (classes six .class-table .result) (drop 6 (input (tested six))) (classes six .class-table .ensures))
-      ∙ ap (all (entryAtLeast (classes six .class-table .result) 4)) (sym (part-end (input (tested six)) 6))
-      ∙ sym (c .all-at-least2 .ensures)
+      (sym (by-entries 8 alphanumeric class-alphanumeric (classes six .class-table .result) (drop 6 (input (tested six))) (classes six .class-table .ensures))
+      ∙ ap (all (entryIn (classes six .class-table .result) 8)) (sym (part-end (input (tested six)) 6))
+      ∙ sym (c .all-in2 .ensures)
       ∙ e))
 
 returns : tie.Need-returns

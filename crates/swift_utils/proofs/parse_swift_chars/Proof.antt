@@ -13,12 +13,12 @@ use Rattle.swift_utils.proofs.parse_swift_chars.Statement.{statement}
 use Rattle.swift_utils.proofs.parse_swift_chars.Tie as tie
 
 -- what the test of the class says
-tested : (c : tie.After-all-at-least) {t : Bool} → c .all-at-least .result ≡ t
+tested : (c : tie.After-all-in) {t : Bool} → c .all-in .result ≡ t
     → let a = c .before .before .before .before .args in must t 3 (a .line) ≡ parseSwiftChars (a .line) (now (a .input))
 tested c e =
     let t = c .before .before in
     let a = t .before .before .args in
-    sym (chars (a .line) (now (a .input)) (sym (by-entries 1 legal class-legal (t .class-table .result) (now (a .input)) (t .class-table .ensures)) ∙ sym (c .all-at-least .ensures) ∙ e))
+    sym (chars (a .line) (now (a .input)) (sym (by-entries 1 legal class-legal (t .class-table .result) (now (a .input)) (t .class-table .ensures)) ∙ sym (c .all-in .ensures) ∙ e))
 
 returns : tie.Need-returns
 returns c = tested (c .before) (c .if1 .taken)

@@ -1,63 +1,56 @@
 -- `writer::has_slash_name` meets its contract. Assumes nothing.
 use mathlib.Core.Path.{_≡_, sym, _∙_, ap}
+use mathlib.Core.List.{List}
 use Prim.Native.Nat.{ℕ}
 use native.Mathlib.Omega.{arith}
-use lib.ListN.{getD}
+use denote.Ref.{now}
 use Rattle.party.specs.declared.Party.{Party}
-use Rattle.party.specs.Party.{said, IsParty}
-use Rattle.party.proofs.Values.{is-party}
+use Rattle.party.specs.Party.{said}
 use Rattle.field_utils.specs.Lines.{starts}
-use Rattle.writer.specs.Code.{slashName}
-use Rattle.writer.proofs.Texts.{used-part, used-within, used-count}
-use Rattle.writer.proofs.Names.{none, namesIn, said-names, names-next}
+use Rattle.flat.specs.Flat.{partyFrom}
+use Rattle.flat.proofs.Laws.{party-names}
+use Rattle.writer.specs.Code.{nameCount, slashName}
+use Rattle.writer.proofs.Names.{namesIn, said-names, names-next, lent-count}
 use borrow.Author.Needs.{needs}
 use Rattle.writer.proofs.has_slash_name.Statement.{statement}
 use Rattle.writer.proofs.has_slash_name.Tie as tie
 
 module _ (k : tie.After-name-count) where
+  abbrev start : tie.Start
+  start = k .before .before .before
+
+  abbrev lent : List ℕ
+  lent = now (start .args .«record»)
+
   abbrev p : Party
-  p = k .before .args .t1
+  p = partyFrom lent
 
-  abbrev n : ℕ
-  n = k .name-count .result
+  count : k .name-count .result ≡ nameCount (p .option) (p .count)
+  count = lent-count lent (start .pre) (k .name-count .ensures)
 
-  sizes : IsParty p
-  sizes = is-party p _ (k .before .good .0)
-
-  names : said p .names ≡ namesIn n p
-  names = said-names p sizes (k .name-count .ensures)
+  names : said p .names ≡ namesIn (k .name-count .result) p
+  names = said-names p (party-names lent) count
 
 returns : tie.Need-returns
 returns c =
     let k = c .before in
     sym (ap slashName (names k ∙ ap (λ (m : ℕ). namesIn m (p k)) (c .if1 .taken)))
 
-array-share-prefix-bytes : tie.Need-array-share-prefix-bytes
-array-share-prefix-bytes c =
-    let u = c .before in
-    used-within (getD (p (c .before .before .before .before) .«name_and_address») 0 none) (u .used-length .result) (u .used-length .ensures .is)
-
-slice-aggregate-starts-with-slash : tie.Need-slice-aggregate-starts-with-slash
-slice-aggregate-starts-with-slash c =
-    let u = c .before .before in
-    used-count (getD (p (c .before .before .before .before .before) .«name_and_address») 0 none) (u .used-length .result) (u .used-length .ensures .is)
-
 returns-2 : tie.Need-returns-2
+unfolding partyFrom
 returns-2 c =
-    let k = c .before .before .before .before .before .before in
-    let u = c .before .before .before in
-    c .starts-with-slash .ensures ∙ ap (starts 47) (used-part (getD (p k .«name_and_address») 0 none) (u .used-length .result) (u .used-length .ensures .is))
-    ∙ sym (ap slashName (names k ∙ names-next (p k) (sizes k) (k .name-count .ensures) 0 (omega arith)))
+    let k = c .before .before .before in
+    c .starts-with-slash .ensures ∙ ap (starts 47) (c .before .used-text .ensures .is)
+    ∙ sym (ap slashName (names k ∙ names-next (p k) (party-names (lent k)) (count k) 0 (omega arith)))
 
 pub has-slash-name-spec : {M : Type 1} → statement M
 has-slash-name-spec =
     tie.close
     (tie.spec
+    (λ c. search needs)
+    (λ c. omega (arith, c .shared-slice-known2 .given 2))
     (λ c κs. search needs)
     returns
-    (λ c. search needs)
     (λ c κs. search needs)
-    array-share-prefix-bytes
-    slice-aggregate-starts-with-slash
     (λ c κs. search needs)
     returns-2)

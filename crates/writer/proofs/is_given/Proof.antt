@@ -1,48 +1,76 @@
 -- `writer::is_given` meets its contract: each test is a part of the record's. Assumes nothing.
-use mathlib.Core.Path.{_≡_, refl, sym, _∙_, ap}
-use mathlib.Core.Bool.{true, not}
+use mathlib.Core.Path.{_≡_, refl, sym, _∙_}
+use mathlib.Core.Bool.{Bool, true, _&&_}
+use mathlib.Core.List.{List}
+use Prim.Native.Nat.{ℕ}
+use denote.Ref.{now}
 use borrow.Author.Tests.{not-true, not-false}
-use Rattle.writer.specs.Given.{isPresence}
-use Rattle.writer.proofs.Records.{accountTest, bicTest, namesTest, given-by}
+use Rattle.party.specs.declared.Party.{Party}
+use Rattle.party.specs.declared.PartyOption.{PartyOption}
+use Rattle.party.specs.Party.{said}
+use Rattle.flat.specs.Flat.{partyFrom}
+use Rattle.flat.proofs.Laws.{party-names}
+use Rattle.writer.specs.Given.{isPresence, isGiven}
+use Rattle.writer.specs.Code.{textsTest}
+use Rattle.writer.proofs.Records.{given-in-order}
 use borrow.Author.Needs.{needs}
 use Rattle.writer.proofs.is_given.Statement.{statement}
 use Rattle.writer.proofs.is_given.Tie as tie
 
--- what the tests that passed say
-presence : (e : tie.Else1) → isPresence (e .before .before .args .p .option) (e .before .before .args .p .present) ≡ true
-presence e = sym (e .before .is-presence .ensures) ∙ not-false _ (e .if1 .left)
+module _ (k : tie.After-is-presence) where
+  abbrev start : tie.Start
+  start = k .before .before .before
 
-account : (e : tie.Else2) → accountTest (e .before .before .before .before .before .args .p) ≡ true
-account e = sym (e .before .is-account .ensures) ∙ not-false _ (e .if2 .left)
+  abbrev lent : List ℕ
+  lent = now (start .args .«record»)
 
-bic : (e : tie.Else3) → bicTest (e .before .before .before .before .before .before .before .before .args .p) ≡ true
-bic e = sym (e .before .is-bic .ensures) ∙ not-false _ (e .if3 .left)
+  abbrev o : PartyOption
+  o = start .args .option
 
-names : (e : tie.Else4) → namesTest (e .before .before .before .before .before .before .before .before .before .before .args .p) ≡ true
-names e = sym (e .before .are-names .ensures) ∙ not-false _ (e .if4 .left)
+  abbrev p : Party
+  p = partyFrom lent
+
+  presence : {b : Bool} → k .is-presence .result ≡ b → isPresence o (p .present) ≡ b
+  unfolding partyFrom
+  presence e = sym (k .is-presence .ensures) ∙ e
+
+passed : (e : tie.Else1) → isPresence (o (e .before)) (p (e .before) .present) ≡ true
+passed e = presence (e .before) (not-false _ (e .if1 .left))
 
 returns : tie.Need-returns
-returns c = given-by (c .before .before .args .p) (sym (c .before .is-presence .ensures) ∙ not-true _ (c .if1 .taken)) refl refl refl refl
+returns c = let k = c .before in given-in-order (o k) (p k) (party-names (lent k)) (start k .pre .is) (presence k (not-true _ (c .if1 .taken))) refl refl refl
 
 returns-2 : tie.Need-returns-2
-returns-2 c = given-by (c .before .before .before .before .before .args .p) (presence (c .before .before .before)) (sym (c .before .is-account .ensures) ∙ not-true _ (c .if2 .taken)) refl refl refl
+returns-2 c =
+    let e = c .before .before in
+    let k = e .before in
+    given-in-order (o k) (p k) (party-names (lent k)) (start k .pre .is) (passed e) (sym (c .before .is-bic .ensures) ∙ not-true _ (c .if2 .taken)) refl refl
+
+module _ (t : tie.After-is-counted) where
+  abbrev k : tie.After-is-presence
+  k = t .before .before .before .before
+
+  counted : {b n : Bool} → t .is-counted .result ≡ n → p k .present ≡ b → (n && textsTest (o k) b (p k)) ≡ isGiven (said (p k))
+  counted e j =
+      given-in-order (o k) (p k) (party-names (lent k)) (start k .pre .is) (passed (t .before .before .before))
+      (sym (t .before .before .is-bic .ensures) ∙ not-false _ (t .before .if2 .left)) (sym (t .is-counted .ensures) ∙ e) j
 
 returns-3 : tie.Need-returns-3
-returns-3 c = given-by (c .before .before .before .before .before .before .before .before .args .p) (presence (c .before .before .before .before .before .before)) (account (c .before .before .before)) (sym (c .before .is-bic .ensures) ∙ not-true _ (c .if3 .taken)) refl refl
+returns-3 c = counted (c .before) (not-true _ (c .if3 .taken)) refl
 
 returns-4 : tie.Need-returns-4
-returns-4 c = given-by (c .before .before .before .before .before .before .before .before .before .before .args .p) (presence (c .before .before .before .before .before .before .before .before)) (account (c .before .before .before .before .before)) (bic (c .before .before)) (sym (c .before .are-names .ensures) ∙ not-true _ (c .if4 .taken)) refl
+unfolding partyFrom
+returns-4 c = let e = c .before .before in c .are-texts .ensures ∙ counted (e .before) (not-false _ (e .if3 .left)) (c .before .if4 .taken)
 
 returns-5 : tie.Need-returns-5
-returns-5 c = given-by (c .before .before .before .before .before .before .before .before .before .before .before .args .p) (presence (c .before .before .before .before .before .before .before .before .before)) (account (c .before .before .before .before .before .before)) (bic (c .before .before .before)) (names (c .before)) (c .if5 .taken)
-
-returns-6 : tie.Need-returns-6
-returns-6 c = ap not (c .is-taken .ensures) ∙ given-by (c .before .before .before .before .before .before .before .before .before .before .before .before .args .p) (presence (c .before .before .before .before .before .before .before .before .before .before)) (account (c .before .before .before .before .before .before .before)) (bic (c .before .before .before .before)) (names (c .before .before)) (c .before .if5 .left)
+unfolding partyFrom
+returns-5 c = let e = c .before .before in c .are-bare-texts .ensures ∙ counted (e .before) (not-false _ (e .if3 .left)) (c .before .if4 .left)
 
 pub is-given-spec : {M : Type 1} → statement M
 is-given-spec =
     tie.close
     (tie.spec
+    (λ c. search needs)
     (λ c κs. search needs)
     returns
     (λ c κs. search needs)
@@ -51,6 +79,5 @@ is-given-spec =
     returns-3
     (λ c κs. search needs)
     returns-4
-    returns-5
     (λ c κs. search needs)
-    returns-6)
+    returns-5)

@@ -9,8 +9,9 @@ use lib.Dec.{eqb}
 use lib.ListN.{length, getD}
 use borrow.Author.Tests.{not-true, not-false}
 use Rattle.party.specs.declared.Numbering.{Numbering}
+use Rattle.swift_utils.specs.Classes.{hasBits}
 use Rattle.swift_utils.proofs.Classes.{class-digit}
-use Rattle.swift_utils.proofs.Table.{class-at}
+use Rattle.swift_utils.proofs.Table.{classes-at}
 use Rattle.field_utils.proofs.Tests.{numbered-room}
 use Rattle.writer.proofs.Records.{inTurn, turn-kept, turn-written}
 use Rattle.writer.proofs.is_in_turn.Statement.{statement}
@@ -45,8 +46,8 @@ returns-3 : tie.Need-returns-3
 returns-3 c =
     let start = c .before .before .before .before in
     let a = start .args in
-    ap (λ (l : List ℕ). eqb (getD l (a .digit) 0) 4) (start .pre .1)
-    ∙ ap (λ (n : ℕ). eqb n 4) (class-at (a .digit))
+    ap (λ (l : List ℕ). hasBits 32 (getD l (a .digit) 0)) (start .pre .1)
+    ∙ ap (hasBits 32) (classes-at (a .digit))
     ∙ class-digit (a .digit)
     ∙ sym (turn-written (a .turn) (a .digit) (now (a .text)))
     ∙ by (a .turn) (a .digit) (now (a .text)) (c .before .enum-told2 .given .1)

@@ -25,12 +25,13 @@ returns c =
 
 returns-2 : tie.Need-returns-2
 returns-2 c =
-    let k = c .before .before in
-    let m = k .before .before in
-    let a = m .before .before .before .args in
-    c .all-at-least .ensures
-    ∙ by-entries 2 plain class-plain (k .class-table .result) (now (a .text)) (k .class-table .ensures)
-    ∙ plain-account (a .option) (now (a .text)) (measured m (not-false _ (k .before .if1 .left)))
+    let e = c .before in
+    let m = e .before in
+    let start = m .before .before .before in
+    let a = start .args in
+    c .all-in .ensures
+    ∙ by-entries 2 plain class-plain (now (a .classes)) (now (a .text)) (start .pre)
+    ∙ plain-account (a .option) (now (a .text)) (measured m (not-false _ (e .if1 .left)))
 
 pub is-plain-account-spec : {M : Type 1} → statement M
 is-plain-account-spec =
@@ -39,6 +40,5 @@ is-plain-account-spec =
     (λ c κs. search needs)
     (λ c κs. search needs)
     returns
-    (λ c κs. search needs)
     (λ c κs. search needs)
     returns-2)

@@ -1,57 +1,36 @@
--- `writer::place` meets its contract: it measures for itself. Assumes nothing.
-use mathlib.Core.Path.{_≡_, sym, _∙_, ap}
-use native.Mathlib.Omega.{arith}
+-- `writer::place` meets its contract: what was stored is placed as the record. Assumes nothing.
+use mathlib.Core.Path.{_∙_, ap}
+use mathlib.Core.List.{List}
+use Prim.Native.Nat.{ℕ}
+use native.Mathlib.Nat.{le-refl}
 use denote.Ref.{now}
 use borrow.Author.Needs.{needs}
 use Rattle.party.specs.Party.{said}
-use Rattle.writer.specs.declared.Measured.{Measured}
-use Rattle.writer.specs.Placing.{Measured as Answer, Placing, measure, place, toldMeasured, Space}
-use Rattle.writer.proofs.Pairs.{place-unmeasured, space-measured}
+use Rattle.party.proofs.Values.{is-party}
+use Rattle.flat.specs.Flat.{recordSize, unflatten}
+use Rattle.writer.specs.Placing.{place as placeIn}
+use Rattle.writer.proofs.Capped.{place-stored}
 use Rattle.writer.proofs.place.Statement.{statement}
 use Rattle.writer.proofs.place.Tie as tie
 
-module _ (w : tie.After-put-measured) where
-  abbrev start : tie.Start
-  start = w .before .before .before
-
-  -- what was measured
-  measured : {r : Measured} → w .put-measured .result ≡ r → measure (said (start .args .p)) ≡ toldMeasured r
-  measured e = sym (w .put-measured .ensures .0) ∙ ap toldMeasured e
-
-  -- placing, by what it answers
-  answered : {a : Answer} → place (said (start .args .p)) (now (start .args .buf)) .answer ≡ a →
-      (record { answer = a; buffer = w .put-measured .last .1 .0 }) ≡ place (said (start .args .p)) (now (start .args .buf))
-  answered e = λ i. record { answer = sym e i; buffer = w .put-measured .ensures .1 i }
-
-module _ (t : tie.After-n) where
-  abbrev w : tie.After-put-measured
-  w = t .before .before .before .before
-
-  space : Space (said (start w .args .p)) (t .n .given .0 .0) (now (start w .args .buf))
-  space = space-measured (said (start w .args .p)) (now (start w .args .buf)) (measured w (t .n .given .1))
-
 returns : tie.Need-returns
-returns c = let t = c .before .before in answered (w t) (ap (λ (x : Placing). x .answer) (space t .short (omega arith)))
-
-returns-2 : tie.Need-returns-2
-returns-2 c = let t = c .before .before in answered (w t) (ap (λ (x : Placing). x .answer) (space t .enough (omega arith)))
-
-returns-3 : tie.Need-returns-3
-returns-3 c =
-    let w = c .before .before .before .before .before in
-    let a = start w .args in
-    answered w (ap (λ (x : Placing). x .answer) (place-unmeasured (said (a .p)) (now (a .buf)) (measured w (c .before .e .given .1))))
+returns c =
+    let r = c .before .before in
+    let t = r .before .before .before .before in
+    let start = t .before .before .before in
+    let p = start .args .p in
+    let buffer = now (start .args .buf) in
+    r .place-record .ensures
+    ∙ ap (λ (s : List ℕ). placeIn (said (unflatten s)) buffer) (t .store .ensures .1)
+    ∙ place-stored p (is-party p _ (start .good .0)) _ (le-refl recordSize) buffer
 
 pub place-spec : {M : Type 1} → statement M
 place-spec =
     tie.close
     (tie.spec
+    (λ c. search needs)
     (λ c κs. search needs)
     (λ c. search needs)
+    (λ c κs. search needs)
     (λ c. search needs)
-    returns
-    (λ c. search needs)
-    (λ c. search needs)
-    returns-2
-    (λ c. search needs)
-    returns-3)
+    returns)

@@ -1,28 +1,73 @@
 -- `writer::put_rest` meets its contract. Assumes nothing.
+use mathlib.Core.Path.{_≡_}
+use Prim.Native.Nat.{_+_, _≤_}
+use denote.Ref.{now}
+use lib.ListN.{length}
+use Rattle.party.specs.Text.{used}
+use Rattle.flat.specs.Flat.{textAt, partyFrom}
+use mathlib.Core.List.{_++_}
+use Rattle.writer.specs.Code.{lead, namesOn, restOn}
 use Rattle.writer.proofs.Fields.{rest-names, rest-bic}
+use Rattle.writer.proofs.Names.{lent-limits}
+use Rattle.writer.proofs.Puts.{space, space-first, both, puts-as}
 use borrow.Author.Needs.{needs}
 use Rattle.writer.proofs.put_rest.Statement.{statement}
 use Rattle.writer.proofs.put_rest.Tie as tie
 
+-- the names, where the option has no BIC
+names :
+    (t : tie.Then1) → let a = t .before .before .before .before .before .args in
+    restOn (a .later) (partyFrom (now (a .«record»))) ≡ namesOn (a .later) (partyFrom (now (a .«record»)))
+names t =
+    let l = t .before .before in
+    let s = l .before .before .before in
+    let lent = now (s .args .«record») in
+    rest-names (s .args .later) (partyFrom lent) (rw (lent-limits lent (s .pre .0) (l .limits-of .ensures)) at (t .if1 .taken))
+
+-- or the BIC
+bic :
+    (e : tie.Else1) → let a = e .before .before .before .before .before .args in
+    restOn (a .later) (partyFrom (now (a .«record»))) ≡ lead (a .later) ++ used (textAt 1 (now (a .«record»))) .bytes
+unfolding partyFrom
+bic e =
+    let l = e .before .before in
+    let s = l .before .before .before in
+    let lent = now (s .args .«record») in
+    rest-bic (s .args .later) (partyFrom lent) (rw (lent-limits lent (s .pre .0) (l .limits-of .ensures)) at (e .if1 .left))
+
+room :
+    (e : tie.Else1) → let a = e .before .before .before .before .before .args in
+    a .at + length (lead (a .later) ++ used (textAt 1 (now (a .«record»))) .bytes) ≤ length (now (a .buf))
+room e = rw (bic e) at (e .before .before .before .before .before .pre .1)
+
 put-names-requires : tie.Need-put-names-requires
 put-names-requires c κs =
-    let l = c .before .before .before in
-    rw (rest-names (l .before .before .args .later) (l .before .before .args .p) (rw (l .limits-of .ensures) at (c .before .if1 .taken))) at (l .before .before .pre)
+    let s = c .before .before .before .before .before .before in
+    (s .pre .0, rw (names (c .before)) at (s .pre .1))
 
 returns : tie.Need-returns
-returns c =
-    let l = c .before .before .before .before .before .before in
-    rw (rest-names (l .before .before .args .later) (l .before .before .args .p) (rw (l .limits-of .ensures) at (c .before .before .before .before .if1 .taken))) (c .before .before .put-names .ensures)
+returns c = let n = c .before .before in rw (names (n .before .before)) (n .put-names .ensures)
 
-put-line-requires : tie.Need-put-line-requires
-put-line-requires c κs =
-    let l = c .before .before .before .before .before in
-    rw (rest-bic (l .before .before .args .later) (l .before .before .args .p) (rw (l .limits-of .ensures) at (c .before .before .before .if1 .left))) at (l .before .before .pre)
+put-lf-requires : tie.Need-put-lf-requires
+put-lf-requires c κs =
+    let a = c .before .before .before .before .before .before .args in
+    space-first (now (a .buf)) (a .at) (lead (a .later)) (used (textAt 1 (now (a .«record»))) .bytes) (room (c .before))
+
+put-bytes-requires : tie.Need-put-bytes-requires
+put-bytes-requires c κs =
+    let l = c .before .before .before .before in
+    let e = l .before .before in
+    let a = e .before .before .before .before .before .args in
+    rw (c .used-text .ensures .is) (space (lead (a .later)) (used (textAt 1 (now (a .«record»))) .bytes) (l .put-lf .ensures) (room e))
 
 returns-2 : tie.Need-returns-2
 returns-2 c =
-    let l = c .before .before .before .before .before .before .before .before in
-    rw (rest-bic (l .before .before .args .later) (l .before .before .args .p) (rw (l .limits-of .ensures) at (c .before .before .before .before .before .before .if1 .left))) (c .before .before .put-line .ensures)
+    let b = c .before .before in
+    let u = b .before in
+    let l = u .before .before .before .before in
+    let e = l .before .before in
+    let a = e .before .before .before .before .before .args in
+    rw (bic e) (both (lead (a .later)) (used (textAt 1 (now (a .«record»))) .bytes) (l .put-lf .ensures) (room e) (puts-as (u .used-text .ensures .is) (b .put-bytes .ensures)))
 
 pub put-rest-spec : {M : Type 1} → statement M
 put-rest-spec =
@@ -32,7 +77,8 @@ put-rest-spec =
     put-names-requires
     (λ c. search needs)
     returns
-    (λ c. search needs)
-    put-line-requires
+    put-lf-requires
+    (λ c κs. search needs)
+    put-bytes-requires
     (λ c. search needs)
     returns-2)

@@ -1,5 +1,5 @@
 -- `yewdome::yewdome_page_add` meets its contract: what adding gave is told. Assumes nothing.
-use mathlib.Core.Path.{_∙_}
+use mathlib.Core.Path.{refl, _∙_}
 use borrow.Author.Needs.{needs}
 use lib.Dec.{leb}
 use lib.ListN.{length, getD}
@@ -22,18 +22,16 @@ returns c =
 filed-requires : tie.Need-filed-requires
 filed-requires c κs =
     let f = c .before .before in
-    let l = f .before .before in
-    let a = l .before .before .before .before .before .args in
-    told-within (f .add .result) (f .add .ensures) (add-within (a .buf .now) (a .position) noIndex (said (l .load .result)))
+    let a = f .before .before .before .before .before .before .args in
+    told-within (f .add-record .result) (f .add-record .ensures) (add-within (a .buf .now) (a .position) noIndex (said (unflatten (a .«record» .now))))
 
 returns-2 : tie.Need-returns-2
 returns-2 c =
     let f = c .before .before .before in
-    let l = f .before .before in
-    let t = l .before in
+    let t = f .before .before in
     let a = t .before .before .before .before .args in
     let s = a .«record» .now in
-    filed-told (f .add .result) (f .add .ensures) (c .filed .ensures) ∙ adds s (a .buf .now) (a .position) noIndex (passes (length s) (leb (getD s 0 0) 10) (t .before .lent-record .ensures) (t .if1 .left)) (l .load .ensures)
+    filed-told (f .add-record .result) (f .add-record .ensures) (c .filed .ensures) ∙ adds s (a .buf .now) (a .position) noIndex (passes (length s) (leb (getD s 0 0) 10) (t .before .lent-record .ensures) (t .if1 .left)) refl
 
 pub yewdome-page-add-spec : {M : Type 1} → statement M
 yewdome-page-add-spec =
@@ -41,7 +39,6 @@ yewdome-page-add-spec =
     (tie.spec
     (λ c κs. search needs)
     returns
-    (λ c κs. search needs)
     (λ c κs. search needs)
     filed-requires
     (λ c. search needs)

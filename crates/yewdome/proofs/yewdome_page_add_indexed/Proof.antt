@@ -1,5 +1,5 @@
 -- `yewdome::yewdome_page_add_indexed` meets its contract: what adding gave is told. Assumes nothing.
-use mathlib.Core.Path.{_∙_}
+use mathlib.Core.Path.{refl, _∙_}
 use borrow.Author.Needs.{needs}
 use lib.Dec.{leb}
 use lib.ListN.{length, getD}
@@ -25,21 +25,19 @@ returns c =
 filed-requires : tie.Need-filed-requires
 filed-requires c κs =
     let f = c .before .before in
-    let l = f .before .before .before in
-    let a = l .before .before .before .before .before .args in
-    told-within (f .add-indexed .result) (f .add-indexed .ensures .0) (add-within (a .buf .now) (a .position) (anIndex (a .index .now)) (said (l .load .result)))
+    let a = f .before .before .before .before .before .before .before .args in
+    told-within (f .add-indexed-record .result) (f .add-indexed-record .ensures .0) (add-within (a .buf .now) (a .position) (anIndex (a .index .now)) (said (unflatten (a .«record» .now))))
 
 returns-2 : tie.Need-returns-2
 returns-2 c =
     let f = c .before .before .before in
-    let l = f .before .before .before in
-    let t = l .before in
+    let t = f .before .before .before in
     let a = t .before .before .before .before .args in
     let s = a .«record» .now in
     let b = anIndex (a .index .now) in
     let p = passes (length s) (leb (getD s 0 0) 10) (t .before .lent-record .ensures) (t .if1 .left) in (
-      filed-told (f .add-indexed .result) (f .add-indexed .ensures .0) (c .filed .ensures) ∙ adds s (a .buf .now) (a .position) b p (l .load .ensures),
-      f .add-indexed .ensures .1 ∙ adds-index s (a .buf .now) (a .position) b p (l .load .ensures),
+      filed-told (f .add-indexed-record .result) (f .add-indexed-record .ensures .0) (c .filed .ensures) ∙ adds s (a .buf .now) (a .position) b p refl,
+      f .add-indexed-record .ensures .1 ∙ adds-index s (a .buf .now) (a .position) b p refl,
     )
 
 pub yewdome-page-add-indexed-spec : {M : Type 1} → statement M
@@ -48,7 +46,6 @@ yewdome-page-add-indexed-spec =
     (tie.spec
     (λ c κs. search needs)
     returns
-    (λ c κs. search needs)
     (λ c κs. search needs)
     filed-requires
     (λ c. search needs)

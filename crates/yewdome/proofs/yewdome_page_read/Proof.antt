@@ -1,14 +1,16 @@
 -- `yewdome::yewdome_page_read` meets its contract: what a read gives and how far it moved make a number of 64 bits. Assumes nothing.
-use Prim.Native.Nat.{_-_, _+_, _≤_}
+use Prim.Native.Nat.{ℕ, _-_, _+_, _≤_}
 use mathlib.Core.Bool.{true}
-use mathlib.Core.Path.{_≡_}
+use mathlib.Core.Path.{_≡_, sym, _∙_, ap}
+use mathlib.Core.List.{List}
 use native.Mathlib.Omega.{arith}
 use borrow.Author.Needs.{needs}
 use lib.ListN.{length}
 use Rattle.page_reader.specs.declared.ReadOutcome.{ReadOutcome}
 use Rattle.page_reader.specs.declared.ReadOutcome.the-variants.{Record, End, Refused}
-use Rattle.page_reader.specs.Pages.{pageMost, toldOutcome}
-use Rattle.yewdome.specs.Interface.{lentReply, readCode, readBytes, pageRead}
+use Rattle.page_reader.specs.declared.PageRead.{PageRead as Read}
+use Rattle.page_reader.specs.Pages.{pageMost, ReadOutcome as Outcome, PageRead, readAt, toldOutcome, partyBeside, readBytes}
+use Rattle.yewdome.specs.Interface.{Called, lentReply, readCode, pageRead}
 use Rattle.yewdome.proofs.Answers.{passes}
 use Rattle.yewdome.proofs.Pages.{short, answer-line, answer-next, reads}
 use Rattle.yewdome.proofs.yewdome_page_read.Statement.{statement}
@@ -19,38 +21,47 @@ returns c =
     let a = c .before .before .before .before .args in
     short (a .page .now) (a .at) (a .«record» .now) (lentReply (length (a .«record» .now)) true) (c .before .lent .ensures) (c .if1 .taken)
 
-next : (c : tie.After-read-at) → let a = c .before .before .before .before .before .args in (a .at ≤ c .read-at .result .next) × (c .read-at .result .next ≤ a .at + pageMost)
-next c =
-    let a = c .before .before .before .before .before .args in
-    answer-next (a .page .now) (a .at) (c .read-at .result) (c .read-at .ensures .0)
+-- the read, with the record that is stored
+module _ (c : tie.After-read-at-into) where
+  abbrev start : tie.Start
+  start = c .before .before .before .before .before .before
 
--- what a read gives, by its outcome
-read-is : (c : tie.After-read-at) (x : ReadOutcome) → c .read-at .result .outcome ≡ x → let a = c .before .before .before .before .before .args in let o = toldOutcome x (c .read-at .result .party) in
-    (record { code = readCode o (c .read-at .result .next - a .at); bytes = readBytes o (a .«record» .now) }) ≡ pageRead (a .page .now) (a .at) (a .«record» .now)
-read-is c x e =
-    let a = c .before .before .before .before .before .args in
-    let s = a .«record» .now in
-    reads (a .page .now) (a .at) (c .read-at .result) (c .read-at .ensures .0) s (passes (length s) true (c .before .before .lent .ensures) (c .before .if1 .left)) e
+  abbrev page : List ℕ
+  page = start .args .page .now
+
+  abbrev bytes : List ℕ
+  bytes = start .args .«record» .now
+
+  abbrev read : Read
+  read = record { outcome = c .read-at-into .result .outcome; party = partyBeside (readAt page (start .args .at) .outcome); next = c .read-at-into .result .next }
+
+  next : (start .args .at ≤ read .next) × (read .next ≤ start .args .at + pageMost)
+  next = answer-next page (start .args .at) read (c .read-at-into .ensures .0)
+
+  -- what it gives, by its outcome
+  given : (x : ReadOutcome) → read .outcome ≡ x → let o = toldOutcome x (read .party) in
+      (record { code = readCode o (read .next - start .args .at); bytes = c .read-at-into .last .1 .1 .0 }) ≡ pageRead page (start .args .at) bytes
+  given x e =
+      let o = toldOutcome x (read .party) in
+      let told : readAt page (start .args .at) .outcome ≡ o = ap (λ (r : PageRead). r .outcome) (sym (c .read-at-into .ensures .0)) ∙ ap (λ (y : ReadOutcome). toldOutcome y (read .party)) e in
+      ap {B = Called} (λ (l : List ℕ). record { code = readCode o (read .next - start .args .at); bytes = l }) (c .read-at-into .ensures .1 ∙ ap (λ (y : Outcome). readBytes y bytes) told)
+      ∙ reads page (start .args .at) read (c .read-at-into .ensures .0) bytes (passes (length bytes) true (c .before .before .before .lent .ensures) (c .before .before .if1 .left)) e
 
 code-requires : tie.Need-code-requires
 code-requires c κs =
-    let f = c .before .before .before .before in
-    let a = f .before .before .before .before .before .args in
-    answer-line (a .page .now) (a .at) (f .read-at .result) (f .read-at .ensures .0) (Refused _) (c .before .outcome .given .1)
+    let r = c .before .before .before .before .before .before in
+    answer-line (page r) (start r .args .at) (read r) (r .read-at-into .ensures .0) (Refused _) (c .before .outcome .given .1)
 
 returns-2 : tie.Need-returns-2
-returns-2 c =
-    let put = c .before .before in
-    let told-it = put .before .before .before in
-    rw (put .store .ensures .1) (read-is (told-it .before .before .before) Record (told-it .enum-told .given .1))
+returns-2 c = given (c .before .before .before .before .before) Record (c .enum-told .given .1)
 
 returns-3 : tie.Need-returns-3
-returns-3 c = read-is (c .before .before .before) End (c .enum-told2 .given .1)
+returns-3 c = given (c .before .before .before .before .before) End (c .enum-told2 .given .1)
 
 returns-4 : tie.Need-returns-4
 returns-4 c =
-    let told-it = c .before .before in
-    rw (c .code .ensures) (read-is (told-it .before .before .before) (Refused _) (told-it .outcome .given .1))
+    let r = c .before .before .before .before .before .before .before in
+    rw (c .code .ensures) (given r (Refused _) (c .before .before .outcome .given .1))
 
 pub yewdome-page-read-spec : {M : Type 1} → statement M
 yewdome-page-read-spec =
@@ -61,17 +72,18 @@ yewdome-page-read-spec =
     (λ c. search needs)
     returns
     (λ c κs. search needs)
-    (λ c. next (c .before) .0)
-    (λ c. search needs)
-    (λ c κs. search needs)
-    (λ c. search needs)
-    (λ c. omega (arith, next (c .before .before .before)))
-    (λ c. search needs)
-    code-requires
+    (λ c. next (c .before .before .before) .0)
     (λ c. search needs)
     (λ c. search needs)
     (λ c. omega (arith, next (c .before .before .before .before .before)))
     (λ c. search needs)
+    code-requires
+    (λ c. search needs)
+    (λ c. search needs)
+    (λ c. omega (arith, next (c .before .before .before .before .before .before .before)))
+    (λ c. search needs)
     returns-2
+    (λ c. search needs)
     returns-3
+    (λ c. search needs)
     returns-4)

@@ -21,10 +21,9 @@ returns c =
 returns-2 : tie.Need-returns-2
 returns-2 c =
     let m = c .before in
-    let l = m .before in
-    let t = l .before in
+    let t = m .before in
     let s = t .before .before .before .args .«record» .now in
-    c .measured .ensures ∙ ap measuredCode (m .measure .ensures) ∙ measures s (l .load .ensures) (passes (length s) (leb (getD s 0 0) 10) (t .before .lent-record .ensures) (t .if1 .left))
+    c .measured .ensures ∙ ap measuredCode (m .measure-record .ensures) ∙ measures s (passes (length s) (leb (getD s 0 0) 10) (t .before .lent-record .ensures) (t .if1 .left))
 
 pub yewdome-party-measure-spec : {M : Type 1} → statement M
 yewdome-party-measure-spec =
@@ -33,6 +32,5 @@ yewdome-party-measure-spec =
     (λ c κs. search needs)
     returns
     (λ c κs. search needs)
-    (λ c κs. search needs)
-    (λ c κs. subst Measurable (sym (c .measure .ensures)) (measure-within (c .before .load .result)))
+    (λ c κs. subst Measurable (sym (c .measure-record .ensures)) (measure-within (unflatten (c .before .before .before .before .args .«record» .now))))
     returns-2)

@@ -1,31 +1,45 @@
--- `yewdome::yewdome_party_parse_with_variant` meets its contract: what the reader gave is given. Assumes nothing.
-use mathlib.Core.Path.{_∙_, sym, ap, subst}
+-- `yewdome::yewdome_party_parse_with_variant` meets its contract: what the choice stored is given. Assumes nothing.
+use mathlib.Core.Path.{_≡_, _∙_, ap}
 use borrow.Author.Needs.{needs}
 use lib.Dec.{leb}
-use Rattle.reader.specs.Reading.{Reading}
+use lib.ListN.{length}
+use Rattle.reader.specs.Reading.{Reading, toldInto, readInto}
 use Rattle.choices.specs.declared.Choice.{Choice}
 use Rattle.choices.specs.Choices.{parseWithVariant}
-use Rattle.yewdome.specs.Interface.{given}
-use Rattle.yewdome.specs.Code.{Named}
-use Rattle.yewdome.proofs.Answers.{variant-line}
+use Rattle.yewdome.specs.Interface.{lentReply, storing, choiceAt}
+use Rattle.yewdome.proofs.Answers.{refuses, passes, reads, reads-named, variant-line}
 use Rattle.yewdome.proofs.yewdome_party_parse_with_variant.Statement.{statement}
 use Rattle.yewdome.proofs.yewdome_party_parse_with_variant.Tie as tie
 
-give-requires : tie.Need-give-requires
-give-requires c κs =
-    let found = c .before in
-    let a = found .before .before .before .before .args in
-    subst (λ (r : Reading). Named (r .reply)) (sym (found .parse-with-variant .ensures)) (variant-line (found .before .choice-at .result) (a .body .now) (a .letter))
+-- what the choice reads
+abbrev reading : tie.Start → Reading
+reading s = parseWithVariant (choiceAt (s .args .choice)) (s .args .body .now) (s .args .letter)
 
 returns : tie.Need-returns
 returns c =
-    let gave = c .before .before in
-    let found = gave .before .before in
-    let a = found .before .before .before .before .args in
-    let by = ap (λ (choice : Choice). parseWithVariant choice (a .body .now) (a .letter)) (found .before .choice-at .ensures) in
-    gave .give .ensures ∙ ap (λ (r : Reading). given (leb (a .choice) 6) r (a .«record» .now)) (found .parse-with-variant .ensures ∙ by)
+    let s = c .before .before .before .before in
+    let r = reading s in
+    refuses (lentReply (length (s .args .«record» .now)) (leb (s .args .choice) 6)) (c .before .lent .ensures) (c .if1 .taken) (storing (r .reply) (r .party) (s .args .«record» .now)) (s .args .«record» .now)
+
+module _ (d : tie.After-parse-with-variant-into) where
+  abbrev start : tie.Start
+  start = d .before .before .before .before .before .before .before
+
+  stored : toldInto (d .parse-with-variant-into .result) (d .parse-with-variant-into .last .1 .1 .1 .0) ≡ readInto (reading start) (start .args .«record» .now)
+  stored = d .parse-with-variant-into .ensures ∙ ap (λ (choice : Choice). readInto (parseWithVariant choice (start .args .body .now) (start .args .letter)) (start .args .«record» .now)) (d .before .before .choice-at .ensures)
+
+said-requires : tie.Need-said-requires
+said-requires c κs =
+    let d = c .before .before in
+    reads-named (reading (start d)) (start d .args .«record» .now) (d .parse-with-variant-into .result) (stored d) (variant-line (choiceAt (start d .args .choice)) (start d .args .body .now) (start d .args .letter))
+
+returns-2 : tie.Need-returns-2
+returns-2 c =
+    let d = c .before .before .before in
+    let a = start d .args in
+    let e = d .before .before .before in
+    reads (leb (a .choice) 6) (reading (start d)) (a .«record» .now) (d .parse-with-variant-into .result) (passes (length (a .«record» .now)) (leb (a .choice) 6) (e .before .lent .ensures) (e .if1 .left)) (stored d) (c .said .ensures)
 
 pub yewdome-party-parse-with-variant-spec : {M : Type 1} → statement M
 yewdome-party-parse-with-variant-spec =
-    tie.close
-    (tie.spec (λ c κs. search needs) (λ c κs. search needs) give-requires (λ c. search needs) returns)
+    tie.close (tie.spec (λ c κs. search needs) returns (λ c κs. search needs) (λ c κs. search needs) said-requires (λ c. search needs) returns-2)

@@ -21,18 +21,16 @@ returns c =
 measured-requires : tie.Need-measured-requires
 measured-requires c κs =
     let f = c .before .before in
-    let l = f .before .before in
-    let a = l .before .before .before .before .before .args in
-    subst (λ (x : Placing). Measurable (x .answer)) (sym (f .place .ensures)) (place-within (l .load .result) (a .buf .now))
+    let a = f .before .before .before .before .before .before .args in
+    subst (λ (x : Placing). Measurable (x .answer)) (sym (f .place-record .ensures)) (place-within (unflatten (a .«record» .now)) (a .buf .now))
 
 returns-2 : tie.Need-returns-2
 returns-2 c =
     let f = c .before .before .before in
-    let l = f .before .before in
-    let t = l .before in
+    let t = f .before .before in
     let a = t .before .before .before .before .args in
     let s = a .«record» .now in
-    placed-told (f .place .result) (f .place .ensures) (c .measured .ensures) ∙ places s (l .load .ensures) (passes (length s) (leb (getD s 0 0) 10) (t .before .lent-record .ensures) (t .if1 .left)) (a .buf .now)
+    placed-told (f .place-record .result) (f .place-record .ensures) (c .measured .ensures) ∙ places s (passes (length s) (leb (getD s 0 0) 10) (t .before .lent-record .ensures) (t .if1 .left)) (a .buf .now)
 
 pub yewdome-party-place-spec : {M : Type 1} → statement M
 yewdome-party-place-spec =
@@ -40,7 +38,6 @@ yewdome-party-place-spec =
     (tie.spec
     (λ c κs. search needs)
     returns
-    (λ c κs. search needs)
     (λ c κs. search needs)
     measured-requires
     (λ c. search needs)

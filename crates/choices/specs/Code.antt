@@ -1,0 +1,81 @@
+-- What the answers of the private functions mean: what a walk of the lines sees, and what it rules out.
+use Prim.Native.Nat.{ℕ, _-_, _≤_}
+use mathlib.Core.Path.{_≡_}
+use mathlib.Core.Bool.{Bool, true, false, not, _&&_}
+use mathlib.Core.List.{List, []}
+use lib.ListN.{length, take, drop}
+use Rattle.errors.specs.declared.Outcome.{Outcome}
+use Rattle.errors.specs.declared.Outcome.the-variants.{Accepted, Refused}
+use Rattle.party.specs.declared.PartyOption.{PartyOption}
+use Rattle.party.specs.declared.PartyOption.the-variants.{Field50NoOption, Field50A, Field50F, Field50K, Field50C, Field50L, Field50G, Field50H, Field59NoOption, Field59A, Field59F}
+use Rattle.party.specs.declared.First.the-variants.{ShortAccount}
+use Rattle.party.specs.Party.{blank}
+use Rattle.swift_utils.specs.Checks.{bicLength}
+use Rattle.field_utils.specs.Identifier.{isNumbered}
+use Rattle.flat.specs.Flat.{unflatten}
+use Rattle.reader.specs.declared.Answer.{Answer}
+use Rattle.reader.specs.Code.{hasAccount}
+use Rattle.choices.specs.declared.Choice.{Choice}
+use Rattle.choices.specs.declared.Choice.the-variants.{Field50InstructingParty, Field50OrderingCustomerFGH, Field50OrderingCustomerAFK, Field50OrderingCustomerNCF, Field50Creditor, Field59, Field59Debtor}
+use Rattle.choices.specs.declared.Test.{Test}
+use Rattle.choices.specs.declared.Seen.{Seen}
+use Rattle.choices.specs.Detection.{anyNumbered, firstLine, lastLine, testLine, holds}
+
+-- ---- the walk
+-- what a walk of a text sees of lines, the last of which is a part of the text
+pub record Walked (s : List ℕ) (ls : List (List ℕ)) (w : Seen) : Type 0 where
+  pub count : w .count ≡ length ls
+  pub first : w .first ≡ length (firstLine ls)
+  pub second : w .second ≡ length (firstLine (drop 1 ls))
+  pub one : w .«first_numbered» ≡ isNumbered (firstLine ls)
+  pub two : w .«second_numbered» ≡ isNumbered (firstLine (drop 1 ls))
+  pub later : w .«later_numbered» ≡ anyNumbered (drop 1 ls)
+  pub last : take (w .to - w .from) (drop (w .from) s) ≡ lastLine ls
+  pub forward : w .from ≤ w .to
+  pub within : w .to ≤ length s
+
+-- two lines are passed, the second from start to end
+pub record Passed (s : List ℕ) (start end at : ℕ) : Type 0 where
+  pub forward : start ≤ end
+  pub before : end ≤ at
+  pub moved : 2 ≤ at
+  pub within : at ≤ length s
+
+-- the text whose lines a choice's tests ask: no line in the choice that has no test
+abbrev pub askedText : Choice → List ℕ → List ℕ
+askedText Field50InstructingParty body = []
+askedText Field50OrderingCustomerFGH body = body
+askedText Field50OrderingCustomerAFK body = body
+askedText Field50OrderingCustomerNCF body = body
+askedText Field50Creditor body = body
+askedText Field59 body = body
+askedText Field59Debtor body = body
+
+-- ---- what is ruled out
+-- the line that 59A takes for its BIC: the second where the first is an account
+unfoldable pub shortBicLine : List (List ℕ) → List ℕ
+shortBicLine ls = elim (hasAccount ShortAccount Field59A (firstLine ls)) [ true ↦ firstLine (drop 1 ls) | false ↦ firstLine ls ]
+
+-- what an option takes for its BIC is neither 8 nor 11 bytes long: all of the text in 50C, else a line
+abbrev pub ruledOut : PartyOption → List ℕ → List (List ℕ) → Bool
+ruledOut Field50NoOption text ls = false
+ruledOut Field50A text ls = not (bicLength (length (testLine ls)))
+ruledOut Field50F text ls = false
+ruledOut Field50K text ls = false
+ruledOut Field50C text ls = not (bicLength (length text))
+ruledOut Field50L text ls = false
+ruledOut Field50G text ls = not (bicLength (length (firstLine (drop 1 ls))))
+ruledOut Field50H text ls = false
+ruledOut Field59NoOption text ls = false
+ruledOut Field59A text ls = not (bicLength (length (shortBicLine ls)))
+ruledOut Field59F text ls = false
+
+-- an option is tried: its test holds, and it is not ruled out
+abbrev pub isOpen : PartyOption → Test → List ℕ → List (List ℕ) → Bool
+isOpen o t text ls = not (ruledOut o text ls) && holds t ls
+
+-- ---- answers by value
+-- the answer of an outcome, with the record that bytes hold
+abbrev pub answerFrom : Outcome → List ℕ → Answer
+answerFrom Accepted bytes = record { outcome = Accepted; party = unflatten bytes }
+answerFrom (Refused e) bytes = record { outcome = Refused e; party = blank }

@@ -1,0 +1,32 @@
+-- A reading into lent bytes, by the outcome of the code. Assumes nothing.
+use Prim.Native.Nat.{ℕ}
+use mathlib.Core.Path.{_≡_, refl, sym, _∙_, ap}
+use mathlib.Core.List.{List}
+use Rattle.errors.specs.declared.ParseError.{ParseError}
+use Rattle.errors.specs.declared.Outcome.{Outcome}
+use Rattle.errors.specs.declared.Outcome.the-variants.{Accepted, Refused}
+use Rattle.errors.specs.Refusals.{Reply, accepted, refused, toldError, told}
+use Rattle.party.specs.declared.Party.{Party}
+use Rattle.reader.specs.Reading.{Reading, Into, storing, readInto, toldInto}
+
+-- what is said of the body
+storing-reply : (r : Reply) (p : Party) (d : List ℕ) → storing r p d .reply ≡ r
+storing-reply accepted p d = refl
+storing-reply (refused k n) p d = refl
+
+module _ (w : Reading) (d : List ℕ) (o : Outcome) {e : List ℕ} (h : toldInto o e ≡ readInto w d) where
+  pub into-accepted : {x : Reading} {f : List ℕ} → o ≡ Accepted → w ≡ x → d ≡ f → toldInto Accepted e ≡ readInto x f
+  into-accepted a q s = sym (ap (λ (o : Outcome). toldInto o e) a) ∙ h ∙ (λ i. readInto (q i) (s i))
+
+  pub replied : told o ≡ w .reply
+  replied = ap (λ (i : Into). i .reply) h ∙ storing-reply (w .reply) (w .party) d
+
+  pub accepts : o ≡ Accepted → w .reply ≡ accepted
+  accepts a = sym replied ∙ ap told a
+
+  pub refuses : {x : ParseError} → o ≡ Refused x → w .reply ≡ toldError x
+  refuses a = sym replied ∙ ap told a
+
+  -- a refusal leaves them
+  pub left : {x : ParseError} → o ≡ Refused x → e ≡ d
+  left a = ap (λ (i : Into). i .bytes) h ∙ ap (λ (r : Reply). storing r (w .party) d .bytes) (refuses a)
