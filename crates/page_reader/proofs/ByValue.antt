@@ -17,7 +17,7 @@ use Rattle.page_reader.specs.declared.index.LookOutcome.the-variants.{Re
 use Rattle.page_reader.specs.Pages.{ReadOutcome, aRecord, theEnd, aRefusal, PageRead, outcomeOf, readAt, toldOutcome, toldRead, partyBeside, readBytes}
 use Rattle.page_reader.specs.Reads.{Read}
 use Rattle.page_reader.specs.Index.{Looked, found, notFound, lookUp, bodyOf, toldLooked, partyLooked}
-use Rattle.page_reader.specs.Code.{partyIn, partyFound}
+use Rattle.page_reader.specs.Code.{partyGiven, partyFound}
 use Rattle.page_reader.proofs.Cases.{Tells}
 use Rattle.page_reader.proofs.Entries.{Looks, found-here}
 use Rattle.page_reader.proofs.Moves.{every-read}
@@ -40,7 +40,7 @@ same-read h = cc
 
 -- bytes that are as many as a record's hold the record beside the outcome
 module _ (d e : List ℕ) (size : recordSize ≤ length d) where
-  beside : (o : ReadOutcome) (c : OutcomeAt) → OutcomeLoads o → toldOutcome c (partyBeside o) ≡ o → e ≡ readBytes o d → partyIn c e ≡ partyBeside o
+  beside : (o : ReadOutcome) (c : OutcomeAt) → OutcomeLoads o → toldOutcome c (partyBeside o) ≡ o → e ≡ readBytes o d → partyGiven c e ≡ partyBeside o
   beside (aRecord p) Record l h b = ap unflatten b ∙ stored-loads p d l size
   beside (aRecord p) End l h b = absurd (let z : _≡_ {A = ℕ} 0 1 = cc in omega arith)
   beside (aRecord p) (Refused x) l h b = absurd (let z : _≡_ {A = ℕ} 0 1 = cc in omega arith)
@@ -52,7 +52,7 @@ module _ (d e : List ℕ) (size : recordSize ≤ length d) where
   beside (aRefusal k n) (Refused x) l h b = refl
 
   -- a read
-  pub read-value : (page : List ℕ) (at : ℕ) (r : ReadInto) (p : Party) → Tells r (readAt page at) d e → p ≡ partyIn (r .outcome) e
+  pub read-value : (page : List ℕ) (at : ℕ) (r : ReadInto) (p : Party) → Tells r (readAt page at) d e → p ≡ partyGiven (r .outcome) e
       → (toldRead (record { outcome = r .outcome; party = p; next = r .next }) (readAt page at .body) ≡ readAt page at) × (p ≡ partyBeside (readAt page at .outcome))
   read-value page at r p t q =
       let x = readAt page at in

@@ -62,10 +62,10 @@ Finds page index k (Field o skip at to) = IsField (readCase page at) page o skip
 Finds page index k (Missing e) = lookUp page index k ≡ notFound (refusalOf e .number) (refusalOf e .line)
 
 -- the record that bytes hold where a read gives one, else the blank one
-abbrev pub partyIn : ReadOutcome → List ℕ → Party
-partyIn Record bytes = unflatten bytes
-partyIn End bytes = blank
-partyIn (Refused e) bytes = blank
+abbrev pub partyGiven : ReadOutcome → List ℕ → Party
+partyGiven Record bytes = unflatten bytes
+partyGiven End bytes = blank
+partyGiven (Refused e) bytes = blank
 
 -- the same of a lookup
 abbrev pub partyFound : LookOutcome → List ℕ → Party

@@ -21,7 +21,7 @@ ghost use Rattle.party.specs.Limits.{options};
 ghost use Rattle.page_reader.specs.declared.Tag.the-variants.{Known};
 ghost use Rattle.page_reader.specs.declared.ReadOutcome.the-variants.{End, Refused};
 ghost use Rattle.page_reader.specs.Pages.{lineAt, opens, endsAt, runs, past as pastLf, tagIn, readField, readable, textIn, readCase, readAt, toldRead, partyBeside, readBytes, toldInto, noBody, bodyIn, bodyPlace};
-ghost use Rattle.page_reader.specs.Code.{isOver, toldTag, hasTag, knownIn, partyIn};
+ghost use Rattle.page_reader.specs.Code.{isOver, toldTag, hasTag, knownIn, partyGiven};
 
 pub mod index;
 
@@ -320,7 +320,7 @@ pub fn read_at_into(page: &[u8], at: usize, record: &mut [u8]) -> ReadInto
 
 // The record that a room holds where a read gives one, else the blank one.
 fn party_in(outcome: ReadOutcome, room: &[u8]) -> Party
-    ensures { λ r. ⌜ r ≡ partyIn outcome (now (room .entry)) ⌝ }
+    ensures { λ r. ⌜ r ≡ partyGiven outcome (now (room .entry)) ⌝ }
 {
     if let ReadOutcome::Record = outcome {
         return load(room);

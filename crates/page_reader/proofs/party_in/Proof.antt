@@ -9,12 +9,12 @@ use borrow.Author.Needs.{needs}
 use Rattle.party.specs.Party.{blank}
 use Rattle.page_reader.specs.declared.ReadOutcome.{ReadOutcome}
 use Rattle.page_reader.specs.declared.ReadOutcome.the-variants.{Record, End, Refused}
-use Rattle.page_reader.specs.Code.{partyIn}
+use Rattle.page_reader.specs.Code.{partyGiven}
 use Rattle.page_reader.proofs.ReadOutcome.{the-type}
 use Rattle.page_reader.proofs.party_in.Statement.{statement}
 use Rattle.page_reader.proofs.party_in.Tie as tie
 
-other : (o : ReadOutcome) (bytes : List ℕ) → OneOf (1 ∷ 2 ∷ []) (tagOf the-type o) → blank ≡ partyIn o bytes
+other : (o : ReadOutcome) (bytes : List ℕ) → OneOf (1 ∷ 2 ∷ []) (tagOf the-type o) → blank ≡ partyGiven o bytes
 other Record bytes h = absurd (miss (1 ∷ 2 ∷ []) 0 tt h)
 other End bytes h = refl
 other (Refused e) bytes h = refl
@@ -22,7 +22,7 @@ other (Refused e) bytes h = refl
 returns : tie.Need-returns
 returns c =
     let a = c .before .before .before .before .args in
-    c .load .ensures ∙ ap (λ (o : ReadOutcome). partyIn o (now (a .room))) (sym (c .before .enum-told .given .1))
+    c .load .ensures ∙ ap (λ (o : ReadOutcome). partyGiven o (now (a .room))) (sym (c .before .enum-told .given .1))
 
 returns-2 : tie.Need-returns-2
 returns-2 c = let a = c .before .before .before .args in c .blank .ensures ∙ other (a .outcome) (now (a .room)) (c .before .match .keys2)
