@@ -6,3 +6,4 @@ pub mod Identifiers
 pub mod NameLines
 pub mod NameTexts
 pub mod Tests
+pub mod Ascii

@@ -1,11 +1,14 @@
-// What the Rust has of std: the lines of a text by a cursor, and a text trimmed.
+// What the Rust has of std: the lines of a text by a cursor, a text trimmed, and the test for ASCII.
 use crate::words::BLOCK;
 use crate::words::is_clear;
+use crate::words::is_low;
 use crate::words::lf_mask;
 use crate::words::word_at;
 ghost use mathlib.Core.Path.{_≡_};
-ghost use Prim.Native.Nat.{_+_, _-_, _≤_};
+ghost use Prim.Native.Nat.{ℕ, _+_, _-_, _≤_};
+ghost use lib.Dec.{leb};
 ghost use lib.ListN.{length, take, drop};
+ghost use Rattle.swift_utils.specs.Bytes.{all};
 ghost use Rattle.field_utils.specs.Lines.{upto, lines, withoutCr};
 ghost use Rattle.field_utils.specs.Cursor.{nextLine};
 ghost use Rattle.field_utils.specs.Words.{Passed};
@@ -204,4 +207,36 @@ pub fn trim(s: &[u8]) -> &[u8]
         start += 1;
     }
     &s[..0]
+}
+
+// Whether no byte of a few is above 127.
+fn are_low(s: &[u8]) -> bool
+    ensures { λ r. ⌜ r ≡ all (λ (b : ℕ). leb b 127) (now (s .entry)) ⌝ }
+{
+    let mut i = 0;
+    while i < s.len() {
+        if 127 < s[i] {
+            return false;
+        }
+        i += 1;
+    }
+    true
+}
+
+// Whether no byte is above 127, by words of eight bytes, the last over what was seen before; fewer than eight go singly.
+pub fn is_ascii(s: &[u8]) -> bool
+    ensures { λ r. ⌜ r ≡ all (λ (b : ℕ). leb b 127) (now (s .entry)) ⌝ }
+{
+    if s.len() < 8 {
+        return are_low(s);
+    }
+    let tail = s.len() - 8;
+    let mut i = 0;
+    while i < tail {
+        if !is_low(word_at(s, i)) {
+            return false;
+        }
+        i += 8;
+    }
+    is_low(word_at(s, tail))
 }

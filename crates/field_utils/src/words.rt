@@ -1,8 +1,10 @@
-// Eight bytes as one number, and the first LF among them.
+// Eight bytes as one number, the first LF among them, and whether one is above 127.
 ghost use mathlib.Core.Path.{_≡_};
 ghost use mathlib.Core.Bool.{true};
-ghost use Prim.Native.Nat.{_+_, _≤_, _<_};
+ghost use Prim.Native.Nat.{ℕ, _+_, _≤_, _<_};
+ghost use lib.Dec.{leb};
 ghost use lib.ListN.{length, take, drop};
+ghost use Rattle.swift_utils.specs.Bytes.{all};
 ghost use Rattle.field_utils.specs.Words.{eight, lowBytes, lessOnes, lfMask, Passed};
 
 // In every byte an LF, a one, and the highest bit.
@@ -59,6 +61,13 @@ pub(crate) fn lf_mask(w: u64) -> u64
     ensures { λ r. ⌜ r ≡ lfMask w ⌝ }
 {
     less_ones(w) & !(w ^ LFS) & HIGHS
+}
+
+// Whether no byte of a word is above 127: none has its highest bit.
+pub(crate) fn is_low(w: u64) -> bool
+    ensures { λ r. ⌜ r ≡ all (λ (b : ℕ). leb b 127) (lowBytes 8 w) ⌝ }
+{
+    w & HIGHS == 0
 }
 
 // Whether a block is seen to have no LF: no byte of it, flipped and less a one, has its highest bit set. One above 127 may have it too.

@@ -7,6 +7,7 @@ use field_utils::lines::Line;
 use field_utils::lines::Lines;
 use field_utils::lines::count_lines;
 use field_utils::lines::find_lf;
+use field_utils::lines::is_ascii;
 use field_utils::parse_name_and_address;
 use field_utils::parse_party_identifier;
 use field_utils::starts_with_slash;
@@ -35,10 +36,10 @@ ghost use Rattle.party.specs.Limits.{limitsOf};
 ghost use Rattle.party.specs.Text.{partIn};
 ghost use Rattle.party.specs.Party.{blank as blankParty, partyIn};
 ghost use Rattle.party.specs.declared.First.the-variants.{Identified};
-ghost use Rattle.swift_utils.specs.Bytes.{all};
+ghost use Rattle.flat.specs.Flat.{recordSize};
 ghost use Rattle.field_utils.specs.Lines.{lines};
 ghost use Rattle.reader.specs.Reading.{toldAnswer, partyOf, toldInto, readInto};
-ghost use Rattle.reader.specs.Options.{isCounted, lengthReply, accountReply, slashHead, headBy, withNames, withBic, afterHead, byLines, bicOnly, textOnly, ascii, bodyReply, readOwn, read as readOf};
+ghost use Rattle.reader.specs.Options.{isCounted, lengthReply, accountReply, slashHead, headBy, withNames, withBic, afterHead, byLines, bicOnly, textOnly, bodyReply, readOwn, read as readOf};
 ghost use Rattle.reader.specs.Code.{toldParts, toldHead, passedHead, hasAccount, accountBy, nameless, IsRest, readingOf};
 
 // What a reader gives: accepted with the record, or refused with the blank record.
@@ -418,19 +419,6 @@ fn read_text_only(option: PartyOption, body: &[u8]) -> FoundAt
     accept(nameless_parts(option, true, whole, NO_PART))
 }
 
-// Whether no byte is above 127: their bits together are not. The compiler takes this loop many bytes at a time.
-pub fn is_ascii(body: &[u8]) -> bool
-    ensures { λ r. ⌜ r ≡ all ascii (now (body .entry)) ⌝ }
-{
-    let mut seen = 0;
-    let mut i = 0;
-    while i < body.len() {
-        seen = seen | body[i];
-        i += 1;
-    }
-    seen <= 127
-}
-
 // The most bytes of a body.
 pub const BODY_MOST: usize = 2048;
 
@@ -461,6 +449,30 @@ fn read_own(option: PartyOption, body: &[u8]) -> FoundAt
     }
 }
 
+// The option's own checks, with the record of the parts that were found: stored at the start of lent bytes where there are as many, else by
+// value; a refusal changes no byte. What was found has one user, so that it is copied nowhere.
+fn give_own(option: PartyOption, body: &[u8], record: &mut [u8]) -> Answer
+    ensures { λ r. ⌜ toldInto (r .outcome) (now («record» .exit)) ≡ readInto (readOwn option (now (body .entry))) (now («record» .entry)) ⌝ }
+    ensures { λ r. ⌜ (length (now («record» .entry)) < recordSize → toldAnswer r ≡ readOwn option (now (body .entry))) ⌝ }
+{
+    let found = read_own(option, body);
+    let outcome = found.outcome;
+    if let Outcome::Refused(e) = outcome {
+        return refuse(e);
+    }
+    let parts = found.parts;
+    if store_parts(parts, body, record) {
+        return Answer {
+            outcome: Outcome::Accepted,
+            party: blank(),
+        };
+    }
+    Answer {
+        outcome: Outcome::Accepted,
+        party: party_of(body, parts),
+    }
+}
+
 // The reader of an option: the record is built from the parts that were found.
 pub fn read(option: PartyOption, body: &[u8]) -> Answer
     ensures { λ r. ⌜ toldAnswer r ≡ readOf option (now (body .entry)) ⌝ }
@@ -469,16 +481,8 @@ pub fn read(option: PartyOption, body: &[u8]) -> Answer
     if let Outcome::Refused(e) = outcome {
         return refuse(e);
     }
-    let found = read_own(option, body);
-    let own = found.outcome;
-    if let Outcome::Refused(e) = own {
-        return refuse(e);
-    }
-    let parts = found.parts;
-    Answer {
-        outcome: Outcome::Accepted,
-        party: party_of(body, parts),
-    }
+    let mut none = [0u8; 0];
+    give_own(option, body, &mut none)
 }
 
 // The option's own checks, after 12 and 13, with the record stored at the start of lent bytes, straight from the parts that were found; a
@@ -486,14 +490,8 @@ pub fn read(option: PartyOption, body: &[u8]) -> Answer
 pub fn read_own_into(option: PartyOption, body: &[u8], record: &mut [u8]) -> Outcome
     ensures { λ r. ⌜ toldInto r (now («record» .exit)) ≡ readInto (readOwn option (now (body .entry))) (now («record» .entry)) ⌝ }
 {
-    let found = read_own(option, body);
-    let outcome = found.outcome;
-    if let Outcome::Refused(e) = outcome {
-        return Outcome::Refused(e);
-    }
-    let parts = found.parts;
-    store_parts(parts, body, record);
-    Outcome::Accepted
+    let answer = give_own(option, body, record);
+    answer.outcome
 }
 
 // The reader of an option, with the record stored at the start of lent bytes; a refusal changes none.
