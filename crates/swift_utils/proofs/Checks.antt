@@ -1,12 +1,12 @@
--- The cases of parse_swift_chars, parse_length, parse_account and parse_bic, and that a BIC's length is at least the shorter. Assumes nothing.
-use mathlib.Core.Path.{_≡_, refl, ap}
+-- The cases of parse_swift_chars, parse_length, parse_account and parse_bic, and what the lengths of a BIC are. Assumes nothing.
+use mathlib.Core.Path.{_≡_, refl, sym, _∙_, ap}
 use mathlib.Core.Bool.{Bool, true, false, _||_, and-false, false≢true}
 use mathlib.Core.List.{List}
 use Prim.Native.Nat.{ℕ, _≤_, _<_}
 use native.Mathlib.Omega.{arith}
 use lib.Dec.{leb, eqb}
 use lib.ListN.{length, take, drop}
-use borrow.Author.Tests.{eqb-true, le-leb, lt-leb}
+use borrow.Author.Tests.{eqb-true, ne-eqb, le-leb, lt-leb}
 use Rattle.errors.specs.Refusals.{Reply, accepted, refused, must, _then_}
 use Rattle.swift_utils.specs.Bytes.{all, letter, alphanumeric, legal}
 use Rattle.swift_utils.specs.Checks.{parseSwiftChars, parseLength, parseAccount, bicShort, bicLong, bicLength, parseBic}
@@ -19,6 +19,10 @@ bicLength-least n = go (eqb n bicShort) (eqb n bicLong) refl refl
     go true q e f t = let h = eqb-true n bicShort e in omega arith
     go false true e f t = let h = eqb-true n bicLong f in omega arith
     go false false e f t = absurd (false≢true t)
+
+pub bicLength-other : (n : ℕ) → bicLength n ≡ true → (n ≡ bicShort → ⊥) → n ≡ bicLong
+unfolding bicLength
+bicLength-other n t h = eqb-true n bicLong (sym (ap (λ (p : Bool). p || eqb n bicLong) (ne-eqb n bicShort h)) ∙ t)
 
 module _ (n : ℕ) (l : List ℕ) where
   pub chars : {t : Bool} → all legal l ≡ t → parseSwiftChars n l ≡ must t 3 n

@@ -398,8 +398,13 @@ pub fn parse_bic(input: &[u8], line: usize) -> Outcome
     if !all_in(bank_and_country, &classes, LETTER) {
         return Outcome::Refused(ParseError::BicByte(line));
     }
-    let location_and_branch = &input[6..];
-    if all_in(location_and_branch, &classes, ALPHANUMERIC) {
+    // Each part has a fixed length, so that its test can be unrolled.
+    let is_rest_good = if input.len() == BIC_SHORT {
+        all_in(&input[6..BIC_SHORT], &classes, ALPHANUMERIC)
+    } else {
+        all_in(&input[6..BIC_LONG], &classes, ALPHANUMERIC)
+    };
+    if is_rest_good {
         Outcome::Accepted
     } else {
         Outcome::Refused(ParseError::BicByte(line))

@@ -1,5 +1,6 @@
 -- `swift_utils::parse_bic` meets its contract: a case of the rule for each way through the tests. Assumes nothing.
 use mathlib.Core.Path.{_≡_, sym, _∙_, ap}
+use mathlib.Core.Logic.{⊎-elim}
 use mathlib.Core.Bool.{Bool, true}
 use mathlib.Core.List.{List}
 use Prim.Native.Nat.{ℕ, _≤_}
@@ -14,9 +15,9 @@ use Rattle.swift_utils.specs.Classes.{entryIn}
 use Rattle.swift_utils.specs.Checks.{bicLength, parseBic}
 use Rattle.swift_utils.proofs.Classes.{class-letter, class-alphanumeric}
 use Rattle.swift_utils.proofs.Table.{by-entries}
-use Rattle.swift_utils.proofs.Checks.{bicLength-least, bic-length, bic-bank, bic-rest}
+use Rattle.swift_utils.proofs.Checks.{bicLength-least, bicLength-other, bic-length, bic-bank, bic-rest}
 use borrow.Author.Needs.{needs}
-use Rattle.swift_utils.proofs.Parts.{part-end}
+use Rattle.swift_utils.proofs.Parts.{part, part-end}
 use Rattle.swift_utils.proofs.parse_bic.Statement.{statement}
 use Rattle.swift_utils.proofs.parse_bic.Tie as tie
 
@@ -48,19 +49,33 @@ module _ (c : tie.After-all-in) where
       ∙ sym (c .all-in .ensures)
       ∙ e
 
--- past the test of the rest
-module _ (c : tie.After-all-in2) where
+-- at the rest
+module _ (c : tie.Else2) where
   abbrev six : tie.After-all-in
-  six = c .before .before .before .before
+  six = c .before
 
-  rest : {t : Bool} → c .all-in2 .result ≡ t → must t 10 (line (tested six)) ≡ parseBic (line (tested six)) (input (tested six))
-  rest e =
+  abbrev entries : List ℕ → Bool
+  entries l = all (entryIn (classes six .class-table .result) 8) l
+
+  rest : {n : ℕ} {t : Bool} → length (input (tested six)) ≡ n → t ≡ entries (part 6 n (input (tested six)))
+      → must t 10 (line (tested six)) ≡ parseBic (line (tested six)) (input (tested six))
+  rest h e =
       sym
-      (bic-rest (line (tested six)) (input (tested six)) (right (tested six)) (bank six (not-false _ (c .before .before .before .if2 .left)))
+      (bic-rest (line (tested six)) (input (tested six)) (right (tested six)) (bank six (not-false _ (c .if2 .left)))
       (sym (by-entries 8 alphanumeric class-alphanumeric (classes six .class-table .result) (drop 6 (input (tested six))) (classes six .class-table .ensures))
-      ∙ ap (all (entryIn (classes six .class-table .result) 8)) (sym (part-end (input (tested six)) 6))
-      ∙ sym (c .all-in2 .ensures)
-      ∙ e))
+      ∙ ap entries (sym (part-end (input (tested six)) 6) ∙ ap (λ (n : ℕ). part 6 n (input (tested six))) h)
+      ∙ sym e))
+
+-- without a branch code there are eight bytes, with one eleven
+eleven : (c : tie.Else3) → length (input (tested (c .before .before))) ≡ 11
+eleven c = bicLength-other _ (right (tested (c .before .before))) (c .if3 .left)
+
+either : (c : tie.Joined3) {t : Bool} → c .if3 .is-rest-good ≡ t → let i = tested (c .before .before) in must t 10 (line i) ≡ parseBic (line i) (input i)
+either c e =
+    ⊎-elim
+    (λ w. rest (c .before) (w .0 .taken) (sym e ∙ w .4 ∙ w .3 .ensures))
+    (λ w. rest (c .before) (eleven (record { before = c .before; if3 = w .0 })) (sym e ∙ w .4 ∙ w .3 .ensures))
+    (c .if3 .came)
 
 returns : tie.Need-returns
 returns c =
@@ -75,17 +90,11 @@ returns-2 c =
     let t = tested (c .before) in
     sym (bic-bank (line t) (input t) (right t) (bank (c .before) (not-true _ (c .if2 .taken))))
 
-sub-location-and-branch : tie.Need-sub-location-and-branch
-sub-location-and-branch c = omega (arith, long (tested (c .before)))
-
-part-location-and-branch-start : tie.Need-part-location-and-branch-start
-part-location-and-branch-start c = omega (arith, long (tested (c .before)))
-
 returns-3 : tie.Need-returns-3
-returns-3 c = rest (c .before) (c .if3 .taken)
+returns-3 c = either (c .before) (c .if4 .taken)
 
 returns-4 : tie.Need-returns-4
-returns-4 c = rest (c .before) (c .if3 .left)
+returns-4 c = either (c .before) (c .if4 .left)
 
 pub parse-bic-spec : {M : Type 1} → statement M
 parse-bic-spec =
@@ -97,9 +106,13 @@ parse-bic-spec =
     slice-aggregate-bank-and-country
     (λ c κs. search needs)
     returns-2
-    sub-location-and-branch
-    part-location-and-branch-start
     (λ c. search needs)
+    (λ c. search needs)
+    (λ c. search needs)
+    (λ c κs. search needs)
+    (λ c. search needs)
+    (λ c. search needs)
+    (λ c. omega (arith, eleven c))
     (λ c κs. search needs)
     returns-3
     returns-4)
