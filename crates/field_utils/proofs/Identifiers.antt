@@ -1,6 +1,6 @@
 -- The cases of numbered lines and identifiers. Assumes nothing.
 use mathlib.Core.Path.{_≡_, refl, _∙_}
-use mathlib.Core.Bool.{true, false, _&&_, false≢true}
+use mathlib.Core.Bool.{true, false, _&&_, and-true, and-false, false≢true}
 use mathlib.Core.List.{List, [], _∷_}
 use Prim.Native.Nat.{ℕ, suc, _≤_, _<_}
 use native.Mathlib.Omega.{arith}
@@ -36,6 +36,13 @@ unfolding isNumbered
 numbered-long [] h = absurd (omega arith)
 numbered-long (d ∷ []) h = absurd (omega arith)
 numbered-long (d ∷ s ∷ l) h = refl
+
+-- and by its second byte
+pub numbered-other : (l : List ℕ) → 2 ≤ length l → (getD l 1 0 ≡ 47 → ⊥) → isNumbered l ≡ false
+numbered-other l h e = numbered-long l h ∙ rw (ne-eqb _ _ e, and-false)
+
+pub numbered-slash : (l : List ℕ) → 2 ≤ length l → getD l 1 0 ≡ 47 → isNumbered l ≡ digit (getD l 0 0)
+numbered-slash l h e = numbered-long l h ∙ rw (eq-eqb _ _ e, and-true)
 
 -- what follows the first slash, where the second stands at k
 module _ (longest n : ℕ) (l : List ℕ) (k : ℕ) (e : k ≡ upto 47 l) where

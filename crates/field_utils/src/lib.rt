@@ -9,6 +9,7 @@ use party::Numbering;
 use party::Part;
 use party::PartyOption;
 use party::limits_of;
+use swift_utils::DIGIT;
 use swift_utils::LEGAL;
 use swift_utils::all_alphanumeric;
 use swift_utils::all_in;
@@ -43,17 +44,32 @@ pub fn starts_with_slash(line: &[u8]) -> bool
     line[0] == b'/'
 }
 
-// Whether a line has a digit, then a slash.
+// Whether a line has a digit, then a slash. The slash is tested first: a digit's test by itself writes the table out.
 pub fn is_numbered_line(line: &[u8]) -> bool
     ensures { λ r. ⌜ r ≡ isNumbered (now (line .entry)) ⌝ }
 {
     if line.len() < 2 {
         return false;
     }
-    if !is_digit(line[0]) {
+    if line[1] != b'/' {
         return false;
     }
-    line[1] == b'/'
+    is_digit(line[0])
+}
+
+// The same by a table that is at hand.
+fn is_numbered_in(line: &[u8], classes: &[u8; 256]) -> bool
+    requires { ⌜ now classes ≡ classTable ⌝ }
+    ensures { λ r. ⌜ r ≡ isNumbered (now (line .entry)) ⌝ }
+{
+    if line.len() < 2 {
+        return false;
+    }
+    if line[1] != b'/' {
+        return false;
+    }
+    let b = line[0] as usize;
+    classes[b] & DIGIT == DIGIT
 }
 
 // The answer: no identifier, the line without its first slash, or the refusal.
@@ -111,15 +127,21 @@ pub fn skip_of(numbering: Numbering) -> usize
 }
 
 // The number of a line that is the turn-th of the names: 5, then 6.
-fn parse_number(input: &[u8], line: usize, turn: usize, numbering: Numbering) -> Outcome
-    requires { ⌜ turn < 2 ^ 63 ⌝ }
+fn parse_number(
+    input: &[u8],
+    line: usize,
+    turn: usize,
+    numbering: Numbering,
+    classes: &[u8; 256],
+) -> Outcome
+    requires { ⌜ (turn < 2 ^ 63) × (now classes ≡ classTable) ⌝ }
     ensures { λ r. ⌜ told r ≡ parseNumber numbering line turn (now (input .entry)) ⌝ }
 {
     match numbering {
         Numbering::Unnumbered => Outcome::Accepted,
-        Numbering::Numbered => parse_digit(input, line),
+        Numbering::Numbered => parse_digit(input, line, classes),
         Numbering::InTurn => {
-            let outcome = parse_digit(input, line);
+            let outcome = parse_digit(input, line, classes);
             if let Outcome::Refused(e) = outcome {
                 return Outcome::Refused(e);
             }
@@ -129,10 +151,11 @@ fn parse_number(input: &[u8], line: usize, turn: usize, numbering: Numbering) ->
 }
 
 // A digit, then a slash, or 5.
-fn parse_digit(input: &[u8], line: usize) -> Outcome
+fn parse_digit(input: &[u8], line: usize, classes: &[u8; 256]) -> Outcome
+    requires { ⌜ now classes ≡ classTable ⌝ }
     ensures { λ r. ⌜ told r ≡ must (isNumbered (now (input .entry))) 5 line ⌝ }
 {
-    if is_numbered_line(input) {
+    if is_numbered_in(input, classes) {
         Outcome::Accepted
     } else {
         Outcome::Refused(ParseError::NotNumbered(line))
@@ -171,11 +194,12 @@ fn parse_line(
     turn: usize,
     numbering: Numbering,
     longest: usize,
+    classes: &[u8; 256],
 ) -> Outcome
-    requires { ⌜ turn < 2 ^ 63 ⌝ }
+    requires { ⌜ (turn < 2 ^ 63) × (now classes ≡ classTable) ⌝ }
     ensures { λ r. ⌜ told r ≡ parseShape numbering longest line turn (now (input .entry)) ⌝ }
 {
-    let outcome = parse_number(input, line, turn, numbering);
+    let outcome = parse_number(input, line, turn, numbering, classes);
     if let Outcome::Refused(e) = outcome {
         return Outcome::Refused(e);
     }
@@ -283,7 +307,7 @@ pub fn parse_name_and_address(body: &[u8], from: Lines, start_idx: u8, option: P
         let turn = count + 1;
         let line = start_idx as usize + turn;
         let input = &body[start..end];
-        let outcome = parse_line(input, line, turn, numbering, limits.name);
+        let outcome = parse_line(input, line, turn, numbering, limits.name, &classes);
         if let Outcome::Refused(e) = outcome {
             return refuse_names(e);
         }

@@ -1,11 +1,7 @@
--- `is_numbered_line` meets its contract: a case of the rule for a short line, and one for a longer. Assumes nothing.
-use mathlib.Core.Path.{_≡_, sym, _∙_}
-use mathlib.Core.Bool.{true, false}
+-- `is_numbered_line` meets its contract: a case of the rule for a short line, and two for a longer. Assumes nothing.
+use mathlib.Core.Path.{sym, _∙_}
 use denote.Ref.{now}
-use lib.ListN.{getD}
-use borrow.Author.Tests.{not-true, not-false}
-use Rattle.swift_utils.specs.Bytes.{digit}
-use Rattle.field_utils.proofs.Identifiers.{numbered-short, numbered-long}
+use Rattle.field_utils.proofs.Identifiers.{numbered-short, numbered-other, numbered-slash}
 use borrow.Author.Needs.{needs}
 use Rattle.field_utils.proofs.is_numbered_line.Statement.{statement}
 use Rattle.field_utils.proofs.is_numbered_line.Tie as tie
@@ -14,16 +10,12 @@ returns : tie.Need-returns
 returns c = sym (numbered-short (now (c .before .before .args .line)) (c .if1 .taken))
 
 returns-2 : tie.Need-returns-2
-returns-2 c =
-    let l = now (c .before .before .before .before .before .args .line) in
-    let e : digit (getD l 0 0) ≡ false = sym (c .before .is-digit .ensures) ∙ not-true _ (c .if2 .taken) in
-    sym (numbered-long l (c .before .before .before .if1 .left) ∙ rw e)
+returns-2 c = sym (numbered-other (now (c .before .before .before .before .args .line)) (c .before .before .if1 .left) (c .if2 .taken))
 
 returns-3 : tie.Need-returns-3
 returns-3 c =
-    let l = now (c .before .before .before .before .before .before .args .line) in
-    let e : digit (getD l 0 0) ≡ true = sym (c .before .before .is-digit .ensures) ∙ not-false _ (c .before .if2 .left) in
-    sym (numbered-long l (c .before .before .before .before .if1 .left) ∙ rw e)
+    let e = c .before .before in
+    c .is-digit .ensures ∙ sym (numbered-slash (now (e .before .before .before .before .args .line)) (e .before .before .if1 .left) (e .if2 .left))
 
 pub is-numbered-line-spec : {M : Type 1} → statement M
 is-numbered-line-spec =
@@ -31,7 +23,7 @@ is-numbered-line-spec =
     (tie.spec
     returns
     (λ c. search needs)
-    (λ c κs. search needs)
     returns-2
     (λ c. search needs)
+    (λ c κs. search needs)
     returns-3)

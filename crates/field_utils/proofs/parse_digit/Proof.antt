@@ -8,9 +8,9 @@ use borrow.Author.Needs.{needs}
 use Rattle.field_utils.proofs.parse_digit.Statement.{statement}
 use Rattle.field_utils.proofs.parse_digit.Tie as tie
 
-tested : (c : tie.After-is-numbered-line) {t : Bool} → c .is-numbered-line .result ≡ t
+tested : (c : tie.After-is-numbered-in) {t : Bool} → c .is-numbered-in .result ≡ t
     → let a = c .before .before .args in must t 5 (a .line) ≡ must (isNumbered (now (a .input))) 5 (a .line)
-tested c e = ap (λ (t : Bool). must t 5 (c .before .before .args .line)) (sym e ∙ c .is-numbered-line .ensures)
+tested c e = ap (λ (t : Bool). must t 5 (c .before .before .args .line)) (sym e ∙ c .is-numbered-in .ensures)
 
 returns : tie.Need-returns
 returns c = tested (c .before) (c .if1 .taken)

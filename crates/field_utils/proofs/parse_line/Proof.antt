@@ -13,13 +13,18 @@ use Rattle.field_utils.proofs.NameLines.{number-room, shape-number, sha
 use Rattle.field_utils.proofs.parse_line.Statement.{statement}
 use Rattle.field_utils.proofs.parse_line.Tie as tie
 
--- past the test of its number
+-- what the test of its number says
+number-says : (p : tie.After-parse-number) → let a = p .before .before .args in
+    parseNumber (a .numbering) (a .line) (a .turn) (now (a .input)) ≡ told (p .parse-number .result)
+number-says p = sym (p .parse-number .ensures)
+
+-- past that test
 module _ (c : tie.After-skip-of) where
   abbrev start : tie.Start
   start = c .before .before .before .before .before
 
   passed : let a = start .args in parseNumber (a .numbering) (a .line) (a .turn) (now (a .input)) ≡ accepted
-  passed = sym (c .before .before .before .parse-number .ensures) ∙ ap told (c .before .enum-told .given .1)
+  passed = number-says (c .before .before .before) ∙ ap told (c .before .enum-told .given .1)
 
   room : c .skip-of .result ≤ length (now (start .args .input))
   room = let a = start .args in omega (arith, number-room (a .numbering) (a .line) (a .turn) (now (a .input)) passed, c .skip-of .ensures)
@@ -34,7 +39,7 @@ returns : tie.Need-returns
 returns c =
     let p = c .before .before .before in
     let a = p .before .before .args in
-    sym (shape-number (a .numbering) (a .longest) (a .line) (a .turn) (now (a .input)) (sym (p .parse-number .ensures) ∙ ap told (c .before .outcome .given .1)))
+    sym (shape-number (a .numbering) (a .longest) (a .line) (a .turn) (now (a .input)) (number-says p ∙ ap told (c .before .outcome .given .1)))
 
 sub-if1 : tie.Need-sub-if1
 sub-if1 c = room c

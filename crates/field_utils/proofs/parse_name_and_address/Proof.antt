@@ -134,13 +134,13 @@ module _ (k : tie.After-known-told Inv-loop μ-loop Inv-lines μ-lines) where
       (passed-refused so-far e))
 
 -- what the test of its number and its length says
-shape-says : (p : tie.After-parse-line Inv-loop μ-loop Inv-lines μ-lines) → shape (p .before .before) ≡ told (p .parse-line .result)
+shape-says : (p : tie.After-parse-line Inv-loop μ-loop Inv-lines μ-lines) → shape (p .before .before .before) ≡ told (p .parse-line .result)
 shape-says p = sym (p .parse-line .ensures)
 
 -- past that test, at its bytes
 module _ (l : tie.At-loop Inv-loop μ-loop Inv-lines μ-lines) where
   abbrev here : tie.After-known-told Inv-loop μ-loop Inv-lines μ-lines
-  here = l .before .before .before .before .before .before .before
+  here = l .before .before .before .before .before .before .before .before
 
   shaped : shape here ≡ accepted
   shaped = shape-says (l .before .before .before .before .before) ∙ ap told (l .before .before .before .enum-told2 .given .1)
@@ -213,11 +213,11 @@ module _ (m : tie.At-match-came Inv-loop μ-loop Inv-lines μ-lines) where
       ∙ all-passed (record { before = record { before = m .before; match = w .0 }; enum-told = w .1 }))
       (λ w.
       let k : tie.After-known-told Inv-loop μ-loop Inv-lines μ-lines = record { before = record { before = record { before = m .before; match = w .0 }; found = w .1 }; known-told = w .2 } in
-      let e : tie.After-enum-told2 Inv-loop μ-loop Inv-lines μ-lines = record { before = record { before = record { before = record { before = k; input = w .3 }; parse-line = w .4 }; match2 = w .5 }; enum-told2 = w .6 } in
-      let b : tie.After-shared-slice-known2 Inv-loop μ-loop Inv-lines μ-lines = record { before = record { before = record { before = record { before = record { before = e; classes = w .7 }; pass-bytes = w .8 }; loop = w .9 }; loop-test = w .10 }; shared-slice-known2 = w .11 } in
-      let is : m .match .illegal ≡ number k = w .13 in
+      let e : tie.After-enum-told2 Inv-loop μ-loop Inv-lines μ-lines = record { before = record { before = record { before = record { before = record { before = k; input = w .3 }; classes = w .4 }; parse-line = w .5 }; match2 = w .6 }; enum-told2 = w .7 } in
+      let b : tie.After-shared-slice-known2 Inv-loop μ-loop Inv-lines μ-lines = record { before = record { before = record { before = record { before = record { before = e; classes2 = w .8 }; pass-bytes = w .9 }; loop = w .10 }; loop-test = w .11 }; shared-slice-known2 = w .12 } in
+      let is : m .match .illegal ≡ number k = w .14 in
       ap gives (rest-illegal (m .match .illegal) (limits last .names) (count last) (λ z. omega (arith, z, is)) ∙ ap (refused 3) is)
-      ∙ illegal-byte (record { before = b; if1 = w .12 }))
+      ∙ illegal-byte (record { before = b; if1 = w .13 }))
       (m .match .came)
 
 lines-holds : tie.Need-lines-holds Inv-loop μ-loop Inv-lines μ-lines
@@ -228,12 +228,12 @@ returns : tie.Need-returns Inv-loop μ-loop Inv-lines μ-lines
 unfolding four
 returns c =
     let p = c .before .before .before .before in
-    let k = p .before .before in
+    let k = p .before .before .before in
     ap (toldNames (body (head k))) (c .refuse-names .ensures)
     ∙ refusal k (line-refused _ _ _ _ _ (shape-says p ∙ ap told (c .before .before .outcome .given .1)))
 
 loop-holds : tie.Need-loop-holds Inv-loop μ-loop Inv-lines μ-lines
-loop-holds c = c .pass-bytes .ensures .says ∙ ap (all legal) (sym (part-end (line (c .before .before .before .before .before .before)) (c .pass-bytes .result)))
+loop-holds c = c .pass-bytes .ensures .says ∙ ap (all legal) (sym (part-end (line (c .before .before .before .before .before .before .before)) (c .pass-bytes .result)))
 
 loop-again : tie.Need-loop-again Inv-loop μ-loop Inv-lines μ-lines
 loop-again c =
@@ -269,12 +269,12 @@ parse-name-and-address-spec =
     (λ c. fits c .forward)
     (λ c. fits c .forward)
     (λ c. omega (arith, fits c .before, fits c .within))
-    (λ c κs. omega (arith, counts (c .before), fits (c .before) .within))
+    (λ c κs. (omega (arith, counts (c .before .before), fits (c .before .before) .within), head (c .before .before) .before .class-table .ensures))
     (λ c. search needs)
     (λ c κs. search needs)
     returns
     (λ c. search needs)
-    (λ c κs. head (c .before .before .before .before .before) .before .class-table .ensures)
+    (λ c κs. head (c .before .before .before .before .before .before) .before .class-table .ensures)
     loop-holds
     (λ c. omega (arith, c .before .loop-test .taken))
     (λ c. omega (arith, is-byte c))
