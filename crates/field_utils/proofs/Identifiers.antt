@@ -1,19 +1,22 @@
--- The cases of numbered lines and identifiers. Assumes nothing.
-use mathlib.Core.Path.{_≡_, refl, _∙_}
-use mathlib.Core.Bool.{true, false, _&&_, and-true, and-false, false≢true}
+-- The cases of numbered lines and identifiers, and a byte among others. Assumes nothing.
+use mathlib.Core.Path.{_≡_, refl, sym, _∙_, ap}
+use mathlib.Core.Bool.{Bool, true, false, _&&_, _||_, and-true, and-false, false≢true}
 use mathlib.Core.List.{List, [], _∷_}
-use Prim.Native.Nat.{ℕ, suc, _≤_, _<_}
+use Prim.Native.Nat.{ℕ, suc, _+_, _≤_, _<_}
+use native.Mathlib.Numerals.{add-one}
 use native.Mathlib.Omega.{arith}
 use lib.Dec.{leb, eqb}
-use lib.ListN.{length, take, drop, getD}
-use borrow.Author.Tests.{le-ltb, lt-ltb, le-leb, lt-leb, eq-eqb, ne-eqb}
+use lib.ListN.{length, take, drop, getD, drop-of-length-le}
+use lib.Seq.{drop-cons}
+use borrow.Author.Tests.{le-ltb, lt-ltb, le-leb, lt-leb, eqb-true, eqb-false, eq-eqb, ne-eqb}
 use Rattle.errors.specs.Refusals.{refused, must, _then_}
 use Rattle.party.specs.declared.PartyOption.{PartyOption}
 use Rattle.party.specs.Limits.{limitsOf}
-use Rattle.swift_utils.specs.Bytes.{digit, alphanumeric, all}
+use Rattle.swift_utils.specs.Bytes.{digit, alphanumeric, all, among}
 use Rattle.swift_utils.specs.Checks.{parseAccount}
 use Rattle.field_utils.specs.Lines.{upto, starts}
 use Rattle.field_utils.specs.Identifier.{isNumbered, secondSlash, identifierReply, absent, given, parsePartyIdentifier}
+use Rattle.field_utils.proofs.Tests.{either-left, either-right}
 
 pub starts-none : (b : ℕ) (l : List ℕ) → length l ≡ 0 → starts b l ≡ false
 unfolding starts
@@ -43,6 +46,27 @@ numbered-other l h e = numbered-long l h ∙ rw (ne-eqb _ _ e, and-false)
 
 pub numbered-slash : (l : List ℕ) → 2 ≤ length l → getD l 1 0 ≡ 47 → isNumbered l ≡ digit (getD l 0 0)
 numbered-slash l h e = numbered-long l h ∙ rw (eq-eqb _ _ e, and-true)
+
+swap : (a b : ℕ) → eqb a b ≡ eqb b a
+swap a b = go (eqb b a) refl
+  where
+    go : (t : Bool) → eqb b a ≡ t → eqb a b ≡ t
+    go true e = eq-eqb a b (sym (eqb-true b a e))
+    go false e = ne-eqb a b (λ f. eqb-false b a e (sym f))
+
+-- a byte among those from a place on: there, or after it
+module _ (b : ℕ) (s : List ℕ) (i : ℕ) where
+  pub among-next : i < length s → among (drop i s) b ≡ (eqb (getD s i 0) b || among (drop (i + 1) s) b)
+  among-next h = rw (add-one, drop-cons s i 0, swap (getD s i 0) b)
+
+  pub among-done : length s ≤ i → among (drop i s) b ≡ false
+  among-done h = rw (drop-of-length-le s h)
+
+-- where it is not among them, none is found
+pub upto-none : (b : ℕ) (l : List ℕ) → among l b ≡ false → upto b l ≡ length l
+unfolding upto
+upto-none b [] e = refl
+upto-none b (a ∷ l) e = rw (swap a b ∙ either-left (eqb b a) (among l b) e, upto) (ap suc (upto-none b l (either-right (eqb b a) (among l b) e)))
 
 -- what follows the first slash, where the second stands at k
 module _ (longest n : ℕ) (l : List ℕ) (k : ℕ) (e : k ≡ upto 47 l) where

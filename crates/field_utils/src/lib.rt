@@ -28,8 +28,9 @@ ghost use lib.ListN.{length, drop, getD};
 ghost use Rattle.errors.specs.declared.Outcome.the-variants.{Refused};
 ghost use Rattle.errors.specs.Refusals.{told, must};
 ghost use Rattle.party.specs.Text.{textsIn};
+ghost use Rattle.swift_utils.specs.Bytes.{among};
 ghost use Rattle.swift_utils.specs.Classes.{classTable};
-ghost use Rattle.field_utils.specs.Lines.{starts, lines as linesOf};
+ghost use Rattle.field_utils.specs.Lines.{starts, upto, lines as linesOf};
 ghost use Rattle.field_utils.specs.Identifier.{isNumbered, toldIdentifier, parsePartyIdentifier, identifierReply};
 ghost use Rattle.field_utils.specs.Names.{skipOf, keptFrom, digitOf, parseNumber, parseCount, readNames, toldNames};
 ghost use Rattle.field_utils.specs.Code.{parseShape, parseRest, givenNames, noNames, Tested};
@@ -94,11 +95,34 @@ pub fn parse_party_identifier(input: &[u8], line: usize, option: PartyOption) ->
     }
 }
 
+// Whether a slash is among the bytes. No byte ends the loop, so that the compiler can take many at a time.
+fn has_slash(s: &[u8]) -> bool
+    ensures { λ r. ⌜ r ≡ among (now (s .entry)) 47 ⌝ }
+{
+    let mut seen = false;
+    let mut i = 0;
+    while i < s.len() {
+        seen = seen | (s[i] == b'/');
+        i += 1;
+    }
+    seen
+}
+
+// Where the first slash stands, or the length where there is none.
+fn find_slash(s: &[u8]) -> usize
+    ensures { λ r. ⌜ r ≡ upto 47 (now (s .entry)) ⌝ }
+{
+    if !has_slash(s) {
+        return s.len();
+    }
+    find(s, 0, b'/')
+}
+
 // What follows the first slash: a second one at once, a code before it, or none.
 pub fn parse_remaining(remaining: &[u8], longest: usize, line: usize) -> Outcome
     ensures { λ r. ⌜ told r ≡ identifierReply longest line (now (remaining .entry)) ⌝ }
 {
-    let slash = find(remaining, 0, b'/');
+    let slash = find_slash(remaining);
     if remaining.len() <= slash {
         return parse_account(remaining, 0, longest, line);
     }
