@@ -5,5 +5,6 @@ pub mod Trims
 pub mod Identifiers
 pub mod NameLines
 pub mod NameTexts
+pub mod NamePlaces
 pub mod Tests
-pub mod Ascii
+pub mod AllBytes

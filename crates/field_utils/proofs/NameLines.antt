@@ -124,6 +124,10 @@ module _ (illegal most count : ℕ) where
   pub rest-counted : illegal ≡ 0 → parseRest illegal most count ≡ parseCount most count
   rest-counted e = rw (eq-eqb illegal 0 e)
 
+pub given-reply : (r : Reply) (count : ℕ) (texts : List Text) (digits : List ℕ) → givenNames r count texts digits .reply ≡ r
+given-reply accepted count texts digits = refl
+given-reply (refused k n) count texts digits = refl
+
 -- what names give, by their count, their texts and their digits
 given : (r : Reply) (ns : List (List ℕ)) (ds : List ℕ) → namesOr r ns ds ≡ givenNames r (length ns) (fourTexts ns) (four 0 ds)
 given accepted ns ds = refl

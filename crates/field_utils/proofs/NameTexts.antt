@@ -36,13 +36,13 @@ module _ {A : Type 0} (none : A) where
   four-past (a ∷ b ∷ c ∷ []) x h = absurd (omega arith)
   four-past (a ∷ b ∷ c ∷ d ∷ xs) x h = refl
 
-  -- the same of what lines give
-  module _ (f : List ℕ → A) (ls : List (List ℕ)) (l : List ℕ) {n : ℕ} (count : n ≡ length ls) where
-    more-of : {w : List A} {x : A} → w ≡ four none (map f ls) → x ≡ f l → n < 4 → set w n x ≡ four none (map f (ls ++ (l ∷ [])))
+  -- the same of what is made of others
+  module _ {B : Type 0} (f : B → A) (ls : List B) (l : B) {n : ℕ} (count : n ≡ length ls) where
+    pub more-of : {w : List A} {x : A} → w ≡ four none (map f ls) → x ≡ f l → n < 4 → set w n x ≡ four none (map f (ls ++ (l ∷ [])))
     more-of e g h =
         rw (e, g, count, map-append f ls (l ∷ []), ← length-map ls f) (four-more (map f ls) (f l) (omega (arith, h, count, length-map ls f)))
 
-    past-of : {w : List A} → w ≡ four none (map f ls) → 4 ≤ n → w ≡ four none (map f (ls ++ (l ∷ [])))
+    pub past-of : {w : List A} → w ≡ four none (map f ls) → 4 ≤ n → w ≡ four none (map f (ls ++ (l ∷ [])))
     past-of e h = e ∙ four-past (map f ls) (f l) (omega (arith, h, count, length-map ls f)) ∙ ap (four none) (sym (map-append f ls (l ∷ [])))
 
 map-set : {A B : Type 0} (f : A → B) (l : List A) (i : ℕ) (a : A) → map f (set l i a) ≡ set (map f l) i (f a)

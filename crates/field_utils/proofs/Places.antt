@@ -124,6 +124,7 @@ module _ (s : List ℕ) (at : ℕ) where
 -- what a found line says: the line is the part from start to end, and the lines from the place on are it and those from rest on
 pub record Found (s : List ℕ) (at start end rest : ℕ) : Type 0 where
   pub line : lines (drop at s) ≡ part start end s ∷ lines (drop rest s)
+  pub onward : at ≤ start
   pub forward : start ≤ end
   pub before : end ≤ rest
   pub moved : at < rest
@@ -144,6 +145,7 @@ module _ (s : List ℕ) (at n : ℕ) (r : Upto 10 (drop at s) n) (h : at < lengt
   fits-last k =
       record {
         line = rw k (lines-end r (omega (arith, length-drop at s)) (omega arith) ∙ rw (part-end s at, drop-length));
+        onward = omega arith;
         forward = omega arith;
         before = omega arith;
         moved = omega arith;
@@ -155,6 +157,7 @@ module _ (s : List ℕ) (at n : ℕ) (r : Upto 10 (drop at s) n) (h : at < lengt
   fits-lf k =
       record {
         line = lines-lf r (omega (arith, length-drop at s)) ∙ rw (drop-drop, add-sub-cancel-left, onwards) (ap (λ (l : List ℕ). l ∷ lines (drop (at + suc n) s)) whole);
+        onward = omega arith;
         forward = omega arith;
         before = omega (arith, short);
         moved = omega arith;

@@ -7,10 +7,12 @@ use lib.ListN.{length, drop}
 use Rattle.errors.specs.declared.Outcome.{Outcome}
 use Rattle.errors.specs.Refusals.{Reply, accepted, refused, must, _then_}
 use Rattle.party.specs.declared.Text.{Text}
+use Rattle.party.specs.declared.Part.{Part}
 use Rattle.party.specs.Text.{four, fourTexts}
 use Rattle.party.specs.declared.Numbering.{Numbering}
 use Rattle.swift_utils.specs.Bytes.{all, legal}
 use Rattle.field_utils.specs.declared.Names.{Names}
+use Rattle.field_utils.specs.Cursor.{noPlace}
 use Rattle.field_utils.specs.Names.{skipOf, parseNumber, parseCount, NamesRead}
 
 -- a line of names before its bytes: its number, then the length of its text
@@ -28,7 +30,12 @@ givenNames (refused k n) count texts digits = record { reply = refused k n; coun
 
 -- an answer with no names beside it
 abbrev pub noNames : Outcome → Names
-noNames outcome = record { outcome = outcome; count = 0; parts = four (record { start = 0; len = 0 }) []; digits = four 0 [] }
+noNames outcome = record { outcome = outcome; count = 0; parts = four noPlace []; digits = four 0 [] }
+
+-- parts, or none where the names are refused
+abbrev pub partsOr : Reply → List Part → List Part
+partsOr accepted parts = parts
+partsOr (refused k n) parts = four noPlace []
 
 -- what the bytes from a place on say of legal ones is what all say
 pub record Tested (l : List ℕ) (n : ℕ) : Type 0 where

@@ -3,6 +3,7 @@ use errors::Outcome;
 use errors::ParseError;
 use lines::Line;
 use lines::Lines;
+use lines::behind;
 use lines::find;
 use party::NO_PART;
 use party::Numbering;
@@ -21,19 +22,22 @@ pub mod lines;
 mod words;
 
 ghost use mathlib.Core.Path.{_≡_};
+ghost use mathlib.Core.Bool.{true};
 ghost use mathlib.Core.List.{List};
 ghost use Prim.Native.Nat.{ℕ, suc, _+_, _<_, _^_};
 ghost use lib.Dec.{eqb};
 ghost use lib.ListN.{length, drop, getD};
 ghost use Rattle.errors.specs.declared.Outcome.the-variants.{Refused};
 ghost use Rattle.errors.specs.Refusals.{told, must};
+ghost use Rattle.party.specs.Limits.{limitsOf};
 ghost use Rattle.party.specs.Text.{textsIn};
-ghost use Rattle.swift_utils.specs.Bytes.{among};
+ghost use Rattle.swift_utils.specs.Bytes.{among, all, legal};
 ghost use Rattle.swift_utils.specs.Classes.{classTable};
 ghost use Rattle.field_utils.specs.Lines.{starts, upto, lines as linesOf};
 ghost use Rattle.field_utils.specs.Identifier.{isNumbered, toldIdentifier, parsePartyIdentifier, identifierReply};
 ghost use Rattle.field_utils.specs.Names.{skipOf, keptFrom, digitOf, parseNumber, parseCount, readNames, toldNames};
-ghost use Rattle.field_utils.specs.Code.{parseShape, parseRest, givenNames, noNames, Tested};
+ghost use Rattle.field_utils.specs.Cursor.{linePlaces, namePlaces};
+ghost use Rattle.field_utils.specs.Code.{parseShape, parseRest, givenNames, partsOr, noNames, Tested};
 
 // Whether a line starts with a slash.
 pub fn starts_with_slash(line: &[u8]) -> bool
@@ -282,6 +286,7 @@ fn refuse_names(e: ParseError) -> Names
 // The names, after the lines: the one of an illegal byte, or 0 (3), then the count (7).
 fn counted(illegal: usize, count: usize, most: usize, parts: [Part; 4], digits: [u8; 4]) -> Names
     ensures { λ r. ⌜ ((body : List ℕ) → toldNames body r ≡ givenNames (parseRest illegal most count) count (textsIn body parts) digits) ⌝ }
+    ensures { λ r. ⌜ r .parts ≡ partsOr (parseRest illegal most count) parts ⌝ }
 {
     if illegal != 0 {
         return refuse_names(ParseError::IllegalByte(illegal));
@@ -298,27 +303,25 @@ fn counted(illegal: usize, count: usize, most: usize, parts: [Part; 4], digits: 
     }
 }
 
-// How many of a line's bytes need no test one by one: all where a test of all at once passes, else none.
-fn pass_bytes(input: &[u8], classes: &[u8; 256]) -> usize
-    requires { ⌜ now classes ≡ classTable ⌝ }
+// How many of a line's bytes need no test one by one: all where they are known to be legal, else none.
+fn pass_bytes(input: &[u8], known: bool) -> usize
+    requires { ⌜ (known ≡ true → all legal (now input) ≡ true) ⌝ }
     ensures { λ r. ⌜ Tested (now (input .entry)) r ⌝ }
 {
-    if all_in(input, classes, LEGAL) {
-        input.len()
-    } else {
-        0
-    }
+    if known { input.len() } else { 0 }
 }
 
 // The lines of names from a place on, which start_idx lines precede: each tested in order, its number, its length, then its bytes; and
-// counted last. The Rust writes this loop out in 50, 50F, 50K, 50H and 59F.
+// counted last. One test of all bytes comes first, and no byte is tested singly where it passes. The Rust writes this loop out in 50, 50F, 50K, 50H and 59F.
 pub fn parse_name_and_address(body: &[u8], from: Lines, start_idx: u8, option: PartyOption) -> Names
     ensures { λ r. ⌜ toldNames (now (body .entry)) r ≡ readNames option (suc «start_idx») (linesOf (drop (from .at) (now (body .entry)))) ⌝ }
+    ensures places { λ r. ⌜ r .parts ≡ namePlaces (told (r .outcome)) (keptFrom (limitsOf option .numbering)) (linePlaces (now (body .entry)) (from .at)) ⌝ }
 {
     let limits = limits_of(option);
     let numbering = limits.numbering;
     let kept = kept_from(numbering);
     let classes = class_table();
+    let known = all_in(behind(body, from.at), &classes, LEGAL);
     let mut parts = [NO_PART; 4];
     let mut digits = [0u8; 4];
     let mut cursor = from;
@@ -335,7 +338,7 @@ pub fn parse_name_and_address(body: &[u8], from: Lines, start_idx: u8, option: P
         if let Outcome::Refused(e) = outcome {
             return refuse_names(e);
         }
-        let mut i = pass_bytes(input, &classes);
+        let mut i = pass_bytes(input, known);
         while i < input.len() {
             let b = input[i] as usize;
             if classes[b] & LEGAL != LEGAL {

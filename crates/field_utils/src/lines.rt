@@ -17,6 +17,13 @@ ghost use Rattle.field_utils.specs.Trim.{white, trimmed, trimmedEnd};
 // Up to so many bytes are searched by single words, before blocks of them are passed.
 const NEAR: usize = 128;
 
+// The bytes of a slice from a place on, none where it is past the end.
+pub fn behind(s: &[u8], skip: usize) -> &[u8]
+    ensures { λ r. ⌜ now r ≡ drop skip (now (s .entry)) ⌝ }
+{
+    if skip <= s.len() { &s[skip..] } else { &s[..0] }
+}
+
 // Where a byte first stands from a place on, or the length where it does not; a place past the length is given back.
 pub fn find(s: &[u8], from: usize, b: u8) -> usize
     ensures { λ r. ⌜ r ≡ from + upto b (drop from (now (s .entry))) ⌝ }

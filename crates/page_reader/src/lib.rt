@@ -1,6 +1,7 @@
 // Reading pages of fields, which are ours: no Rust file has them. A page, also one of others, is read at a position, field by field.
 use errors::Outcome;
 use errors::ParseError;
+use field_utils::lines::behind;
 use field_utils::lines::find_lf;
 use field_utils::lines::without_cr;
 use flat::RECORD_SIZE;
@@ -11,7 +12,6 @@ use party::PartyOption;
 use party::blank;
 use party::limits_of;
 use party::option_at;
-use reader::behind;
 use reader::read_into;
 ghost use mathlib.Core.Path.{_≡_};
 ghost use mathlib.Core.Bool.{false, true};

@@ -13,7 +13,7 @@ use Rattle.party.specs.declared.Party.{Party}
 use Rattle.party.specs.declared.Part.{Part}
 use Rattle.party.specs.declared.Parts.{Parts}
 use Rattle.party.specs.Limits.{limitsOf, placeOf, optionAt}
-use Rattle.party.specs.Text.{padded, textOf, partIn}
+use Rattle.party.specs.Text.{padded, textOf, partIn, four}
 use Rattle.party.specs.Party.{IsParty, blank, partyIn, said, Same}
 use Rattle.party.specs.declared.Numbering.the-variants.{Unnumbered, Numbered, InTurn}
 use Rattle.swift_utils.specs.Bytes.{bytes, all, letter, small, digit, alphanumeric, signs, legal, narrowSigns, narrow}
@@ -21,7 +21,7 @@ use Rattle.swift_utils.specs.Classes.{bitsOf, classesOf, classTable, entryIn}
 use Rattle.swift_utils.specs.Checks.{parseSwiftChars, parseLength, parseAccount, bicLength}
 use Rattle.field_utils.specs.declared.lines.Line.the-variants.{Next, Done}
 use Rattle.field_utils.specs.Lines.{upto, starts, withoutCr}
-use Rattle.field_utils.specs.Cursor.{lineOf, nextLine}
+use Rattle.field_utils.specs.Cursor.{lineOf, nextLine, placesOf, linePlaces, noPlace, namePlaces}
 use Rattle.field_utils.specs.Trim.{white, trimmedStart, keep, trimmedEnd, trimmed}
 use Rattle.field_utils.specs.Identifier.{isNumbered, secondSlash, identifierReply}
 use Rattle.field_utils.specs.Names.{skipOf, keptFrom, parseCount}
@@ -227,9 +227,14 @@ pub record FieldUtilsOperations : Type 0 where
   pub parse-count-takes-none : parseCount 4 0 ≡ refused 7 0
   -- refuses as many as there may be
   pub parse-count-refuses-four : parseCount 4 4 ≡ accepted
+  -- takes a name that is like an earlier one from the earlier place
+  pub names-from-one-place : linePlaces (bytes "A\r\nA") 0 ≡ record { start = 0; len = 1 } ∷ record { start = 3; len = 1 } ∷ []
+  -- gives 50F's number with its name, or the places of refused names
+  pub names-with-numbers : namePlaces accepted 2 (record { start = 0; len = 3 } ∷ []) ≡ record { start = 2; len = 1 } ∷ noPlace ∷ noPlace ∷ noPlace ∷ []
+  pub names-refused : namePlaces (refused 7 0) 2 (record { start = 0; len = 3 } ∷ []) ≡ noPlace ∷ noPlace ∷ noPlace ∷ noPlace ∷ []
 
 pub field-utils-operations : FieldUtilsOperations
-unfolding letter digit alphanumeric signs legal parseSwiftChars parseAccount upto starts withoutCr lineOf nextLine white trimmedStart keep trimmedEnd trimmed isNumbered secondSlash identifierReply
+unfolding four letter digit alphanumeric signs legal parseSwiftChars parseAccount upto starts withoutCr lineOf nextLine placesOf white trimmedStart keep trimmedEnd trimmed isNumbered secondSlash identifierReply
 field-utils-operations = record {
   find-skips-the-start = refl;
   find-skips-bytes = refl;
@@ -253,4 +258,7 @@ field-utils-operations = record {
   kept-from-leaves-59F = refl;
   parse-count-takes-none = refl;
   parse-count-refuses-four = refl;
+  names-from-one-place = refl;
+  names-with-numbers = refl;
+  names-refused = refl;
 }

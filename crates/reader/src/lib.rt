@@ -5,6 +5,7 @@ use errors::ParseError;
 use field_utils::PartyIdentifier;
 use field_utils::lines::Line;
 use field_utils::lines::Lines;
+use field_utils::lines::behind;
 use field_utils::lines::count_lines;
 use field_utils::lines::find_lf;
 use field_utils::lines::is_ascii;
@@ -82,13 +83,6 @@ pub fn refuse(e: ParseError) -> Answer
         outcome: Outcome::Refused(e),
         party: blank(),
     }
-}
-
-// The bytes of a slice from a place on, none where it is past the end.
-pub fn behind(s: &[u8], skip: usize) -> &[u8]
-    ensures { λ r. ⌜ now r ≡ drop skip (now (s .entry)) ⌝ }
-{
-    if skip <= s.len() { &s[skip..] } else { &s[..0] }
 }
 
 // What was found of an account or identifier in the first line: its text is the line from skip on.

@@ -27,7 +27,7 @@ module _ (p : tie.After-parse-name-and-address) where
   says : parseNameAndAddress (start .args .option) (suc (start .args .start-idx)) names ≡ told (p .parse-name-and-address .result .outcome)
   says =
       sym (names-reply (start .args .option) (suc (start .args .start-idx)) names)
-      ∙ sym (ap (λ (w : NamesRead). w .reply) (p .parse-name-and-address .ensures))
+      ∙ sym (ap (λ (w : NamesRead). w .reply) (p .parse-name-and-address .ensures .0))
 
 returns : tie.Need-returns
 returns c =
@@ -43,7 +43,7 @@ returns-2 c =
     let head = passedHead (a .present) (partIn (now (a .body)) (a .account)) in
     let passed = says p ∙ ap told (e .enum-told .given .1) in
     accepting (a .option) (withNames (a .option) (suc (a .start-idx)) head (names p)) (now (a .body)) (c .accept .result) _ (c .accept .ensures) passed
-    (party-named (a .option) (suc (a .start-idx)) head (names p) passed refl refl (p .parse-name-and-address .ensures))
+    (party-named (a .option) (suc (a .start-idx)) head (names p) passed refl refl (p .parse-name-and-address .ensures .0))
 
 pub read-names-spec : {M : Type 1} → statement M
 read-names-spec =

@@ -8,7 +8,7 @@ use borrow.Author.Tests.{le-leb, lt-leb}
 use Rattle.swift_utils.specs.Bytes.{all}
 use Rattle.swift_utils.proofs.Classes.{all-fails, all-passes, all-done}
 use Rattle.swift_utils.proofs.Parts.{part, part-end}
-use Rattle.field_utils.proofs.Ascii.{low}
+use Rattle.field_utils.proofs.AllBytes.{low}
 use Rattle.field_utils.proofs.lines.are_low.Statement.{statement}
 use Rattle.field_utils.proofs.lines.are_low.Tie as tie
 

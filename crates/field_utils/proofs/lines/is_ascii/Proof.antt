@@ -10,7 +10,7 @@ use lib.Seq.{take-all}
 use borrow.Author.Needs.{needs}
 use borrow.Author.Tests.{not-true, not-false}
 use Rattle.swift_utils.specs.Bytes.{all}
-use Rattle.field_utils.proofs.Ascii.{low, all-first, Says, says-none, says-more}
+use Rattle.field_utils.proofs.AllBytes.{low, all-first, Says, says-none, says-more}
 use Rattle.field_utils.proofs.lines.is_ascii.Statement.{statement}
 use Rattle.field_utils.proofs.lines.is_ascii.Tie as tie
 

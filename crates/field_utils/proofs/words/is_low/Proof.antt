@@ -1,5 +1,5 @@
 -- `words::is_low` meets its contract. Assumes nothing.
-use Rattle.field_utils.proofs.Ascii.{low-word}
+use Rattle.field_utils.proofs.AllBytes.{low-word}
 use Rattle.field_utils.proofs.words.is_low.Statement.{statement}
 use Rattle.field_utils.proofs.words.is_low.Tie as tie
 

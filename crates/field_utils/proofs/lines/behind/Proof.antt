@@ -1,12 +1,12 @@
--- `reader::behind` meets its contract. Assumes nothing.
+-- `lines::behind` meets its contract. Assumes nothing.
 use mathlib.Core.Path.{sym}
 use denote.Ref.{now}
 use native.Mathlib.Omega.{arith}
 use lib.ListN.{drop-of-length-le}
 use Rattle.swift_utils.proofs.Parts.{part-end}
 use borrow.Author.Needs.{needs}
-use Rattle.reader.proofs.behind.Statement.{statement}
-use Rattle.reader.proofs.behind.Tie as tie
+use Rattle.field_utils.proofs.lines.behind.Statement.{statement}
+use Rattle.field_utils.proofs.lines.behind.Tie as tie
 
 returns : tie.Need-returns
 returns c = part-end (now (c .before .before .args .s)) (c .before .before .args .skip)

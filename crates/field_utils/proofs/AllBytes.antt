@@ -1,4 +1,4 @@
--- Bytes of at most 127, in a word and in a list of which the first ones were passed. Assumes nothing.
+-- Tests of all bytes: of a word, of a part, and of a list of which the first ones were passed. Assumes nothing.
 use mathlib.Core.Path.{_≡_, refl, sym, _∙_, ap}
 use mathlib.Core.Bool.{Bool, true, false, _&&_, and-assoc}
 use mathlib.Core.List.{List, [], _∷_}
@@ -50,6 +50,14 @@ module _ (f : ℕ → Bool) where
 
   pub all-first : {t : Bool} (k : ℕ) (l : List ℕ) → all f (take k l) ≡ t → all f l ≡ (t && all f (drop k l))
   all-first k l e = split k l ∙ ap (λ (t : Bool). t && all f (drop k l)) e
+
+  -- a part of what is left from a place on
+  pub all-part : (s : List ℕ) (a b n : ℕ) → a ≤ b → all f (drop a s) ≡ true → all f (take n (drop b s)) ≡ true
+  all-part s a b n h e =
+      let there : a + (b - a) ≡ b = omega (arith, h) in
+      let left = both-right (all f (take (b - a) (drop a s))) _ (sym (split (b - a) (drop a s)) ∙ e) in
+      let here : all f (drop b s) ≡ true = sym (ap (all f) (drop-drop (b - a) a s ∙ ap (λ (m : ℕ). drop m s) there)) ∙ left in
+      both-left (all f (take n (drop b s))) (all f (drop n (drop b s))) (sym (split n (drop b s)) ∙ here)
 
   fewer : (k m : ℕ) (l : List ℕ) → k ≤ m → all f (take m l) ≡ true → all f (take k l) ≡ true
   fewer zero m l h e = refl
