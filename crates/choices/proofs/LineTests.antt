@@ -4,7 +4,7 @@ use mathlib.Core.Bool.{Bool, true, false, _&&_, _||_, and-true, and-false, false
 use mathlib.Core.List.{List, [], _∷_}
 use Prim.Native.Nat.{ℕ, _≤_, _<_}
 use lib.Dec.{leb, eqb}
-use lib.ListN.{length, drop, length-drop}
+use lib.ListN.{length, take, drop, length-drop}
 use native.Mathlib.Omega.{arith}
 use borrow.Author.Tests.{eqb-true, ne-eqb, le-leb, lt-leb}
 use Rattle.swift_utils.specs.Bytes.{all, alphanumeric}
@@ -82,6 +82,12 @@ module _ (ls : List (List ℕ)) where
   pub short-fits : length (firstLine ls) ≤ 35 → shortBicLine ls ≡ testLine ls
   unfolding shortBicLine testLine
   short-fits h = rw (le-leb (length (drop 1 (firstLine ls))) 34 (omega (arith, length-drop 1 (firstLine ls))), and-true (starts 47 (firstLine ls)), shortBicLine)
+
+-- there is one line where there is one of the first three
+pub one-of-three : (ls : List (List ℕ)) → eqb (length (take 3 ls)) 1 ≡ eqb (length ls) 1
+one-of-three [] = refl
+one-of-three (l ∷ []) = refl
+one-of-three (l ∷ m ∷ ls) = ne-eqb (length (take 3 (l ∷ m ∷ ls))) 1 (λ q. omega arith) ∙ sym (ne-eqb (length (l ∷ m ∷ ls)) 1 (λ q. omega arith))
 
 -- where a line after the first is numbered, there are 2 or more
 pub later-two : (ls : List (List ℕ)) → (leb 2 (length ls) && anyNumbered (drop 1 ls)) ≡ anyNumbered (drop 1 ls)

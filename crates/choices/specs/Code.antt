@@ -11,6 +11,7 @@ use Rattle.party.specs.declared.PartyOption.the-variants.{Field50NoOption, Fiel
 use Rattle.party.specs.declared.First.the-variants.{ShortAccount}
 use Rattle.party.specs.Party.{blank}
 use Rattle.swift_utils.specs.Checks.{bicLength}
+use Rattle.field_utils.specs.Lines.{lines}
 use Rattle.field_utils.specs.Identifier.{isNumbered}
 use Rattle.flat.specs.Flat.{unflatten}
 use Rattle.reader.specs.declared.Answer.{Answer}
@@ -19,26 +20,26 @@ use Rattle.choices.specs.declared.Choice.{Choice}
 use Rattle.choices.specs.declared.Choice.the-variants.{Field50InstructingParty, Field50OrderingCustomerFGH, Field50OrderingCustomerAFK, Field50OrderingCustomerNCF, Field50Creditor, Field59, Field59Debtor}
 use Rattle.choices.specs.declared.Test.{Test}
 use Rattle.choices.specs.declared.Seen.{Seen}
-use Rattle.choices.specs.Detection.{anyNumbered, firstLine, lastLine, testLine, holds}
+use Rattle.choices.specs.Detection.{firstLine, lastLine, testLine, holds}
 
 -- ---- the walk
--- what a walk of a text sees of lines, the last of which is a part of the text
+-- what a walk of a text sees of lines: how many there are, at most 3; the first and the second, of which the last is a part of the
+-- text; and where those after them start
 pub record Walked (s : List ℕ) (ls : List (List ℕ)) (w : Seen) : Type 0 where
-  pub count : w .count ≡ length ls
+  pub count : w .count ≡ length (take 3 ls)
   pub first : w .first ≡ length (firstLine ls)
   pub second : w .second ≡ length (firstLine (drop 1 ls))
   pub one : w .«first_numbered» ≡ isNumbered (firstLine ls)
   pub two : w .«second_numbered» ≡ isNumbered (firstLine (drop 1 ls))
-  pub later : w .«later_numbered» ≡ anyNumbered (drop 1 ls)
-  pub last : take (w .to - w .from) (drop (w .from) s) ≡ lastLine ls
+  pub last : take (w .to - w .from) (drop (w .from) s) ≡ lastLine (take 2 ls)
   pub forward : w .from ≤ w .to
   pub within : w .to ≤ length s
+  pub rest : lines (drop (w .rest .at) s) ≡ drop 2 ls
 
 -- two lines are passed, the second from start to end
 pub record Passed (s : List ℕ) (start end at : ℕ) : Type 0 where
   pub forward : start ≤ end
   pub before : end ≤ at
-  pub moved : 2 ≤ at
   pub within : at ≤ length s
 
 -- the text whose lines a choice's tests ask: no line in the choice that has no test

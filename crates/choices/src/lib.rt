@@ -20,7 +20,7 @@ use swift_utils::BIC_SHORT;
 use swift_utils::all_alphanumeric;
 use swift_utils::is_bic_length;
 ghost use mathlib.Core.Path.{_≡_};
-ghost use mathlib.Core.Bool.{_&&_, _||_};
+ghost use mathlib.Core.Bool.{_&&_};
 ghost use mathlib.Core.List.{_∷_};
 ghost use Prim.Native.Nat.{_-_};
 ghost use lib.Dec.{eqb};
@@ -33,7 +33,7 @@ ghost use Rattle.field_utils.specs.Lines.{lines};
 ghost use Rattle.field_utils.specs.Identifier.{isNumbered};
 ghost use Rattle.reader.specs.Reading.{toldAnswer, toldInto, readInto};
 ghost use Rattle.reader.specs.Options.{bodyReply};
-ghost use Rattle.choices.specs.Detection.{bicLike, testLine, holds as holdsOf};
+ghost use Rattle.choices.specs.Detection.{anyNumbered, lastLine, bicLike, testLine, holds as holdsOf};
 ghost use Rattle.choices.specs.Choices.{trialsOf, triedText, wanted, firstThat, parse as parseOf, isLetter, parseWithVariant, readText};
 ghost use Rattle.choices.specs.Code.{Passed, Walked, shortBicLine, ruledOut, isOpen, askedText, answerFrom};
 
@@ -70,84 +70,42 @@ pub enum Trial {
     Nothing,
 }
 
-// What the tests ask of a text's lines, gathered in one walk. A line that is not there is empty.
+// What the tests ask first of a text's lines: what a walk sees of two, and where the others start. A line that is not there is empty.
 struct Seen {
+    // how many lines there are, at most 3
     count: usize,
     // the lengths of the first line and of the second
     first: usize,
     second: usize,
-    // whether these are numbered, and whether one after the first is
+    // whether these are numbered
     first_numbered: bool,
     second_numbered: bool,
-    later_numbered: bool,
-    // where the last line starts and ends
+    // where the second line, or the only one, starts and ends
     from: usize,
     to: usize,
+    // the cursor after it
+    rest: Lines,
 }
 
-// Whether a line is numbered. Its second byte is looked at first: the test for a digit writes out a table.
-fn is_numbered(line: &[u8]) -> bool
-    ensures { λ r. ⌜ r ≡ isNumbered (now (line .entry)) ⌝ }
+// What is seen of two lines or more: the first, and the second from start to end, with the cursor after it.
+fn walk_second(text: &[u8], first: &[u8], start: usize, end: usize, rest: Lines) -> Seen
+    requires { ⌜ Passed (now text) start end (rest .at) ⌝ }
+    ensures { λ r. ⌜ Walked (now (text .entry)) (now (first .entry) ∷ take (end - start) (drop start (now (text .entry))) ∷ lines (drop (rest .at) (now (text .entry)))) r ⌝ }
 {
-    if line.len() < 2 {
-        return false;
-    }
-    if line[1] != b'/' {
-        return false;
-    }
-    is_numbered_line(line)
-}
-
-// Whether a line is, or one before it was.
-fn or_numbered(before: bool, line: &[u8]) -> bool
-    ensures { λ r. ⌜ r ≡ (before || isNumbered (now (line .entry))) ⌝ }
-{
-    if before {
-        return true;
-    }
-    is_numbered(line)
-}
-
-// The walk from the third line on, after the first and the second, which is a part of the text.
-fn walk_later(text: &[u8], first: &[u8], start: usize, end: usize, from: Lines) -> Seen
-    requires { ⌜ Passed (now text) start end (from .at) ⌝ }
-    ensures { λ r. ⌜ Walked (now (text .entry)) (now (first .entry) ∷ take (end - start) (drop start (now (text .entry))) ∷ lines (drop (from .at) (now (text .entry)))) r ⌝ }
-{
-    let first_numbered = is_numbered(first);
-    let second_numbered = is_numbered(&text[start..end]);
-    let mut later_numbered = second_numbered;
-    let mut cursor = from;
-    let mut count = 2;
-    let mut last = start;
-    let mut to = end;
-    loop {
-        let found = cursor.next(text);
-        let Line::Next {
-            start: next,
-            end: next_end,
-            rest,
-        } = found
-        else {
-            return Seen {
-                count,
-                first: first.len(),
-                second: end - start,
-                first_numbered,
-                second_numbered,
-                later_numbered,
-                from: last,
-                to,
-            };
-        };
-        later_numbered = or_numbered(later_numbered, &text[next..next_end]);
-        last = next;
-        to = next_end;
-        count += 1;
-        cursor = rest;
+    let count = if rest.at < text.len() { 3 } else { 2 };
+    Seen {
+        count,
+        first: first.len(),
+        second: end - start,
+        first_numbered: is_numbered_line(first),
+        second_numbered: is_numbered_line(&text[start..end]),
+        from: start,
+        to: end,
+        rest,
     }
 }
 
-// Walks the lines of a text.
+// Walks the first two lines of a text.
 fn walk(text: &[u8]) -> Seen
     ensures { λ r. ⌜ Walked (now (text .entry)) (lines (now (text .entry))) r ⌝ }
 {
@@ -160,9 +118,9 @@ fn walk(text: &[u8]) -> Seen
             second: 0,
             first_numbered: false,
             second_numbered: false,
-            later_numbered: false,
             from: 0,
             to: 0,
+            rest: top,
         };
     };
     let first = &text[start..end];
@@ -177,14 +135,61 @@ fn walk(text: &[u8]) -> Seen
             count: 1,
             first: first.len(),
             second: 0,
-            first_numbered: is_numbered(first),
+            first_numbered: is_numbered_line(first),
             second_numbered: false,
-            later_numbered: false,
             from: start,
             to: end,
+            rest,
         };
     };
-    walk_later(text, first, next, next_end, later)
+    walk_second(text, first, next, next_end, later)
+}
+
+// Whether a line from a cursor on is numbered.
+fn numbered_from(text: &[u8], from: Lines) -> bool
+    ensures { λ r. ⌜ r ≡ anyNumbered (lines (drop (from .at) (now (text .entry)))) ⌝ }
+{
+    let mut cursor = from;
+    loop {
+        let found = cursor.next(text);
+        let Line::Next { start, end, rest } = found else {
+            return false;
+        };
+        if is_numbered_line(&text[start..end]) {
+            return true;
+        }
+        cursor = rest;
+    }
+}
+
+// Whether a line after the first is: the second, or, where there are more, one that is walked now.
+fn later_numbered(text: &[u8], seen: Seen) -> bool
+    requires { ⌜ Walked (now text) (lines (now text)) seen ⌝ }
+    ensures { λ r. ⌜ r ≡ anyNumbered (drop 1 (lines (now (text .entry)))) ⌝ }
+{
+    if seen.second_numbered {
+        return true;
+    }
+    2 < seen.count && numbered_from(text, seen.rest)
+}
+
+// The last line, as a part of the text.
+fn last_line(text: &[u8], seen: Seen) -> &[u8]
+    requires { ⌜ Walked (now text) (lines (now text)) seen ⌝ }
+    ensures { λ r. ⌜ now r ≡ lastLine (lines (now (text .entry))) ⌝ }
+{
+    let mut from = seen.from;
+    let mut to = seen.to;
+    let mut cursor = seen.rest;
+    loop {
+        let found = cursor.next(text);
+        let Line::Next { start, end, rest } = found else {
+            return &text[from..to];
+        };
+        from = start;
+        to = end;
+        cursor = rest;
+    }
 }
 
 // Whether there are 2 lines, and the first has a slash.
@@ -209,14 +214,18 @@ fn slash_first(text: &[u8], seen: Seen) -> bool
     starts_with_slash(text)
 }
 
-// Whether a line is numbered.
-fn any_numbered(seen: Seen) -> bool
-    ensures { λ r. ⌜ r ≡ (seen .«first_numbered» || seen .«later_numbered») ⌝ }
+// Whether a line is numbered. Not by later_numbered: used in two places it would stay a call, for which what was seen is copied.
+fn any_numbered(text: &[u8], seen: Seen) -> bool
+    requires { ⌜ Walked (now text) (lines (now text)) seen ⌝ }
+    ensures { λ r. ⌜ r ≡ holdsOf Test.AnyNumbered (lines (now (text .entry))) ⌝ }
 {
     if seen.first_numbered {
         return true;
     }
-    seen.later_numbered
+    if seen.second_numbered {
+        return true;
+    }
+    2 < seen.count && numbered_from(text, seen.rest)
 }
 
 // Whether a text is 8 or 11 letters or digits.
@@ -234,9 +243,7 @@ fn last_is_bic(text: &[u8], seen: Seen) -> bool
     requires { ⌜ Walked (now text) (lines (now text)) seen ⌝ }
     ensures { λ r. ⌜ r ≡ holdsOf Test.LastIsBic (lines (now (text .entry))) ⌝ }
 {
-    let from = seen.from;
-    let to = seen.to;
-    is_bic_like(trim(&text[from..to]))
+    is_bic_like(trim(last_line(text, seen)))
 }
 
 // Whether there is one line, of 8 to 11 bytes.
@@ -268,10 +275,10 @@ fn holds(test: Test, text: &[u8], seen: Seen) -> bool
 {
     match test {
         Test::Always => true,
-        Test::LaterNumbered => seen.later_numbered,
+        Test::LaterNumbered => later_numbered(text, seen),
         Test::SlashFirstOfTwo => slash_first_of_two(text, seen),
         Test::SlashFirst => slash_first(text, seen),
-        Test::AnyNumbered => any_numbered(seen),
+        Test::AnyNumbered => any_numbered(text, seen),
         Test::LastIsBic => last_is_bic(text, seen),
         Test::BicSized => is_bic_sized(seen),
         Test::FirstNumbered => first_numbered(text, seen),

@@ -1,6 +1,6 @@
 -- `choices::holds` meets its contract: each arm is its test. Assumes nothing.
 use mathlib.Core.Path.{_≡_, refl, sym, _∙_, ap}
-use mathlib.Core.Bool.{Bool, _&&_, _||_}
+use mathlib.Core.Bool.{Bool, _&&_}
 use mathlib.Core.List.{List}
 use Prim.Native.Nat.{ℕ}
 use denote.Ref.{now}
@@ -11,7 +11,7 @@ use Rattle.swift_utils.specs.Checks.{bicShort, bicLong}
 use Rattle.field_utils.specs.Lines.{lines}
 use Rattle.choices.specs.declared.Test.{Test}
 use Rattle.choices.specs.Detection.{holds}
-use Rattle.choices.proofs.LineTests.{any-split, later-two}
+use Rattle.choices.proofs.LineTests.{one-of-three, later-two}
 use Rattle.choices.proofs.holds.Statement.{statement}
 use Rattle.choices.proofs.holds.Tie as tie
 
@@ -21,22 +21,17 @@ known text e f = f ∙ ap (λ (t : Test). holds t (lines text)) (sym e)
 
 returns-2 : tie.Need-returns-2
 returns-2 c =
-    let a = c .before .before .before in
-    let text = now (a .args .text) in
-    known text (c .enum-told2 .given .1) (a .pre .later ∙ sym (later-two (lines text)))
-
-returns-5 : tie.Need-returns-5
-returns-5 c =
     let t = c .before in
-    let a = t .before .before .before in
-    let text = now (a .args .text) in
-    known text (t .enum-told5 .given .1) (c .any-numbered .ensures ∙ (λ i. a .pre .one i || a .pre .later i) ∙ sym (any-split (lines text)))
+    let text = now (t .before .before .before .args .text) in
+    known text (t .enum-told2 .given .1) (c .later-numbered .ensures ∙ sym (later-two (lines text)))
 
 returns-7 : tie.Need-returns-7
 returns-7 c =
     let t = c .before in
     let a = t .before .before .before in
-    known (now (a .args .text)) (t .enum-told7 .given .1) (c .is-bic-sized .ensures ∙ (λ i. eqb (a .pre .count i) 1 && between bicShort bicLong (a .pre .first i)))
+    let text = now (a .args .text) in
+    known text (t .enum-told7 .given .1)
+    (c .is-bic-sized .ensures ∙ (λ i. (ap (λ (n : ℕ). eqb n 1) (a .pre .count) ∙ one-of-three (lines text)) i && between bicShort bicLong (a .pre .first i)))
 
 pub holds-spec : {M : Type 1} → statement M
 holds-spec =
@@ -44,6 +39,7 @@ holds-spec =
     (tie.spec
     (λ c. search needs)
     (λ c. search needs)
+    (λ c κs. search needs)
     (λ c. search needs)
     (λ c κs. search needs)
     (λ c. search needs)
@@ -60,7 +56,7 @@ holds-spec =
     returns-2
     (λ c. known (now (c .before .before .before .before .args .text)) (c .before .enum-told3 .given .1) (c .slash-first-of-two .ensures))
     (λ c. known (now (c .before .before .before .before .args .text)) (c .before .enum-told4 .given .1) (c .slash-first .ensures))
-    returns-5
+    (λ c. known (now (c .before .before .before .before .args .text)) (c .before .enum-told5 .given .1) (c .any-numbered .ensures))
     (λ c. known (now (c .before .before .before .before .args .text)) (c .before .enum-told6 .given .1) (c .last-is-bic .ensures))
     returns-7
     (λ c. known (now (c .before .before .before .before .args .text)) (c .before .enum-told8 .given .1) (c .first-numbered .ensures)))

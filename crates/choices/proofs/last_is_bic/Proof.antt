@@ -9,9 +9,7 @@ use Rattle.choices.proofs.last_is_bic.Tie as tie
 returns : tie.Need-returns
 returns c =
     let t = c .before in
-    c .is-bic-like .ensures ∙ ap bicLike (t .trim .ensures ∙ ap trimmed (t .before .before .before .pre .last))
+    c .is-bic-like .ensures ∙ ap bicLike (t .trim .ensures ∙ ap trimmed (t .before .last-line .ensures))
 
 pub last-is-bic-spec : {M : Type 1} → statement M
-last-is-bic-spec =
-    tie.close
-    (tie.spec (λ c. search needs) (λ c. search needs) (λ c. search needs) (λ c κs. search needs) (λ c κs. search needs) returns)
+last-is-bic-spec = tie.close (tie.spec (λ c κs. search needs) (λ c κs. search needs) (λ c κs. search needs) returns)

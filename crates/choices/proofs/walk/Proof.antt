@@ -1,13 +1,12 @@
 -- `choices::walk` meets its contract: no line, one, or more. Assumes nothing.
-use mathlib.Core.Path.{_≡_, refl, _∙_, ap}
-use mathlib.Core.List.{[], _∷_}
+use mathlib.Core.Path.{refl, _∙_, ap}
+use mathlib.Core.List.{_∷_}
 use native.Mathlib.Omega.{arith}
 use denote.Ref.{now}
 use Rattle.swift_utils.proofs.Parts.{part}
-use Rattle.field_utils.specs.Lines.{lines}
 use Rattle.field_utils.specs.Identifier.{isNumbered}
 use Rattle.field_utils.proofs.Places.{Found, found}
-use Rattle.choices.specs.Detection.{anyNumbered, firstLine, lastLine}
+use Rattle.choices.specs.Detection.{firstLine, lastLine}
 use Rattle.choices.proofs.Walks.{walked-as}
 use borrow.Author.Needs.{needs}
 use Rattle.choices.proofs.walk.Statement.{statement}
@@ -28,45 +27,46 @@ fits-2 c =
     found (now (k .before .before .before .before .before .args .text)) (k .before .found .given .0 .1 .1 .0 .at) (n .next2 .ensures) (c .before .found-second .given .1)
 
 returns : tie.Need-returns
-unfolding firstLine lastLine anyNumbered isNumbered
+unfolding firstLine lastLine isNumbered
 returns c =
     let n = c .before .before in
     let s = now (n .before .before .args .text) in
-    walked-as (found s 0 (n .next .ensures) (c .enum-told .given .1) .0)
-    (record { count = refl; first = refl; second = refl; one = refl; two = refl; later = refl; last = refl; forward = omega arith; within = omega arith })
+    let none = found s 0 (n .next .ensures) (c .enum-told .given .1) .0 in
+    walked-as none
+    (record { count = refl; first = refl; second = refl; one = refl; two = refl; last = refl; forward = omega arith; within = omega arith; rest = none })
 
 returns-2 : tie.Need-returns-2
-unfolding firstLine lastLine anyNumbered isNumbered
+unfolding firstLine lastLine isNumbered
 returns-2 c =
     let n = c .before .before .before in
     let k = n .before .before in
     let v = k .before .found .given .0 in
     let s = now (k .before .before .before .before .before .args .text) in
-    let all : lines s ≡ part (v .0) (v .1 .0) s ∷ [] = fits k .line ∙ ap (_∷_ (part (v .0) (v .1 .0) s)) (found s (v .1 .1 .0 .at) (n .next2 .ensures) (c .before .enum-told2 .given .1) .0) in
-    walked-as all
+    let none = found s (v .1 .1 .0 .at) (n .next2 .ensures) (c .before .enum-told2 .given .1) .0 in
+    walked-as (fits k .line ∙ ap (_∷_ (part (v .0) (v .1 .0) s)) none)
     (record {
       count = refl;
       first = refl;
       second = refl;
-      one = c .is-numbered .ensures;
+      one = c .is-numbered-line .ensures;
       two = refl;
-      later = refl;
       last = refl;
       forward = fits k .forward;
       within = omega (arith, fits k .before, fits k .within);
+      rest = none;
     })
 
-walk-later-requires : tie.Need-walk-later-requires
-walk-later-requires c κs =
+walk-second-requires : tie.Need-walk-second-requires
+walk-second-requires c κs =
     let f = fits-2 c in
-    record { forward = f .forward; before = f .before; moved = omega (arith, f .moved, fits (c .before .before .before .before .before) .moved); within = f .within }
+    record { forward = f .forward; before = f .before; within = f .within }
 
 returns-3 : tie.Need-returns-3
 returns-3 c =
     let k = c .before .before .before .before .before .before in
     let v = k .before .found .given .0 in
     let s = now (k .before .before .before .before .before .args .text) in
-    walked-as (fits k .line ∙ ap (_∷_ (part (v .0) (v .1 .0) s)) (fits-2 (c .before) .line)) (c .walk-later .ensures)
+    walked-as (fits k .line ∙ ap (_∷_ (part (v .0) (v .1 .0) s)) (fits-2 (c .before) .line)) (c .walk-second .ensures)
 
 pub walk-spec : {M : Type 1} → statement M
 walk-spec =
@@ -84,5 +84,5 @@ walk-spec =
     (λ c. search needs)
     (λ c κs. search needs)
     returns-2
-    walk-later-requires
+    walk-second-requires
     returns-3)
