@@ -380,14 +380,18 @@ fn is_plain_account(option: PartyOption, text: &[u8], classes: &[u8; 256]) -> bo
     all_in(text, classes, PLAIN)
 }
 
-// Whether a line is 50H's account: its length, and bytes of any kind up to 127.
-fn is_any_account(option: PartyOption, text: &[u8]) -> bool
+// Whether a line is 50H's account: its length, and bytes of any kind up to 127. Most have none but legal ones, which one test says.
+fn is_any_account(option: PartyOption, text: &[u8], classes: &[u8; 256]) -> bool
+    requires { ⌜ now classes ≡ classTable ⌝ }
     ensures { λ r. ⌜ r ≡ lineReply (textReply AnyAccount option (now (text .entry))) (now (text .entry)) ⌝ }
 {
-    if !is_one_line(text) {
+    if !is_accepted(account_length(text, option)) {
         return false;
     }
-    if !is_accepted(account_length(text, option)) {
+    if all_in(text, classes, PLAIN) {
+        return true;
+    }
+    if !is_one_line(text) {
         return false;
     }
     is_ascii(text)
@@ -413,7 +417,7 @@ fn is_account_text(option: PartyOption, text: &[u8], classes: &[u8; 256]) -> boo
     let first = limits.first;
     match first {
         First::Identified => is_identifier(option, text),
-        First::AnyAccount => is_any_account(option, text),
+        First::AnyAccount => is_any_account(option, text, classes),
         _ => is_plain_account(option, text, classes),
     }
 }
