@@ -4,17 +4,12 @@ use mathlib.Core.Path.{_≡_}
 use mathlib.Core.Bool.{Bool, true, false, not, _&&_}
 use mathlib.Core.List.{List, []}
 use lib.ListN.{length, take, drop}
-use Rattle.errors.specs.declared.Outcome.{Outcome}
-use Rattle.errors.specs.declared.Outcome.the-variants.{Accepted, Refused}
 use Rattle.party.specs.declared.PartyOption.{PartyOption}
 use Rattle.party.specs.declared.PartyOption.the-variants.{Field50NoOption, Field50A, Field50F, Field50K, Field50C, Field50L, Field50G, Field50H, Field59NoOption, Field59A, Field59F}
 use Rattle.party.specs.declared.First.the-variants.{ShortAccount}
-use Rattle.party.specs.Party.{blank}
 use Rattle.swift_utils.specs.Checks.{bicLength}
 use Rattle.field_utils.specs.Lines.{lines}
 use Rattle.field_utils.specs.Identifier.{isNumbered}
-use Rattle.flat.specs.Flat.{unflatten}
-use Rattle.reader.specs.declared.Answer.{Answer}
 use Rattle.reader.specs.Code.{hasAccount}
 use Rattle.choices.specs.declared.Choice.{Choice}
 use Rattle.choices.specs.declared.Choice.the-variants.{Field50InstructingParty, Field50OrderingCustomerFGH, Field50OrderingCustomerAFK, Field50OrderingCustomerNCF, Field50Creditor, Field59, Field59Debtor}
@@ -74,9 +69,3 @@ ruledOut Field59F text ls = false
 -- an option is tried: its test holds, and it is not ruled out
 abbrev pub isOpen : PartyOption → Test → List ℕ → List (List ℕ) → Bool
 isOpen o t text ls = not (ruledOut o text ls) && holds t ls
-
--- ---- answers by value
--- the answer of an outcome, with the record that bytes hold
-abbrev pub answerFrom : Outcome → List ℕ → Answer
-answerFrom Accepted bytes = record { outcome = Accepted; party = unflatten bytes }
-answerFrom (Refused e) bytes = record { outcome = Refused e; party = blank }

@@ -7,14 +7,13 @@ use field_utils::lines::Lines;
 use field_utils::lines::trim;
 use field_utils::starts_with_slash;
 use flat::RECORD_SIZE;
-use flat::load;
 use party::PartyOption;
 use party::limits_of;
 use reader::Answer;
+use reader::answer_from;
 use reader::parse_body;
 use reader::read_into;
 use reader::read_own_into;
-use reader::refuse;
 use swift_utils::BIC_LONG;
 use swift_utils::BIC_SHORT;
 use swift_utils::all_alphanumeric;
@@ -35,7 +34,7 @@ ghost use Rattle.reader.specs.Reading.{toldAnswer, toldInto, readInto};
 ghost use Rattle.reader.specs.Options.{bodyReply};
 ghost use Rattle.choices.specs.Detection.{anyNumbered, lastLine, bicLike, testLine, holds as holdsOf};
 ghost use Rattle.choices.specs.Choices.{trialsOf, triedText, wanted, firstThat, parse as parseOf, isLetter, parseWithVariant, readText};
-ghost use Rattle.choices.specs.Code.{Passed, Walked, shortBicLine, ruledOut, isOpen, askedText, answerFrom};
+ghost use Rattle.choices.specs.Code.{Passed, Walked, shortBicLine, ruledOut, isOpen, askedText};
 
 // The seven choices, under the names of the Rust's enums.
 pub enum Choice {
@@ -478,19 +477,6 @@ pub fn parse_with_variant_into(
         }
     }
     parse_into(choice, body, record)
-}
-
-// The answer of an outcome whose record is stored in a room.
-fn answer_from(outcome: Outcome, room: &[u8]) -> Answer
-    ensures { λ r. ⌜ r ≡ answerFrom outcome (now (room .entry)) ⌝ }
-{
-    match outcome {
-        Outcome::Accepted => Answer {
-            outcome: Outcome::Accepted,
-            party: load(room),
-        },
-        Outcome::Refused(e) => refuse(e),
-    }
 }
 
 // Detects, with the record by value.

@@ -1,6 +1,7 @@
 // A party record as bytes, for programs in other languages. The place of the option in the table, the presence and the count are
 // a byte each; then come six texts, a length and 38 bytes each: the account, the BIC and the names; and last the four digits.
 use copies::put_bytes;
+use party::NOTHING;
 use party::Part;
 use party::Parts;
 use party::Party;
@@ -268,7 +269,12 @@ fn loaded(s: &[u8]) -> Party
     requires { ⌜ recordSize ≤ length (now s) ⌝ }
     ensures { λ r. ⌜ r ≡ partyFrom (now (s .entry)) ⌝ }
 {
-    let names = [text_at(s, 2), text_at(s, 3), text_at(s, 4), text_at(s, 5)];
+    let mut names = [NOTHING; 4];
+    let mut i = 0;
+    while i < 4 {
+        names[i] = text_at(s, 2 + i);
+        i += 1;
+    }
     Party {
         option: option_at(s[0] as usize),
         present: s[1] == 1,

@@ -5,7 +5,7 @@ ghost use mathlib.Core.List.{[], _∷_};
 ghost use lib.ListN.{take};
 ghost use Rattle.party.specs.Limits.{limitsOf, placeOf, optionAt};
 ghost use Rattle.party.specs.Text.{textOf, used, partIn};
-ghost use Rattle.party.specs.Party.{IsParty, blank as blankParty, where-limit, namesOf, where-numbered, Same, partyIn};
+ghost use Rattle.party.specs.Party.{IsParty, blank as blankParty, where-limit, namesOf, where-numbered, Same};
 ghost use Rattle.party.specs.Decides.{Decides};
 
 // The eleven options, under the names of the Rust's structs.
@@ -399,32 +399,6 @@ pub fn part_of(body: &[u8], part: Part) -> &[u8]
     }
     let end = start + len;
     &body[start..end]
-}
-
-// The record of parts of a body: each text from its part, the names by index.
-pub fn party_of(body: &[u8], parts: Parts) -> Party
-    ensures { λ r. ⌜ r ≡ partyIn (now (body .entry)) parts ⌝ }
-{
-    let mut texts = [NOTHING; 4];
-    let mut i = 0;
-    while i < 4 {
-        let name = parts.name_and_address[i];
-        texts[i] = text_of(part_of(body, name));
-        i += 1;
-    }
-    let account = parts.account;
-    let bic = parts.bic;
-    let option = parts.option;
-    let digits = parts.digits;
-    Party {
-        option,
-        present: parts.present,
-        account: text_of(part_of(body, account)),
-        bic: text_of(part_of(body, bic)),
-        count: parts.count,
-        name_and_address: texts,
-        digits,
-    }
 }
 
 // The blank record: what stands beside a refusal, and beside a page's end.

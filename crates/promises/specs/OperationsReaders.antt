@@ -7,7 +7,7 @@ use Prim.Native.Nat.{ℕ, suc}
 use lib.ListN.{getD, drop, replicate}
 use Rattle.errors.specs.declared.ParseError.{ParseError}
 use Rattle.errors.specs.declared.ParseError.the-variants.{TooLong}
-use Rattle.errors.specs.declared.Outcome.the-variants.{Refused}
+use Rattle.errors.specs.declared.Outcome.the-variants.{Accepted, Refused}
 use Rattle.errors.specs.Refusals.{Reply, accepted, refused}
 use Rattle.party.specs.declared.PartyOption.{PartyOption}
 use Rattle.party.specs.declared.PartyOption.the-variants.{Field50NoOption, Field50A, Field50F, Field50K, Field50C, Field50L, Field50G, Field50H, Field59NoOption, Field59A, Field59F}
@@ -21,9 +21,9 @@ use Rattle.field_utils.specs.Lines.{upto, onto, starts, lines}
 use Rattle.field_utils.specs.Trim.{white, trimmedStart, keep, trimmedEnd, trimmed}
 use Rattle.field_utils.specs.Identifier.{isNumbered, secondSlash, identifierReply, parsePartyIdentifier}
 use Rattle.field_utils.specs.Names.{parseLine, parseLines, parseNameAndAddress}
-use Rattle.flat.specs.Flat.{recordSize, flatTexts, flatten, stored}
+use Rattle.flat.specs.Flat.{recordSize, flatTexts, flatten, stored, isFlat, partyFrom, unflatten}
 use Rattle.reader.specs.declared.Answer.{Answer}
-use Rattle.reader.specs.Reading.{partyOf, toldAnswer, readInto}
+use Rattle.reader.specs.Reading.{partyOf, toldAnswer, answerFrom, readInto}
 use Rattle.reader.specs.Options.{lengthReply, accountHead, shortAccountHead, afterHead, ascii, bodyReply, readOwn, read}
 use Rattle.choices.specs.declared.Choice.the-variants.{Field50InstructingParty, Field50OrderingCustomerFGH, Field50OrderingCustomerAFK, Field50OrderingCustomerNCF, Field50Creditor, Field59, Field59Debtor}
 use Rattle.choices.specs.declared.Test.the-variants.{LaterNumbered, AnyNumbered, LastIsBic, BicSized, FirstNumbered}
@@ -72,9 +72,13 @@ pub record ReaderOperations : Type 0 where
   pub read-into-stores-the-blank : readInto (read Field50C (bytes "A")) lent ≡ record { reply = refused 9 1; bytes = lent }
   -- leaves 13 to its caller
   pub read-into-leaves-13 : readInto (read Field50H (47 ∷ 128 ∷ bytes "\nA")) lent .reply ≡ refused 13 0
+  -- gives what the room holds beside a refusal
+  pub answer-from-keeps-the-room : answerFrom (Refused (TooLong 2)) (0 ∷ 1 ∷ replicate 239 0) .party .present ≡ false
+  -- gives the blank record beside an acceptance
+  pub answer-from-gives-the-blank : answerFrom Accepted (0 ∷ 1 ∷ replicate 239 0) .party .present ≡ true
 
 pub reader-operations : ReaderOperations
-unfolding letter digit alphanumeric signs legal parseSwiftChars parseAccount bicLength parseBic upto onto starts lines secondSlash identifierReply parsePartyIdentifier parseLine parseLines parseNameAndAddress afterHead read
+unfolding letter digit alphanumeric signs legal parseSwiftChars parseAccount bicLength parseBic upto onto starts lines secondSlash identifierReply parsePartyIdentifier parseLine parseLines parseNameAndAddress afterHead read isFlat partyFrom unflatten
 reader-operations = record {
   parse-head-tests-50H = refl;
   parse-head-takes-59-for-50K = refl;
@@ -92,6 +96,8 @@ reader-operations = record {
   read-own-into-stores-a-part = refl;
   read-into-stores-the-blank = refl;
   read-into-leaves-13 = refl;
+  answer-from-keeps-the-room = refl;
+  answer-from-gives-the-blank = refl;
 }
 
 -- ---- the eleven options

@@ -8,6 +8,8 @@ use borrow.Author.Tests.{leb-true}
 use lib.Dec.{leb, eqb}
 use lib.ListN.{length, getD, take, drop, replicate, length-append, length-take, length-map, length-replicate}
 use lib.Seq.{getD-take}
+use Rattle.errors.specs.declared.Outcome.{Outcome}
+use Rattle.errors.specs.declared.Outcome.the-variants.{Accepted, Refused}
 use Rattle.errors.specs.Refusals.{Reply, accepted, refused, must, _then_}
 use Rattle.errors.proofs.Replies.{refused≢accepted, must-held, then-second}
 use Rattle.party.specs.declared.PartyOption.{PartyOption}
@@ -22,7 +24,7 @@ use Rattle.party.specs.Party.{blank}
 use Rattle.party.proofs.Options.{by-option}
 use Rattle.field_utils.specs.Lines.{lines}
 use Rattle.field_utils.specs.Names.{parseNameAndAddress, parseLines}
-use Rattle.reader.specs.Reading.{Reading, giving, Found, partyOf}
+use Rattle.reader.specs.Reading.{Reading, giving, Into, toldAnswer, answerFrom, storing, readInto, toldInto, Found, partyOf}
 use Rattle.reader.specs.Options.{Head, headBy, withNames, withBic, afterHead, after, fromHead, isCounted, byLines, foundBy, bodyReply, read}
 use Rattle.flat.specs.Flat.{recordSize, textsOf, flatten, stored, unflatten}
 use Rattle.flat.proofs.Laws.{none, Sizes, stored-whole}
@@ -150,3 +152,15 @@ read-loads o body = whole-loads (read o body .reply) (read o body .party) (read-
 -- ---- in bytes that are as many as a record's
 pub stored-loads : (p : Party) (bytes : List ℕ) → Loads p → recordSize ≤ length bytes → unflatten (stored p bytes) ≡ p
 stored-loads p bytes loads size = ap unflatten (stored-whole p bytes size) ∙ loads (drop recordSize bytes)
+
+-- the answer by value, of a reading into bytes that are as many as a record's
+pub answered : (r : Reading) (o : Outcome) (d e : List ℕ) → Back r → recordSize ≤ length d → toldInto o e ≡ readInto r d → toldAnswer (answerFrom o e) ≡ r
+answered r o d e back size = go (r .reply) (r .party) o back
+  where
+    go : (q : Reply) (p : Party) (o : Outcome) → Whole q p → toldInto o e ≡ storing q p d → toldAnswer (answerFrom o e) ≡ (record { reply = q; party = p })
+    go accepted p Accepted loads h =
+        ap {B = Reading} (λ (p : Party). record { reply = accepted; party = p })
+        (ap (λ (i : Into). unflatten (i .bytes)) h ∙ stored-loads p d loads size)
+    go accepted p (Refused x) loads h = absurd (refused≢accepted (ap (λ (i : Into). i .reply) h))
+    go (refused k n) p Accepted is h = absurd (refused≢accepted (sym (ap (λ (i : Into). i .reply) h)))
+    go (refused k n) p (Refused x) is h = λ i. record { reply = h i .reply; party = sym is i }

@@ -9,7 +9,8 @@ use Rattle.party.specs.declared.Party.{Party}
 use Rattle.party.specs.Text.{textOf, four, fourTexts}
 use Rattle.party.specs.Party.{blank}
 use Rattle.errors.specs.declared.Outcome.{Outcome}
-use Rattle.flat.specs.Flat.{stored}
+use Rattle.errors.specs.declared.Outcome.the-variants.{Accepted, Refused}
+use Rattle.flat.specs.Flat.{stored, unflatten}
 use Rattle.reader.specs.declared.Answer.{Answer}
 
 -- accepted with a record, or refused; the record beside a refusal is the blank one
@@ -43,6 +44,11 @@ readInto r bytes = storing (r .reply) (r .party) bytes
 -- an answer of the code with the bytes that it left
 abbrev pub toldInto : Outcome → List ℕ → Into
 toldInto outcome bytes = record { reply = told outcome; bytes = bytes }
+
+-- the answer of an outcome, with the record that bytes hold
+abbrev pub answerFrom : Outcome → List ℕ → Answer
+answerFrom Accepted bytes = record { outcome = Accepted; party = unflatten bytes }
+answerFrom (Refused e) bytes = record { outcome = Refused e; party = blank }
 
 -- what an option finds in a body: what its checks say in their order, whether the body gave an account or identifier, that text, the
 -- BIC, and the names, each with its digit, 0 but in 50F; a text that the option has not is empty

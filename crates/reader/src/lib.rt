@@ -12,6 +12,8 @@ use field_utils::lines::is_ascii;
 use field_utils::parse_name_and_address;
 use field_utils::parse_party_identifier;
 use field_utils::starts_with_slash;
+use flat::RECORD_SIZE;
+use flat::load;
 use flat::store_parts;
 use party::First;
 use party::Layout;
@@ -22,7 +24,6 @@ use party::Party;
 use party::PartyOption;
 use party::blank;
 use party::limits_of;
-use party::party_of;
 use swift_utils::parse_account;
 use swift_utils::parse_bic;
 use swift_utils::parse_length;
@@ -37,9 +38,8 @@ ghost use Rattle.party.specs.Limits.{limitsOf};
 ghost use Rattle.party.specs.Text.{partIn};
 ghost use Rattle.party.specs.Party.{blank as blankParty, partyIn};
 ghost use Rattle.party.specs.declared.First.the-variants.{Identified};
-ghost use Rattle.flat.specs.Flat.{recordSize};
 ghost use Rattle.field_utils.specs.Lines.{lines};
-ghost use Rattle.reader.specs.Reading.{toldAnswer, partyOf, toldInto, readInto};
+ghost use Rattle.reader.specs.Reading.{toldAnswer, answerFrom, partyOf, toldInto, readInto};
 ghost use Rattle.reader.specs.Options.{isCounted, lengthReply, accountReply, slashHead, headBy, withNames, withBic, afterHead, byLines, bicOnly, textOnly, bodyReply, readOwn, read as readOf};
 ghost use Rattle.reader.specs.Code.{toldParts, toldHead, passedHead, hasAccount, accountBy, nameless, IsRest, readingOf};
 
@@ -443,49 +443,19 @@ fn read_own(option: PartyOption, body: &[u8]) -> FoundAt
     }
 }
 
-// The option's own checks, with the record of the parts that were found: stored at the start of lent bytes where there are as many, else by
-// value; a refusal changes no byte. What was found has one user, so that it is copied nowhere.
-fn give_own(option: PartyOption, body: &[u8], record: &mut [u8]) -> Answer
-    ensures { λ r. ⌜ toldInto (r .outcome) (now («record» .exit)) ≡ readInto (readOwn option (now (body .entry))) (now («record» .entry)) ⌝ }
-    ensures { λ r. ⌜ (length (now («record» .entry)) < recordSize → toldAnswer r ≡ readOwn option (now (body .entry))) ⌝ }
-{
-    let found = read_own(option, body);
-    let outcome = found.outcome;
-    if let Outcome::Refused(e) = outcome {
-        return refuse(e);
-    }
-    let parts = found.parts;
-    if store_parts(parts, body, record) {
-        return Answer {
-            outcome: Outcome::Accepted,
-            party: blank(),
-        };
-    }
-    Answer {
-        outcome: Outcome::Accepted,
-        party: party_of(body, parts),
-    }
-}
-
-// The reader of an option: the record is built from the parts that were found.
-pub fn read(option: PartyOption, body: &[u8]) -> Answer
-    ensures { λ r. ⌜ toldAnswer r ≡ readOf option (now (body .entry)) ⌝ }
-{
-    let outcome = parse_body(body);
-    if let Outcome::Refused(e) = outcome {
-        return refuse(e);
-    }
-    let mut none = [0u8; 0];
-    give_own(option, body, &mut none)
-}
-
 // The option's own checks, after 12 and 13, with the record stored at the start of lent bytes, straight from the parts that were found; a
 // refusal changes none.
 pub fn read_own_into(option: PartyOption, body: &[u8], record: &mut [u8]) -> Outcome
     ensures { λ r. ⌜ toldInto r (now («record» .exit)) ≡ readInto (readOwn option (now (body .entry))) (now («record» .entry)) ⌝ }
 {
-    let answer = give_own(option, body, record);
-    answer.outcome
+    let found = read_own(option, body);
+    let outcome = found.outcome;
+    if let Outcome::Refused(e) = outcome {
+        return Outcome::Refused(e);
+    }
+    let parts = found.parts;
+    store_parts(parts, body, record);
+    Outcome::Accepted
 }
 
 // The reader of an option, with the record stored at the start of lent bytes; a refusal changes none.
@@ -497,4 +467,26 @@ pub fn read_into(option: PartyOption, body: &[u8], record: &mut [u8]) -> Outcome
         return Outcome::Refused(e);
     }
     read_own_into(option, body, record)
+}
+
+// The answer of an outcome whose record is stored in a room.
+pub fn answer_from(outcome: Outcome, room: &[u8]) -> Answer
+    ensures { λ r. ⌜ r ≡ answerFrom outcome (now (room .entry)) ⌝ }
+{
+    match outcome {
+        Outcome::Accepted => Answer {
+            outcome: Outcome::Accepted,
+            party: load(room),
+        },
+        Outcome::Refused(e) => refuse(e),
+    }
+}
+
+// The reader of an option, with the record by value. What was found has one user, so that it is copied nowhere.
+pub fn read(option: PartyOption, body: &[u8]) -> Answer
+    ensures { λ r. ⌜ toldAnswer r ≡ readOf option (now (body .entry)) ⌝ }
+{
+    let mut room = [0u8; RECORD_SIZE];
+    let outcome = read_into(option, body, &mut room);
+    answer_from(outcome, &room)
 }

@@ -4,7 +4,8 @@ use native.Mathlib.Omega.{arith}
 use denote.Ref.{now}
 use Rattle.reader.specs.Reading.{toldAnswer}
 use Rattle.choices.specs.Choices.{parse}
-use Rattle.choices.proofs.ByValue.{parse-back, answered}
+use Rattle.choices.proofs.ByValue.{parse-back}
+use Rattle.reader.proofs.Loading.{answered}
 use borrow.Author.Needs.{needs}
 use Rattle.choices.proofs.parse.Statement.{statement}
 use Rattle.choices.proofs.parse.Tie as tie

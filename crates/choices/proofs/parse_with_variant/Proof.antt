@@ -4,7 +4,8 @@ use native.Mathlib.Omega.{arith}
 use denote.Ref.{now}
 use Rattle.reader.specs.Reading.{toldAnswer}
 use Rattle.choices.specs.Choices.{parseWithVariant}
-use Rattle.choices.proofs.ByValue.{variant-back, answered}
+use Rattle.choices.proofs.ByValue.{variant-back}
+use Rattle.reader.proofs.Loading.{answered}
 use borrow.Author.Needs.{needs}
 use Rattle.choices.proofs.parse_with_variant.Statement.{statement}
 use Rattle.choices.proofs.parse_with_variant.Tie as tie

@@ -1,14 +1,14 @@
--- `choices::answer_from` meets its contract. Assumes nothing.
+-- `reader::answer_from` meets its contract. Assumes nothing.
 use mathlib.Core.Path.{sym, _∙_, ap}
 use denote.Ref.{now}
 use Rattle.errors.specs.declared.Outcome.{Outcome}
 use Rattle.errors.specs.declared.Outcome.the-variants.{Accepted}
 use Rattle.party.specs.declared.Party.{Party}
 use Rattle.reader.specs.declared.Answer.{Answer}
-use Rattle.choices.specs.Code.{answerFrom}
+use Rattle.reader.specs.Reading.{answerFrom}
 use borrow.Author.Needs.{needs}
-use Rattle.choices.proofs.answer_from.Statement.{statement}
-use Rattle.choices.proofs.answer_from.Tie as tie
+use Rattle.reader.proofs.answer_from.Statement.{statement}
+use Rattle.reader.proofs.answer_from.Tie as tie
 
 returns : tie.Need-returns
 returns c =
