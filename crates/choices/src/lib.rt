@@ -29,7 +29,6 @@ ghost use Rattle.party.specs.Limits.{limitsOf};
 ghost use Rattle.swift_utils.specs.Bytes.{between};
 ghost use Rattle.swift_utils.specs.Checks.{bicShort, bicLong};
 ghost use Rattle.field_utils.specs.Lines.{lines};
-ghost use Rattle.field_utils.specs.Identifier.{isNumbered};
 ghost use Rattle.reader.specs.Reading.{toldAnswer, toldInto, readInto};
 ghost use Rattle.reader.specs.Options.{bodyReply};
 ghost use Rattle.choices.specs.Detection.{anyNumbered, lastLine, bicLike, testLine, holds as holdsOf};

@@ -1,4 +1,5 @@
--- The lines by their places, as the cursor of the code finds them: a working form of `lines`.
+-- The lines by their places, as the cursor of the code finds them, a working form of `lines`; and where the names of document 01's field50.rs and
+-- field59.rs stand among them.
 use Prim.Native.Nat.{ℕ, zero, suc, _+_, _-_}
 use mathlib.Core.Bool.{true, false}
 use mathlib.Core.List.{List, [], _∷_, map}

@@ -34,8 +34,7 @@ ghost use mathlib.Core.Bool.{true, false, not};
 ghost use mathlib.Core.List.{[], _∷_, _++_};
 ghost use Prim.Native.Nat.{_+_, _≤_, _<_};
 ghost use lib.Dec.{leb};
-ghost use lib.ListN.{length, getD, drop};
-ghost use lib.Seq.{paste};
+ghost use lib.ListN.{length, getD};
 ghost use Rattle.errors.specs.Refusals.{told};
 ghost use Rattle.party.specs.Limits.{limitsOf};
 ghost use Rattle.party.specs.Text.{textMost, used};
@@ -48,7 +47,7 @@ ghost use Rattle.field_utils.specs.Tags.{tagOf};
 ghost use Rattle.reader.specs.Options.{accountReply};
 ghost use Rattle.flat.specs.Flat.{digitsAt, recordSize, textAt, partyFrom, unflatten};
 ghost use Rattle.writer.specs.Writing.{slashOf, numberOf, writtenField, fits, placed};
-ghost use Rattle.writer.specs.Given.{passes, every, textReply, isAccount, isPresence, isBic, isTaken, isGiven};
+ghost use Rattle.writer.specs.Given.{passes, every, textReply, isPresence, isBic, isTaken, isGiven};
 ghost use Rattle.writer.specs.Placing.{measure as measureOf, place as placeIn, toldMeasured, toldPlacing};
 ghost use Rattle.writer.specs.Code.{Lent, Uses, Counted, Puts, lead, hasHead, headOf, nameCount, namesOn, restOn, lineReply, numberIn, isName, headTest, namesPass, countTest, textsTest, slashName};
 
