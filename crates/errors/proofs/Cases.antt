@@ -5,7 +5,7 @@ use mathlib.Core.List.{List, [], _∷_}
 use Prim.Native.Nat.{ℕ}
 use lib.Dec.{eqb}
 use Rattle.errors.specs.declared.ParseError.{ParseError}
-use Rattle.errors.specs.declared.ParseError.the-variants.{LineCount, PartyIdentifier, IllegalByte, TooLong, NotNumbered, OutOfTurn, NameCount, BicMissing, BicLength, BicByte, NoOption, BodyTooLong, NotAscii, NotALetter, UnknownTag, StrayLine, PageLength, PageTooLong, Position, NoSuchRecord, NotCarried, NoSpace, NoEntry, OutsideProfile}
+use Rattle.errors.specs.declared.ParseError.the-variants.{LineCount, PartyIdentifier, IllegalByte, TooLong, NotNumbered, OutOfTurn, NameCount, BicMissing, BicLength, BicByte, NoOption, BodyTooLong, NotAscii, NotALetter, UnknownTag, StrayLine, PageLength, PageTooLong, Position, NoSuchRecord, NotCarried, NoSpace, NoEntry, OutsideProfile, ShortRecord}
 use Rattle.errors.specs.declared.Outcome.{Outcome}
 use Rattle.errors.specs.declared.Outcome.the-variants.{Accepted, Refused}
 use Rattle.errors.specs.Refusals.{Reply, accepted, refused, refusalOf, told}
@@ -45,6 +45,7 @@ rows n =
     ∷ record { number = 24; case = NoSpace }
     ∷ record { number = 31; case = NoEntry }
     ∷ record { number = 32; case = OutsideProfile n }
+    ∷ record { number = 42; case = ShortRecord }
     ∷ []
 
 case-found : (e : ParseError) → find (refusalOf e .number) (rows (refusalOf e .line)) ≡ e
@@ -72,6 +73,7 @@ case-found NotCarried = refl
 case-found NoSpace = refl
 case-found NoEntry = refl
 case-found (OutsideProfile n) = refl
+case-found ShortRecord = refl
 
 back : Reply → Outcome
 back accepted = Accepted

@@ -2,7 +2,7 @@
 use Prim.Native.Nat.{ℕ}
 use mathlib.Core.Bool.{Bool, true, false}
 use Rattle.errors.specs.declared.ParseError.{ParseError}
-use Rattle.errors.specs.declared.ParseError.the-variants.{LineCount, PartyIdentifier, IllegalByte, TooLong, NotNumbered, OutOfTurn, NameCount, BicMissing, BicLength, BicByte, NoOption, BodyTooLong, NotAscii, NotALetter, UnknownTag, StrayLine, PageLength, PageTooLong, Position, NoSuchRecord, NotCarried, NoSpace, NoEntry, OutsideProfile}
+use Rattle.errors.specs.declared.ParseError.the-variants.{LineCount, PartyIdentifier, IllegalByte, TooLong, NotNumbered, OutOfTurn, NameCount, BicMissing, BicLength, BicByte, NoOption, BodyTooLong, NotAscii, NotALetter, UnknownTag, StrayLine, PageLength, PageTooLong, Position, NoSuchRecord, NotCarried, NoSpace, NoEntry, OutsideProfile, ShortRecord}
 use Rattle.errors.specs.declared.Refusal.{Refusal}
 use Rattle.errors.specs.declared.Outcome.{Outcome}
 use Rattle.errors.specs.declared.Outcome.the-variants.{Accepted, Refused}
@@ -27,7 +27,7 @@ refused k n then r = refused k n
 abbrev pub refusalAt : ℕ → ℕ → Refusal
 refusalAt k n = record { number = k; line = n }
 
--- the number and line of each case; the line is 0 for 1, 7, 8 and from 11 on, but for 32 (document 02, Five)
+-- the number and line of each case; the line is 0 for 1, 7, 8 and from 11 on, but for 32 (document 02, Five); 42 is ours
 abbrev pub refusalOf : ParseError → Refusal
 refusalOf LineCount = refusalAt 1 0
 refusalOf (PartyIdentifier n) = refusalAt 2 n
@@ -53,6 +53,7 @@ refusalOf NotCarried = refusalAt 23 0
 refusalOf NoSpace = refusalAt 24 0
 refusalOf NoEntry = refusalAt 31 0
 refusalOf (OutsideProfile n) = refusalAt 32 n
+refusalOf ShortRecord = refusalAt 42 0
 
 -- a refusal in document 01's terms
 abbrev pub toldError : ParseError → Reply

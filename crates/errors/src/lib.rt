@@ -52,6 +52,8 @@ pub enum ParseError {
     NoEntry,
     // 32: a line that breaks a rule of the network profile
     OutsideProfile(usize),
+    // 42: under 241 bytes lent for a record, which document 01 has not
+    ShortRecord,
 }
 
 // An answer with nothing beside it: accepted, or the refusal.
@@ -96,6 +98,7 @@ impl ParseError {
             ParseError::NoSpace => at(24, 0),
             ParseError::NoEntry => at(31, 0),
             ParseError::OutsideProfile(n) => at(32, n),
+            ParseError::ShortRecord => at(42, 0),
         }
     }
 }

@@ -1,16 +1,16 @@
 // The eight options of field 50 and the five choices among them, ported from field50.rs of swift-mt-message.
-use choices::Choice;
-use choices::parse;
-use choices::parse_with_variant;
 use party::PartyOption;
 use reader::Answer;
+use reader::choices::Choice;
+use reader::choices::parse;
+use reader::choices::parse_with_variant;
 use reader::read;
 ghost use mathlib.Core.Path.{_≡_};
 ghost use Rattle.party.specs.declared.PartyOption.{PartyOption};
 ghost use Rattle.reader.specs.Reading.{toldAnswer};
 ghost use Rattle.reader.specs.Options.{read as readOf};
-ghost use Rattle.choices.specs.declared.Choice.{Choice};
-ghost use Rattle.choices.specs.Choices.{parse as parseOf, parseWithVariant};
+ghost use Rattle.reader.specs.declared.choices.Choice.{Choice};
+ghost use Rattle.reader.specs.Choices.{parse as parseOf, parseWithVariant};
 
 // Name and address only.
 pub struct Field50NoOption {}

@@ -23,27 +23,19 @@ use Rattle.swift_utils.proofs.Checks.{chars}
 use Rattle.field_utils.specs.Identifier.{isNumbered}
 use Rattle.field_utils.specs.Names.{skipOf, parseNumber, parseLine, parseLines, parseCount, parseNameAndAddress, NamesRead, kept, digitOf, namesOr, readNames, keptFrom}
 use Rattle.field_utils.specs.Code.{parseShape, parseRest, givenNames}
+use Rattle.field_utils.proofs.Tests.{both-left, both-right}
 
 -- a numbered line has room for its digit and slash
-room : (l : List ℕ) → isNumbered l ≡ true → 2 ≤ length l
+pub numbered-room : (l : List ℕ) → isNumbered l ≡ true → 2 ≤ length l
 unfolding isNumbered
-room [] e = absurd (false≢true e)
-room (d ∷ []) e = absurd (false≢true e)
-room (d ∷ s ∷ l) e = omega arith
+numbered-room [] e = absurd (false≢true e)
+numbered-room (d ∷ []) e = absurd (false≢true e)
+numbered-room (d ∷ s ∷ l) e = omega arith
 
 pub number-room : (f : Numbering) (n k : ℕ) (l : List ℕ) → parseNumber f n k l ≡ accepted → skipOf f ≤ length l
 number-room Unnumbered n k l e = omega arith
-number-room Numbered n k l e = room l (must-held (isNumbered l) 5 n e)
-number-room InTurn n k l e = room l (must-held (isNumbered l) 5 n (then-first _ _ e))
-
--- both of two tests that pass together
-pub and-first : (p q : Bool) → (p && q) ≡ true → p ≡ true
-and-first true q e = refl
-and-first false q e = e
-
-and-second : (p q : Bool) → (p && q) ≡ true → q ≡ true
-and-second true q e = e
-and-second false q e = absurd (false≢true e)
+number-room Numbered n k l e = numbered-room l (must-held (isNumbered l) 5 n e)
+number-room InTurn n k l e = numbered-room l (must-held (isNumbered l) 5 n (then-first _ _ e))
 
 digit-legal : (d : ℕ) → digit d ≡ true → legal d ≡ true
 unfolding alphanumeric legal
@@ -59,8 +51,8 @@ unfolding isNumbered
 number-legal [] e = refl
 number-legal (d ∷ []) e = absurd (false≢true e)
 number-legal (d ∷ s ∷ l) e =
-    let slash = eqb-true s 47 (and-second (digit d) (eqb s 47) e) in
-    rw (digit-legal d (and-first (digit d) (eqb s 47) e), slash, slash-legal)
+    let slash = eqb-true s 47 (both-right (digit d) (eqb s 47) e) in
+    rw (digit-legal d (both-left (digit d) (eqb s 47) e), slash, slash-legal)
 
 -- where its number passed, a line's text is legal where the line is
 text-legal : (f : Numbering) (n k : ℕ) (l : List ℕ) → parseNumber f n k l ≡ accepted → all legal (drop (skipOf f) l) ≡ all legal l

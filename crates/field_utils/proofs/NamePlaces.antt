@@ -3,14 +3,15 @@ use mathlib.Core.Path.{_≡_, refl, sym, _∙_, ap}
 use mathlib.Core.List.{List, [], _∷_, _++_, map, append-nil}
 use Prim.Native.Nat.{ℕ, zero, suc, _+_, _-_, _≤_, _<_}
 use native.Mathlib.Omega.{arith}
-use lib.ListN.{length, set, length-append}
+use lib.ListN.{length, take, drop, set, length-append}
 use lib.Seq.{append-snoc}
 use Rattle.errors.specs.Refusals.{Reply, accepted, refused}
 use Rattle.party.specs.declared.Part.{Part}
-use Rattle.party.specs.Text.{four}
+use Rattle.party.specs.Text.{partIn, four}
 use Rattle.field_utils.specs.declared.lines.Line.{Line}
 use Rattle.field_utils.specs.declared.lines.Line.the-variants.{Next, Done}
 use Rattle.field_utils.specs.declared.lines.Lines.{Lines}
+use Rattle.field_utils.specs.Lines.{lines}
 use Rattle.field_utils.specs.Cursor.{nextLine, placesOf, linePlaces, noPlace, keptPlace, namePlaces}
 use Rattle.field_utils.specs.Code.{partsOr}
 use Rattle.field_utils.proofs.Places.{Found, Fits, next-fits, next-done, found}
@@ -60,6 +61,22 @@ module _ (s : List ℕ) (at : ℕ) {x : Line} (e : nextLine s at ≡ x) where
       go : (n : ℕ) → length s ≡ n → placesOf n s at ≡ record { start = start; len = end - start } ∷ placesOf n s (rest .at)
       go zero h = absurd (omega (arith, h, fits .moved, fits .within))
       go (suc n) h = opened n s at (e ∙ d) ∙ ap (_∷_ (record { start = start; len = end - start })) (stable n s (rest .at) (omega (arith, h, fits .moved)))
+
+-- what stands at these places are the lines, so that the two say one thing
+first-there : (n : ℕ) (s : List ℕ) (at : ℕ) → length s ≤ at + n → map (partIn s) (placesOf n s at) ≡ lines (drop at s)
+first-there zero s at h = go (nextLine s at) (next-fits s at)
+  where
+    go : (x : Line) → Fits s at x → map (partIn s) (placesOf 0 s at) ≡ lines (drop at s)
+    go (Next start end rest) f = absurd (omega (arith, h, f .moved, f .within))
+    go Done f = ap (map (partIn s)) (closed s at) ∙ sym (f .0)
+first-there (suc n) s at h = ap (map (partIn s)) (opened n s at refl) ∙ go (nextLine s at) (next-fits s at) (first-there n s)
+  where
+    go : (x : Line) → Fits s at x → ((i : ℕ) → length s ≤ i + n → map (partIn s) (placesOf n s i) ≡ lines (drop i s)) → map (partIn s) (placesBy n s x) ≡ lines (drop at s)
+    go (Next start end rest) f later = ap (_∷_ (take (end - start) (drop start s))) (later (rest .at) (omega (arith, h, f .moved))) ∙ sym (f .line)
+    go Done f later = sym (f .0)
+
+pub lines-there : (s : List ℕ) (at : ℕ) → map (partIn s) (linePlaces s at) ≡ lines (drop at s)
+lines-there s at = first-there (length s) s at (omega arith)
 
 -- the lines from a place on up to another are passed, n of them, and the parts are those of what is kept of the first four
 pub record Marked (s : List ℕ) (kept from n at : ℕ) (parts : List Part) : Type 0 where

@@ -2,14 +2,10 @@
 use mathlib.Core.Path.{_≡_, refl, sym, _∙_}
 use mathlib.Core.Bool.{Bool, true, false, not, _&&_, _||_, false≢true, true≢false}
 use mathlib.Core.List.{List, _∷_}
-use Prim.Native.Nat.{ℕ, _≤_}
+use Prim.Native.Nat.{ℕ}
 use lib.Dec.{eqb}
-use lib.ListN.{length}
 use borrow.Author.Tests.{eqb-false, ne-eqb}
-use Rattle.party.specs.declared.Numbering.the-variants.{Numbered}
 use Rattle.swift_utils.specs.Bytes.{among}
-use Rattle.field_utils.specs.Identifier.{isNumbered}
-use Rattle.field_utils.proofs.NameLines.{number-room}
 
 pub both-left : (p q : Bool) → (p && q) ≡ true → p ≡ true
 both-left true q e = refl
@@ -53,7 +49,3 @@ rest-not a l e = either-right (eqb 10 a) (among l 10) e
 
 pub none-more : (a : ℕ) (l : List ℕ) → eqb a 10 ≡ false → among l 10 ≡ false → among (a ∷ l) 10 ≡ false
 none-more a l e f = neither (eqb 10 a) (among l 10) (ne-eqb 10 a (λ g. eqb-false a 10 e (sym g))) f
-
--- a numbered line has a digit and a slash
-pub numbered-room : (x : List ℕ) → isNumbered x ≡ true → 2 ≤ length x
-numbered-room x e = number-room Numbered 0 0 x (rw e)

@@ -22,10 +22,10 @@ use Rattle.field_utils.specs.Trim.{trimmed}
 use Rattle.field_utils.proofs.Tests.{Line, either-left, either-right}
 use Rattle.reader.specs.Reading.{Reading, Found}
 use Rattle.reader.specs.Options.{foundBy, read}
-use Rattle.choices.specs.declared.Choice.{Choice}
-use Rattle.choices.specs.Choices.{refusing, triedText, afterCheck, parse, isLetter, optionsOf, pickOf, parseWithVariant, isPicked, readText}
-use Rattle.choices.proofs.Trials.{by-choice}
-use Rattle.choices.proofs.Every.{each, parse-by}
+use Rattle.reader.specs.declared.choices.Choice.{Choice}
+use Rattle.reader.specs.Choices.{refusing, triedText, afterCheck, parse, isLetter, optionsOf, pickOf, parseWithVariant, isPicked, readText}
+use Rattle.reader.proofs.Trials.{by-choice}
+use Rattle.reader.proofs.Every.{each, parse-by}
 use Rattle.writer.specs.Writing.{nameLines, writtenLines, joined, writtenBody}
 use Rattle.writer.specs.Sender.{readLines, Leads}
 use Rattle.writer.proofs.Relined.{weight, lines-rest}

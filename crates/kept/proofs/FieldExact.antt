@@ -7,7 +7,7 @@ use native.Mathlib.Omega.{arith}
 use lib.Dec.{ltb, eqb}
 use lib.ListN.{length, take, drop, getD, length-append, length-drop, List·getD-eq-default}
 use lib.Seq.{getD-append-seam, length-take-le, getD-drop}
-use borrow.Author.Tests.{eqb-true, ltb-true, ltb-false}
+use borrow.Author.Tests.{eqb-true, ltb-true, ltb-false, lt-ltb}
 use Rattle.party.specs.declared.PartyOption.{PartyOption}
 use Rattle.party.specs.declared.Party.{Party}
 use Rattle.party.specs.Decides.{Decides}
@@ -18,6 +18,7 @@ use Rattle.writer.specs.Writing.{writtenBody, writtenField}
 use Rattle.writer.specs.ReadBack.{endsCr}
 use Rattle.writer.proofs.Relined.{cr-kept}
 use Rattle.writer.proofs.Back.{accepted-is}
+use Rattle.writer.proofs.Fields.{tag-sizes}
 use Rattle.page_reader.specs.declared.BodyPlace.{BodyPlace}
 use Rattle.page_reader.specs.Pages.{lessCr, runs, ReadOutcome, aRecord, readAt}
 use Rattle.page_reader.proofs.Cases.{runs-most}
@@ -110,13 +111,15 @@ module _ (page : List ℕ) (at : ℕ) (p : Party) (q : readAt page at .outcome �
   abbrev plain : Bool
   plain = isPlain (g .body) (isAfterBic (p .option) (p .present) (g .body))
 
-  -- the byte after the body is that after the field's text
+  -- the body stands after its tag, and the byte after it is that after the field's text
   closing : isClosingCr page at ≡ eqb (getD page (at + length (fieldAt page at)) 0) 13
   closing =
       let t = fieldAt page at in
       let n = length-append (tagOf (g .option)) (g .body) in
       let z : at + length t - length (g .body) + length (g .body) ≡ at + length t = omega (arith, n, ap length (g .splits)) in
-      ap (λ (b : BodyPlace). eqb (getD page (b .start + b .len) 0) 13) (g .place) ∙ ap (λ (m : ℕ). eqb (getD page m 0) 13) z
+      let behind : 0 < at + length t - length (g .body) = omega (arith, n, ap length (g .splits), tag-sizes (g .option) .0) in
+      ap (λ (b : BodyPlace). ltb 0 (b .start) && eqb (getD page (b .start + b .len) 0) 13) (g .place)
+      ∙ (λ i. lt-ltb 0 _ behind i && eqb (getD page (z i) 0) 13)
 
   -- the record's option is the tag's
   option-is : p .option ≡ g .option

@@ -10,8 +10,8 @@ use Rattle.party.specs.Decides.{Decides}
 use Rattle.party.specs.Party.{said}
 use Rattle.reader.specs.Reading.{Reading}
 use Rattle.reader.specs.Options.{read}
-use Rattle.choices.specs.declared.Choice.{Choice}
-use Rattle.choices.specs.Choices.{parse, parseWithVariant}
+use Rattle.reader.specs.declared.choices.Choice.{Choice}
+use Rattle.reader.specs.Choices.{parse, parseWithVariant}
 use Rattle.writer.specs.Writing.{writtenBody, writtenField}
 use Rattle.page_reader.specs.Pages.{aRecord, readAt}
 use Rattle.kept.specs.Kept.{Kept, isKeptBy, keptRead, keptParse, keptParseWithVariant}

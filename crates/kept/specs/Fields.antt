@@ -2,7 +2,7 @@
 use Prim.Native.Nat.{ℕ, _+_}
 use mathlib.Core.Bool.{Bool, true, false, _&&_}
 use mathlib.Core.List.{List}
-use lib.Dec.{eqb}
+use lib.Dec.{ltb, eqb}
 use lib.ListN.{take, drop, getD}
 use Rattle.party.specs.declared.PartyOption.{PartyOption}
 use Rattle.page_reader.specs.Pages.{runs, ReadOutcome, aRecord, theEnd, aRefusal, readAt, bodyPlace}
@@ -13,11 +13,13 @@ use Rattle.kept.specs.Kept.{causesOf, noCauses, isNone}
 abbrev pub cameAt : List ℕ → ℕ → List ℕ
 cameAt page at = take (runs (drop at page)) (drop at page)
 
--- of a field: a CR stands between its body and the LF that closes it; where no LF closes it, nothing stands after the body
+-- of a field: a CR stands between its body and the LF that closes it; where no LF closes it, nothing stands after the body. A body stands
+-- after its tag, so that one at 0 is none: no field, or a tag that is none of the eleven
 abbrev pub isClosingCr : List ℕ → ℕ → Bool
-isClosingCr page at = eqb (getD page (bodyPlace page at .start + bodyPlace page at .len) 0) 13
+isClosingCr page at = let b = bodyPlace page at in ltb 0 (b .start) && eqb (getD page (b .start + b .len) 0) 13
 
--- the causes in the field at a position, that an option read with or without an account or identifier; a page trims nothing
+-- the causes in the field at a position, that an option read with or without an account or identifier; a page trims nothing, and where no
+-- field with a known tag is, there is none
 abbrev pub fieldCauses : PartyOption → Bool → List ℕ → ℕ → Causes
 fieldCauses o present page at = causesOf o present (readAt page at .body) false (isClosingCr page at)
 

@@ -12,8 +12,8 @@ use Rattle.party.specs.Limits.{limitsOf}
 use Rattle.field_utils.specs.Lines.{starts, lines}
 use Rattle.reader.specs.Reading.{Reading}
 use Rattle.reader.specs.Options.{read}
-use Rattle.choices.specs.declared.Choice.{Choice}
-use Rattle.choices.specs.Choices.{triedText, parse, readText, parseWithVariant}
+use Rattle.reader.specs.declared.choices.Choice.{Choice}
+use Rattle.reader.specs.Choices.{triedText, parse, readText, parseWithVariant}
 use Rattle.writer.specs.Given.{passes}
 use Rattle.kept.specs.declared.Causes.{Causes}
 use Rattle.kept.specs.declared.Kept.{Kept as KeptAs}

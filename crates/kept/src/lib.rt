@@ -1,16 +1,16 @@
 // When a body, or a field of a page, is filed as the very bytes that came, and by which causes it is not. No Rust file has this.
-use choices::Choice;
-use choices::read_text;
-use choices::tried_text;
 use errors::Outcome;
 use field_utils::lines::count_lines;
 use page_reader::body_place;
 use party::PartyOption;
 use party::limits_of;
 use reader::Answer;
+use reader::choices::Choice;
+use reader::choices::read_text;
+use reader::choices::tried_text;
 ghost use mathlib.Core.Path.{_≡_};
 ghost use mathlib.Core.Bool.{_&&_};
-ghost use lib.Dec.{eqb};
+ghost use lib.Dec.{ltb, eqb};
 ghost use lib.ListN.{getD};
 ghost use Rattle.reader.specs.Reading.{toldAnswer};
 ghost use Rattle.kept.specs.Kept.{hasCrLf, endsLf, bicLine, isAfterBic, causesOf, noCauses, keptOf, keptRead, keptParse, keptParseWithVariant, toldKept};
@@ -148,7 +148,11 @@ pub fn read(option: PartyOption, body: &[u8]) -> Kept
 pub fn parse(choice: Choice, body: &[u8]) -> Kept
     ensures { λ r. ⌜ toldKept r ≡ keptParse choice (now (body .entry)) ⌝ }
 {
-    keep(choices::parse(choice, body), tried_text(choice, body), body)
+    keep(
+        reader::choices::parse(choice, body),
+        tried_text(choice, body),
+        body,
+    )
 }
 
 // Of one that a choice reads by a letter, 0 for none.
@@ -156,29 +160,33 @@ pub fn parse_with_variant(choice: Choice, body: &[u8], letter: u8) -> Kept
     ensures { λ r. ⌜ toldKept r ≡ keptParseWithVariant choice (now (body .entry)) letter ⌝ }
 {
     keep(
-        choices::parse_with_variant(choice, body, letter),
+        reader::choices::parse_with_variant(choice, body, letter),
         read_text(choice, body, letter),
         body,
     )
 }
 
-// Whether a CR stands at a place.
-fn is_cr_at(page: &[u8], at: usize) -> bool
-    ensures { λ r. ⌜ r ≡ eqb (getD (now (page .entry)) at 0) 13 ⌝ }
+// Whether a CR stands behind a body, by its start and its end. None starts at 0.
+fn is_cr_after(page: &[u8], start: usize, end: usize) -> bool
+    ensures { λ r. ⌜ r ≡ (ltb 0 start && eqb (getD (now (page .entry)) end 0) 13) ⌝ }
 {
-    if page.len() <= at {
+    if start == 0 {
         return false;
     }
-    page[at] == b'\r'
+    if page.len() <= end {
+        return false;
+    }
+    page[end] == b'\r'
 }
 
-// The causes in the field of a page at a position, that an option read with or without an account or identifier.
+// The causes in the field of a page at a position, that an option read with or without an account or identifier; none where there is no
+// field, or its tag is none of the eleven.
 pub fn field_causes(option: PartyOption, present: bool, page: &[u8], at: usize) -> Causes
     ensures { λ r. ⌜ r ≡ fieldCauses option present (now (page .entry)) at ⌝ }
 {
     let place = body_place(page, at);
     let start = place.start;
     let end = start + place.len;
-    let closing_cr = is_cr_at(page, end);
+    let closing_cr = is_cr_after(page, start, end);
     causes_of(option, present, &page[start..end], false, closing_cr)
 }

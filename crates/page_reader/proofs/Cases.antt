@@ -19,13 +19,14 @@ use Rattle.field_utils.specs.Lines.{upto, starts, isEmpty}
 use Rattle.field_utils.proofs.Places.{upto-length}
 use Rattle.reader.specs.Reading.{Into, storing, readInto as readerInto, toldInto as readerTold}
 use Rattle.reader.specs.Options.{read}
-use Rattle.reader.proofs.Into.{replied}
+use Rattle.flat.specs.Flat.{recordSize}
+use Rattle.reader.proofs.Into.{into-whole, replied}
 use Rattle.page_reader.specs.declared.ReadInto.{ReadInto}
 use Rattle.page_reader.specs.declared.ReadOutcome.{ReadOutcome as OutcomeAt}
 use Rattle.page_reader.specs.declared.ReadOutcome.the-variants.{Record, End, Refused}
 use Rattle.page_reader.specs.declared.ReadCase.{ReadCase}
 use Rattle.page_reader.specs.declared.ReadCase.the-variants.{TooLong, NoStart, AtLength, Opening, Ending, Stray}
-use Rattle.page_reader.specs.Pages.{pageMost, lineAt, opens, hasLf, endsAt, runs, Tagged, untagged, tagged, tagIn, ReadOutcome, theEnd, aRefusal, PageRead, bodiless, outcomeOf, readTagged, readField, readable, lineCase, restCase, readCase, readBy, readAt, toldOutcome, partyBeside, readBytes, toldInto}
+use Rattle.page_reader.specs.Pages.{pageMost, lineAt, opens, hasLf, endsAt, runs, Tagged, untagged, tagged, tagIn, theEnd, aRefusal, PageRead, bodiless, outcomeOf, readTagged, readField, readable, lineCase, restCase, readCase, readBy, readAt, readLent, readBytes, Kind, kindOf, Outline, outline, toldKind, toldInto}
 use Rattle.page_reader.proofs.EndLines.{not-both}
 use Rattle.page_reader.proofs.Runs.{followed, runs-end, runs-lf, runs-more}
 
@@ -184,14 +185,14 @@ module _ (page : List ℕ) (at : ℕ) where
 
 -- ---- what an answer of the code says of a read into lent bytes, which were d and are e
 abbrev pub Tells : ReadInto → PageRead → List ℕ → List ℕ → Type 0
-Tells r x d e = (toldInto r x ≡ x) × (e ≡ readBytes (x .outcome) d)
+Tells r x d e = (toldInto r ≡ outline x) × (e ≡ readBytes (x .outcome) d)
 
 pub tells-refusal : {r : ReadInto} {w : ParseError} {next : ℕ} (d : List ℕ) → r ≡ record { outcome = Refused w; next = next }
     → Tells r (bodiless (aRefusal (refusalOf w .number) (refusalOf w .line)) next) d d
-tells-refusal {w = w} {next = next} d q = (ap (λ (r : ReadInto). toldInto r (bodiless (aRefusal (refusalOf w .number) (refusalOf w .line)) next)) q, refl)
+tells-refusal d q = (ap toldInto q, refl)
 
 pub tells-end : {r : ReadInto} {next : ℕ} (d : List ℕ) → r ≡ record { outcome = End; next = next } → Tells r (bodiless theEnd next) d d
-tells-end {next = next} d q = (ap (λ (r : ReadInto). toldInto r (bodiless theEnd next)) q, refl)
+tells-end d q = (ap toldInto q, refl)
 
 -- from a case to the read at a position
 module _ (page : List ℕ) (at : ℕ) {x : ReadCase} (e : readCase page at ≡ x) where
@@ -225,7 +226,7 @@ abbrev pub went : Outcome → OutcomeAt
 went Accepted = Record
 went (Denied e) = Refused e
 
-went-told : (w : Outcome) (p : Party) → toldOutcome (went w) (partyBeside (outcomeOf (told w) p)) ≡ outcomeOf (told w) p
+went-told : (w : Outcome) (p : Party) → toldKind (went w) ≡ kindOf (outcomeOf (told w) p)
 went-told Accepted p = refl
 went-told (Denied e) p = refl
 
@@ -233,12 +234,20 @@ stored-bytes : (q : Reply) (p : Party) (d : List ℕ) → storing q p d .bytes �
 stored-bytes accepted p d = refl
 stored-bytes (refused k n) p d = refl
 
-pub answer-tells : (o : PartyOption) (body : List ℕ) (next : ℕ) (a : Outcome) {w : Outcome} (d : List ℕ) {e : List ℕ} → readerTold a e ≡ readerInto (read o body) d → a ≡ w
+pub answer-tells : (o : PartyOption) (body : List ℕ) (next : ℕ) (a : Outcome) {w : Outcome} (d : List ℕ) {e : List ℕ} → recordSize ≤ length d → readerTold a e ≡ readerInto (read o body) d → a ≡ w
     → Tells (record { outcome = went w; next = next }) (readTagged (tagged o body) next) d e
-answer-tells o body next a {w} d {e} h q =
+answer-tells o body next a {w} d size into q =
     let r = read o body in
+    let h = into ∙ into-whole r d size in
     let reply : told w ≡ r .reply = sym (ap told q) ∙ replied r d a h in (
-      ap {B = PageRead} (λ (y : ReadOutcome). record { outcome = y; body = body; next = next })
-          (subst (λ (y : Reply). toldOutcome (went w) (partyBeside (outcomeOf y (r .party))) ≡ outcomeOf y (r .party)) reply (went-told w (r .party))),
+      ap {B = Outline} (λ (y : Kind). record { kind = y; next = next }) (went-told w (r .party) ∙ ap (λ (y : Reply). kindOf (outcomeOf y (r .party))) reply),
       ap (λ (i : Into). i .bytes) h ∙ stored-bytes (r .reply) (r .party) d,
     )
+
+-- ---- by the bytes that are lent
+module _ (page : List ℕ) (at : ℕ) (d : List ℕ) where
+  pub lent-whole : recordSize ≤ length d → readLent page at d ≡ readAt page at
+  lent-whole h = rw (le-leb recordSize (length d) h)
+
+  pub lent-short : length d < recordSize → readLent page at d ≡ bodiless (aRefusal 42 0) at
+  lent-short h = rw (lt-leb recordSize (length d) h)

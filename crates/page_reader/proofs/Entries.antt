@@ -12,12 +12,13 @@ use Rattle.errors.specs.declared.ParseError.{ParseError}
 use Rattle.errors.specs.Refusals.{Reply, accepted, refused, must}
 use Rattle.party.specs.declared.PartyOption.{PartyOption}
 use Rattle.party.specs.Limits.{placeOf}
+use Rattle.flat.specs.Flat.{recordSize}
 use Rattle.page_reader.specs.declared.ReadOutcome.the-variants.{Record, Refused}
 use Rattle.page_reader.specs.declared.index.LookOutcome.the-variants.{Record as FoundRecord, Refused as FoundRefused}
 use Rattle.page_reader.specs.declared.index.LookOutcome.{LookOutcome}
 use Rattle.page_reader.specs.Pages.{pageMost, past, Tagged, untagged, tagged, PageRead, readTagged, readField, textIn, readCase, readAt}
 use Rattle.page_reader.specs.Reads.{Read, readHere}
-use Rattle.page_reader.specs.Index.{Entry, indexMost, indexSize, entriesIn, entriesOf, noEntry, Met, aField, taggedAs, metBy, fieldAt, Looked, found, notFound, looking, isThere, entryOf, lookReply, lookUp, bodyOf, toldLooked, partyLooked, lookBytes}
+use Rattle.page_reader.specs.Index.{Entry, indexMost, indexSize, entriesIn, entriesOf, noEntry, Met, aField, taggedAs, metBy, fieldAt, Looked, found, notFound, looking, isThere, entryOf, lookReply, lookUp, lookLent, lookBytes, foundAt, lookOutline, toldLooked}
 use Rattle.page_reader.specs.Code.{IsField}
 use Rattle.page_reader.proofs.Cases.{Tells, by-case}
 
@@ -137,14 +138,22 @@ pub field-read : (page : List ℕ) {o : PartyOption} {skip at to : ℕ} → IsFi
 unfolding readField
 field-read page {at = at} {to = to} f = by-case page at (f .case) ∙ ap (λ (t : Tagged). readTagged t (past page to)) (f .option)
 
+-- ---- into lent bytes
+module _ (page index : List ℕ) (k : ℕ) (d : List ℕ) where
+  pub look-whole : recordSize ≤ length d → lookLent page index k d ≡ lookUp page index k
+  look-whole h = rw (le-leb recordSize (length d) h)
+
+  pub look-short : length d < recordSize → lookLent page index k d ≡ notFound 42 0
+  look-short h = rw (lt-leb recordSize (length d) h)
+
 -- what an answer of the code says of a lookup into lent bytes, which were d and are e
 abbrev pub Looks : LookOutcome → Looked → List ℕ → List ℕ → Type 0
-Looks r x d e = (toldLooked r (partyLooked x) (bodyOf x) ≡ x) × (e ≡ lookBytes x d)
+Looks r x d e = (toldLooked r ≡ lookOutline x) × (e ≡ lookBytes x d)
 
 -- of a field that was found, what the answer of a read says
 module _ (at next : ℕ) (x : PageRead) (d : List ℕ) {e : List ℕ} where
   pub looks-record : Tells (record { outcome = Record; next = next }) x d e → Looks (FoundRecord at next) (found (record { at = at; gave = x })) d e
-  looks-record t = (ap (λ (y : PageRead). found (record { at = at; gave = y })) (t .0), t .1)
+  looks-record t = (ap (foundAt at) (t .0), t .1)
 
   pub looks-refused : (w : ParseError) → Tells (record { outcome = Refused w; next = next }) x d e → Looks (FoundRefused w at next) (found (record { at = at; gave = x })) d e
-  looks-refused w t = (ap (λ (y : PageRead). found (record { at = at; gave = y })) (t .0), t .1)
+  looks-refused w t = (ap (foundAt at) (t .0), t .1)

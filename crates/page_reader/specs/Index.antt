@@ -8,12 +8,12 @@ use Rattle.errors.specs.Refusals.{Reply, accepted, refused, must, _then_, refus
 use Rattle.party.specs.declared.Party.{Party}
 use Rattle.party.specs.Limits.{options, placeOf}
 use Rattle.party.specs.Party.{blank}
+use Rattle.reader.specs.Reading.{roomReply}
 use Rattle.page_reader.specs.declared.ReadCase.{ReadCase}
 use Rattle.page_reader.specs.declared.ReadCase.the-variants.{TooLong, NoStart, AtLength, Opening, Ending, Stray}
 use Rattle.page_reader.specs.declared.index.LookOutcome.{LookOutcome}
 use Rattle.page_reader.specs.declared.index.LookOutcome.the-variants.{Record, Refused, NotFound}
-use Rattle.page_reader.specs.declared.index.Lookup.{Lookup}
-use Rattle.page_reader.specs.Pages.{pageMost, Tagged, untagged, tagged, tagIn, textIn, readCase, aRecord, aRefusal, partyBeside, readBytes}
+use Rattle.page_reader.specs.Pages.{pageMost, Tagged, untagged, tagged, tagIn, textIn, readCase, readBytes, partyBeside, aRecordGiven, aRefusalGiven, Outline, outline}
 use Rattle.page_reader.specs.Reads.{Read, readHere, reads}
 
 -- ---- the index
@@ -124,23 +124,38 @@ abbrev pub bodyOf : Looked → List ℕ
 bodyOf (found r) = r .gave .body
 bodyOf (notFound k n) = []
 
--- what the code's answer says, with the part of the page that is the body
-abbrev pub toldLooked : LookOutcome → Party → List ℕ → Looked
-toldLooked (Record at next) p body = found (record { at = at; gave = record { outcome = aRecord p; body = body; next = next } })
-toldLooked (Refused e at next) p body =
-    found (record { at = at; gave = record { outcome = aRefusal (refusalOf e .number) (refusalOf e .line); body = body; next = next } })
-toldLooked (NotFound e) p body = notFound (refusalOf e .number) (refusalOf e .line)
+-- ---- a lookup into lent bytes
+-- by the refusal that applies to them
+abbrev pub lookedBy : Reply → Looked → Looked
+lookedBy accepted x = x
+lookedBy (refused k n) x = notFound k n
 
--- of the whole answer
-abbrev pub toldLookup : Lookup → List ℕ → Looked
-toldLookup r body = toldLooked (r .outcome) (r .party) body
+-- 42 where under 241 bytes are lent for the record, before everything else
+abbrev pub lookLent : List ℕ → List ℕ → ℕ → List ℕ → Looked
+lookLent page index k bytes = lookedBy (roomReply (length bytes)) (lookUp page index k)
 
+-- the bytes after it: those of the read; 42, 18, 31 and 21 change none
+abbrev pub lookBytes : Looked → List ℕ → List ℕ
+lookBytes (found r) bytes = readBytes (r .gave .outcome) bytes
+lookBytes (notFound k n) bytes = bytes
+
+-- ---- what the code's answers say
 -- the record beside a lookup: blank but for a record
 abbrev pub partyLooked : Looked → Party
 partyLooked (found r) = partyBeside (r .gave .outcome)
 partyLooked (notFound k n) = blank
 
--- the bytes lent to a lookup, after it: those of the read; 18, 31 and 21 change none
-abbrev pub lookBytes : Looked → List ℕ → List ℕ
-lookBytes (found r) bytes = readBytes (r .gave .outcome) bytes
-lookBytes (notFound k n) bytes = bytes
+-- a lookup without the record and the body of its read
+pub data LookOutline : Type 0 where
+  foundAt : ℕ → Outline → LookOutline
+  notFoundFor : ℕ → ℕ → LookOutline
+
+abbrev pub lookOutline : Looked → LookOutline
+lookOutline (found r) = foundAt (r .at) (outline (r .gave))
+lookOutline (notFound k n) = notFoundFor k n
+
+-- the code's answer
+abbrev pub toldLooked : LookOutcome → LookOutline
+toldLooked (Record at next) = foundAt at (record { kind = aRecordGiven; next = next })
+toldLooked (Refused e at next) = foundAt at (record { kind = aRefusalGiven (refusalOf e .number) (refusalOf e .line); next = next })
+toldLooked (NotFound e) = notFoundFor (refusalOf e .number) (refusalOf e .line)

@@ -14,6 +14,7 @@ use Rattle.swift_utils.specs.Bytes.{among}
 use Rattle.field_utils.specs.Lines.{upto, starts, isEmpty, withoutCr}
 use Rattle.field_utils.specs.Tags.{tagOf}
 use Rattle.flat.specs.Flat.{stored}
+use Rattle.reader.specs.Reading.{roomReply}
 use Rattle.reader.specs.Options.{read}
 use Rattle.page_reader.specs.declared.PageRead.{PageRead as ReadAt}
 use Rattle.page_reader.specs.declared.ReadInto.{ReadInto}
@@ -189,28 +190,57 @@ placeBy (Stray to) page at = noBody
 unfoldable pub bodyPlace : List ℕ → ℕ → BodyPlace
 bodyPlace page at = placeBy (readCase page at) page at
 
--- what an outcome of the code says, with the record beside it
-abbrev pub toldOutcome : OutcomeAt → Party → ReadOutcome
-toldOutcome Record p = aRecord p
-toldOutcome End p = theEnd
-toldOutcome (Refused e) p = aRefusal (refusalOf e .number) (refusalOf e .line)
+-- ---- a read into lent bytes
+-- by the refusal that applies to them, which moves past no byte
+abbrev pub lentBy : Reply → PageRead → ℕ → PageRead
+lentBy accepted r at = r
+lentBy (refused k n) r at = bodiless (aRefusal k n) at
 
--- what the code's answer says, with the part of the page that is the body
-abbrev pub toldRead : ReadAt → List ℕ → PageRead
-toldRead r body = record { outcome = toldOutcome (r .outcome) (r .party); body = body; next = r .next }
+-- 42 where under 241 bytes are lent for the record, before everything else
+abbrev pub readLent : List ℕ → ℕ → List ℕ → PageRead
+readLent page at bytes = lentBy (roomReply (length bytes)) (readAt page at) at
 
+-- the bytes after it: a record is stored at their start; the end and a refusal change none
+abbrev pub readBytes : ReadOutcome → List ℕ → List ℕ
+readBytes (aRecord p) bytes = stored p bytes
+readBytes theEnd bytes = bytes
+readBytes (aRefusal k n) bytes = bytes
+
+-- ---- what the code's answers say
 -- the record beside an outcome: blank but for a record
 abbrev pub partyBeside : ReadOutcome → Party
 partyBeside (aRecord p) = p
 partyBeside theEnd = blank
 partyBeside (aRefusal k n) = blank
 
--- the bytes lent to a read, after it: a record is stored at their start; the end and a refusal change none
-abbrev pub readBytes : ReadOutcome → List ℕ → List ℕ
-readBytes (aRecord p) bytes = stored p bytes
-readBytes theEnd bytes = bytes
-readBytes (aRefusal k n) bytes = bytes
+-- an outcome without its record
+pub data Kind : Type 0 where
+  aRecordGiven : Kind
+  theEndGiven : Kind
+  aRefusalGiven : ℕ → ℕ → Kind
 
--- what the code's answer says of a read into lent bytes, which has neither the record nor the body
-abbrev pub toldInto : ReadInto → PageRead → PageRead
-toldInto r x = record { outcome = toldOutcome (r .outcome) (partyBeside (x .outcome)); body = x .body; next = r .next }
+abbrev pub kindOf : ReadOutcome → Kind
+kindOf (aRecord p) = aRecordGiven
+kindOf theEnd = theEndGiven
+kindOf (aRefusal k n) = aRefusalGiven k n
+
+-- a read without its record and its body, which the answer has not
+pub record Outline : Type 0 where
+  pub kind : Kind
+  pub next : ℕ
+
+abbrev pub outline : PageRead → Outline
+outline r = record { kind = kindOf (r .outcome); next = r .next }
+
+-- the code's outcome
+abbrev pub toldKind : OutcomeAt → Kind
+toldKind Record = aRecordGiven
+toldKind End = theEndGiven
+toldKind (Refused e) = aRefusalGiven (refusalOf e .number) (refusalOf e .line)
+
+-- its answer to a read into lent bytes, and to one by value, which has the record beside it
+abbrev pub toldInto : ReadInto → Outline
+toldInto r = record { kind = toldKind (r .outcome); next = r .next }
+
+abbrev pub toldRead : ReadAt → Outline
+toldRead r = record { kind = toldKind (r .outcome); next = r .next }

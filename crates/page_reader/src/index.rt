@@ -22,7 +22,7 @@ ghost use Prim.Native.Nat.{_≤_};
 ghost use lib.ListN.{length};
 ghost use Rattle.page_reader.specs.declared.ReadCase.the-variants.{Opening};
 ghost use Rattle.page_reader.specs.Pages.{readCase};
-ghost use Rattle.page_reader.specs.Index.{indexSize, entriesOf, lookUp, bodyOf, toldLooked, toldLookup, partyLooked, lookBytes};
+ghost use Rattle.page_reader.specs.Index.{indexSize, entriesOf, lookUp, bodyOf, lookLent, lookBytes, partyLooked, lookOutline, toldLooked};
 ghost use Rattle.page_reader.specs.Code.{HoldsBy, Finds, partyFound};
 
 // The most entries of an index.
@@ -31,8 +31,8 @@ pub const INDEX_MOST: usize = 256;
 // How many numbers an index is: a count, then tag, position and length of each entry, the tag as the option's place in the table.
 pub const INDEX_SIZE: usize = 3 * INDEX_MOST + 1;
 
-// What a lookup gives: the field's record or its body's refusal, each with the field's position and the next, or 18, 31 or 21, which carry
-// none.
+// What a lookup gives: the field's record or its body's refusal, each with the field's position and the next, or 42, 18, 31 or 21, which
+// carry none.
 pub enum LookOutcome {
     Record {
         at: usize,
@@ -134,16 +134,19 @@ fn find(page: &[u8], index: &[u32; INDEX_SIZE], k: usize) -> Place
 }
 
 // Looks up field k of a page, counted from 1: reads as the reader does at the position that entry k gives. The record is stored at the
-// start of lent bytes; a refusal changes none.
+// start of lent bytes; a refusal changes none. 42, before everything else, where they are under 241.
 pub fn look_up_into(
     page: &[u8],
     index: &[u32; INDEX_SIZE],
     k: usize,
     record: &mut [u8],
 ) -> LookOutcome
-    ensures { λ r. ⌜ toldLooked r (partyLooked (lookUp (now (page .entry)) (now (index .entry)) k)) (bodyOf (lookUp (now (page .entry)) (now (index .entry)) k)) ≡ lookUp (now (page .entry)) (now (index .entry)) k ⌝ }
-    ensures bytes { λ r. ⌜ now («record» .exit) ≡ lookBytes (lookUp (now (page .entry)) (now (index .entry)) k) (now («record» .entry)) ⌝ }
+    ensures { λ r. ⌜ toldLooked r ≡ lookOutline (lookLent (now (page .entry)) (now (index .entry)) k (now («record» .entry))) ⌝ }
+    ensures bytes { λ r. ⌜ now («record» .exit) ≡ lookBytes (lookLent (now (page .entry)) (now (index .entry)) k (now («record» .entry))) (now («record» .entry)) ⌝ }
 {
+    if record.len() < RECORD_SIZE {
+        return LookOutcome::NotFound(ParseError::ShortRecord);
+    }
     match find(page, index, k) {
         Place::Field {
             option,
@@ -174,7 +177,7 @@ fn party_looked(outcome: LookOutcome, room: &[u8]) -> Party
 
 // The same by value.
 pub fn look_up(page: &[u8], index: &[u32; INDEX_SIZE], k: usize) -> Lookup
-    ensures { λ r. ⌜ toldLookup r (bodyOf (lookUp (now (page .entry)) (now (index .entry)) k)) ≡ lookUp (now (page .entry)) (now (index .entry)) k ⌝ }
+    ensures { λ r. ⌜ toldLooked (r .outcome) ≡ lookOutline (lookUp (now (page .entry)) (now (index .entry)) k) ⌝ }
     ensures beside { λ r. ⌜ r .party ≡ partyLooked (lookUp (now (page .entry)) (now (index .entry)) k) ⌝ }
 {
     let mut room = [0u8; RECORD_SIZE];

@@ -18,9 +18,10 @@ ghost use mathlib.Core.Bool.{false, true};
 ghost use Prim.Native.Nat.{_+_, _≤_};
 ghost use lib.ListN.{length, drop};
 ghost use Rattle.party.specs.Limits.{options};
+ghost use Rattle.flat.specs.Flat.{recordSize};
 ghost use Rattle.page_reader.specs.declared.Tag.the-variants.{Known};
 ghost use Rattle.page_reader.specs.declared.ReadOutcome.the-variants.{End, Refused};
-ghost use Rattle.page_reader.specs.Pages.{lineAt, opens, endsAt, runs, past as pastLf, tagIn, readField, readable, textIn, readCase, readAt, toldRead, partyBeside, readBytes, toldInto, noBody, bodyIn, bodyPlace};
+ghost use Rattle.page_reader.specs.Pages.{lineAt, opens, endsAt, runs, past as pastLf, tagIn, readField, readable, textIn, readCase, readAt, noBody, bodyIn, bodyPlace, readLent, readBytes, partyBeside, outline, toldInto, toldRead};
 ghost use Rattle.page_reader.specs.Code.{isOver, toldTag, hasTag, knownIn, partyGiven};
 
 pub mod index;
@@ -285,7 +286,8 @@ fn end(next: usize) -> ReadInto
 
 // A field's text by its tag: 15, or what the option's reader says of the body.
 fn read_field_into(text: &[u8], next: usize, record: &mut [u8]) -> ReadInto
-    ensures { λ r. ⌜ toldInto r (readField (now (text .entry)) next) ≡ readField (now (text .entry)) next ⌝ }
+    requires { ⌜ recordSize ≤ length (now «record») ⌝ }
+    ensures { λ r. ⌜ toldInto r ≡ outline (readField (now (text .entry)) next) ⌝ }
     ensures bytes { λ r. ⌜ now («record» .exit) ≡ readBytes (readField (now (text .entry)) next .outcome) (now («record» .entry)) ⌝ }
 {
     let tag = parse_tag(text);
@@ -303,11 +305,14 @@ fn read_field_into(text: &[u8], next: usize, record: &mut [u8]) -> ReadInto
 }
 
 // Reads the page at a position: the record, the refusal or the end, with the next position. The record is stored at the start of lent bytes;
-// the end and a refusal change none.
+// the end and a refusal change none. 42, before everything else, where they are under 241.
 pub fn read_at_into(page: &[u8], at: usize, record: &mut [u8]) -> ReadInto
-    ensures { λ r. ⌜ toldInto r (readAt (now (page .entry)) at) ≡ readAt (now (page .entry)) at ⌝ }
-    ensures bytes { λ r. ⌜ now («record» .exit) ≡ readBytes (readAt (now (page .entry)) at .outcome) (now («record» .entry)) ⌝ }
+    ensures { λ r. ⌜ toldInto r ≡ outline (readLent (now (page .entry)) at (now («record» .entry))) ⌝ }
+    ensures bytes { λ r. ⌜ now («record» .exit) ≡ readBytes (readLent (now (page .entry)) at (now («record» .entry)) .outcome) (now («record» .entry)) ⌝ }
 {
+    if record.len() < RECORD_SIZE {
+        return refuse(ParseError::ShortRecord, at);
+    }
     match read_case(page, at) {
         ReadCase::TooLong => refuse(ParseError::PageTooLong, at),
         ReadCase::NoStart => refuse(ParseError::Position, at),
@@ -330,7 +335,7 @@ fn party_in(outcome: ReadOutcome, room: &[u8]) -> Party
 
 // The same by value.
 pub fn read_at(page: &[u8], at: usize) -> PageRead
-    ensures { λ r. ⌜ toldRead r (readAt (now (page .entry)) at .body) ≡ readAt (now (page .entry)) at ⌝ }
+    ensures { λ r. ⌜ toldRead r ≡ outline (readAt (now (page .entry)) at) ⌝ }
     ensures beside { λ r. ⌜ r .party ≡ partyBeside (readAt (now (page .entry)) at .outcome) ⌝ }
 {
     let mut room = [0u8; RECORD_SIZE];

@@ -24,8 +24,8 @@ use Rattle.writer.proofs.Capped.{bytesSay, option-stored, given-stored, field-s
 use Rattle.writer.proofs.Puts.{puts-byte, space, both, placed-fits}
 use Rattle.page_reader.specs.Pages.{pageMost}
 use Rattle.page_reader.specs.Index.{Entry}
-use Rattle.page_writer.specs.Beside.{Beside, noIndex, noting}
-use Rattle.page_writer.specs.Adding.{linesCarried, isCarried, writable, hasSpace, withLf, endLine, positionAfter, refusal, Call, putting, recordSpace, asked, recordReply, addReply, freeBeside, add, entryFor, addIndex, close}
+use Rattle.page_writer.specs.Beside.{Beside, noIndex, isIndexed, isFree, noting}
+use Rattle.page_writer.specs.Adding.{linesCarried, isCarried, writable, hasSpace, withLf, endLine, positionAfter, refusal, Call, putting, recordSpace, asked, Tally, recordReply, tallyOf, freeBeside, addReply, add, entryFor, addIndex, close}
 use Rattle.page_writer.specs.Code.{lineReply, fieldCall}
 
 pub position≢refusal : {m k n : ℕ} → positionAfter m ≡ refusal k n → ⊥
@@ -33,7 +33,7 @@ position≢refusal e = let z : _≡_ {A = ℕ} 0 1 = cc in omega arith
 
 -- ---- adding
 module _ (buffer : List ℕ) (at : ℕ) (b : Beside) (s : Said) where
-  pub add-by : add buffer at b s ≡ putting (addReply buffer at (freeBeside b) s) buffer at (withLf (writtenField s))
+  pub add-by : add buffer at b s ≡ putting (addReply buffer at b s) buffer at (withLf (writtenField s))
   unfolding add
   add-by = refl
 
@@ -48,12 +48,12 @@ module _ (buffer : List ℕ) (at : ℕ) (b : Beside) (s : Said) where
   add-asked w e = rw (w, e)
 
 -- an accepted one
-module _ (len at : ℕ) (free : Bool) (s : Said) (e : recordReply len at free s ≡ accepted) where
+module _ (len : ℕ) (indexed : Bool) (t : Tally) (s : Said) (e : recordReply len indexed t s ≡ accepted) where
   passed : asked s ≡ accepted
   unfolding recordReply
   passed = then-first _ _ e
 
-  spaced : (must (recordSpace len at s) 24 0 then must free 31 0) ≡ accepted
+  spaced : (must (recordSpace len (t .position) s) 24 0 then must (isFree indexed (t .entries)) 31 0) ≡ accepted
   unfolding recordReply
   spaced = then-second (asked s) _ e
 
@@ -61,15 +61,15 @@ module _ (len at : ℕ) (free : Bool) (s : Said) (e : recordReply len at free s 
   unfolding asked
   reply-fit = (must-held (isGiven s) 22 0 (then-first _ _ passed), must-held (isCarried s) 23 0 (then-second (must (isGiven s) 22 0) _ passed))
 
-  pub reply-space : at + length (withLf (writtenField s)) + 2 ≤ min len pageMost
-  reply-space = leb-true _ _ (must-held (recordSpace len at s) 24 0 (then-first _ _ spaced))
+  pub reply-space : t .position + length (withLf (writtenField s)) + 2 ≤ min len pageMost
+  reply-space = leb-true _ _ (must-held (recordSpace len (t .position) s) 24 0 (then-first _ _ spaced))
 
-  pub reply-free : free ≡ true
-  reply-free = must-held free 31 0 (then-second (must (recordSpace len at s) 24 0) _ spaced)
+  pub reply-free : isFree indexed (t .entries) ≡ true
+  reply-free = must-held (isFree indexed (t .entries)) 31 0 (then-second (must (recordSpace len (t .position) s) 24 0) _ spaced)
 
-pub add-record : (buffer : List ℕ) (at : ℕ) (free : Bool) (s : Said) → addReply buffer at free s ≡ accepted → recordReply (length buffer) at free s ≡ accepted
+pub add-record : (buffer : List ℕ) (at : ℕ) (b : Beside) (s : Said) → addReply buffer at b s ≡ accepted → recordReply (length buffer) (isIndexed b) (tallyOf at b) s ≡ accepted
 unfolding addReply
-add-record buffer at free s e = then-second (must (writable buffer at) 21 0) _ e
+add-record buffer at b s e = then-second (must (writable buffer at) 21 0) _ e
 
 -- what a call answers tells its reply
 module _ (r : Reply) (buffer : List ℕ) (at : ℕ) (text : List ℕ) {e : List ℕ} where
@@ -89,15 +89,15 @@ module _ (r : Reply) (buffer : List ℕ) (at : ℕ) (text : List ℕ) {e : List 
 
 -- the index after it
 module _ (buffer : List ℕ) (at : ℕ) (b : Beside) (s : Said) {r : Reply} where
-  pub index-by : addReply buffer at (freeBeside b) s ≡ r → addIndex buffer at b s ≡ noting r (entryFor at s) b
+  pub index-by : addReply buffer at b s ≡ r → addIndex buffer at b s ≡ noting r (entryFor at s) b
   unfolding addIndex
   index-by e = ap (λ (x : Reply). noting x (entryFor at s) b) e
 
 -- where there is none, none
 pub index-none : (buffer : List ℕ) (at : ℕ) (s : Said) → addIndex buffer at noIndex s ≡ noIndex
-index-none buffer at s = go (addReply buffer at true s) refl
+index-none buffer at s = go (addReply buffer at noIndex s) refl
   where
-    go : (r : Reply) → addReply buffer at true s ≡ r → addIndex buffer at noIndex s ≡ noIndex
+    go : (r : Reply) → addReply buffer at noIndex s ≡ r → addIndex buffer at noIndex s ≡ noIndex
     go accepted e = index-by buffer at noIndex s e
     go (refused k n) e = index-by buffer at noIndex s e
 
@@ -112,17 +112,17 @@ entry-is p at {next} e =
 
 -- ---- a record that was stored as bytes is added as it is
 module _ (p : Party) (h : IsParty p) (d : List ℕ) (l : recordSize ≤ length d) (buffer : List ℕ) (at : ℕ) where
-  reply-stored : (free : Bool) → addReply buffer at free (bytesSay p h d l) ≡ addReply buffer at free (said p)
+  reply-stored : (b : Beside) → addReply buffer at b (bytesSay p h d l) ≡ addReply buffer at b (said p)
   unfolding addReply recordReply asked isCarried
-  reply-stored free = rw (given-stored p h d l, body-stored p h d l, field-stored p h d l)
+  reply-stored b = rw (given-stored p h d l, body-stored p h d l, field-stored p h d l)
 
   pub add-stored : (b : Beside) → add buffer at b (bytesSay p h d l) ≡ add buffer at b (said p)
   unfolding add
-  add-stored b = rw (reply-stored (freeBeside b), field-stored p h d l)
+  add-stored b = rw (reply-stored b, field-stored p h d l)
 
   pub index-stored : (b : Beside) → addIndex buffer at b (bytesSay p h d l) ≡ addIndex buffer at b (said p)
   unfolding addIndex
-  index-stored b = rw (reply-stored (freeBeside b), field-stored p h d l, option-stored p h d l)
+  index-stored b = rw (reply-stored b, field-stored p h d l, option-stored p h d l)
 
 -- ---- closing
 module _ (buffer : List ℕ) (at : ℕ) where

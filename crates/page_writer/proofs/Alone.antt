@@ -30,7 +30,7 @@ use Rattle.writer.proofs.Back.{accepted-is}
 use Rattle.writer.proofs.Theorems.{reading-back, written-most}
 use Rattle.page_reader.specs.Pages.{pageMost, isBoundary, tagged, PageRead, readTagged, readField, readAt}
 use Rattle.page_reader.proofs.Starts.{opens-read}
-use Rattle.page_writer.specs.Adding.{anyBoundary, laterBoundary, isCarried, withLf, endLine}
+use Rattle.page_writer.specs.Adding.{anyLine, anyBoundary, laterBoundary, isCarried, withLf, endLine}
 use Rattle.page_writer.specs.WholePage.{kept, Gives, pageOf, ReadsAs, Alone}
 use Rattle.page_writer.proofs.Pieces.{Pieces, pieces-of, upToBoundary, none-cut}
 use Rattle.page_writer.proofs.Structure.{opens-cut, lined-page, ending, tail-followed, reads}
@@ -47,7 +47,7 @@ abbrev cutBody : List ℕ → List ℕ
 cutBody body = withoutCr (joined (pieces-of body .first ∷ upToBoundary (pieces-of body .later)))
 
 pub cut-weight : (ls : List (List ℕ)) → anyBoundary ls ≡ true → weight (upToBoundary ls) < weight ls
-unfolding anyBoundary
+unfolding anyLine
 cut-weight [] e = absurd (false≢true e)
 cut-weight (m ∷ ms) e = go (isBoundary true m) refl (cut-weight ms)
   where

@@ -15,12 +15,12 @@ use Rattle.writer.specs.ReadBack.{endsCr, lastEmpty}
 use Rattle.writer.proofs.Relined.{cr-kept, pieces-joined}
 use Rattle.page_reader.specs.Pages.{pageMost, lineAt, hasLf, opens, isEnd, endsPage, isBoundary}
 use Rattle.page_reader.proofs.Runs.{line-whole}
-use Rattle.page_writer.specs.Adding.{anyCr, anyBoundary, laterBoundary, linesCarried, writable, hasSpace}
+use Rattle.page_writer.specs.Adding.{anyLine, anyCr, anyBoundary, laterBoundary, linesCarried, writable, hasSpace}
 use Rattle.page_writer.proofs.Pieces.{pieces-last, pieces-lf, first}
 
 -- ---- 23's clauses on lines, one after the other
 lines-one : (l : List ℕ) → linesCarried (l ∷ []) ≡ (not (endsCr l) && not (isEmpty l))
-unfolding anyCr lastEmpty laterBoundary anyBoundary
+unfolding anyLine lastEmpty laterBoundary
 lines-one l = go (endsCr l) (isEmpty l)
   where
     go : (c e : Bool) → (not (c || false) && not e && true) ≡ (not c && not e)
@@ -29,7 +29,7 @@ lines-one l = go (endsCr l) (isEmpty l)
     go false false = refl
 
 lines-more : (l m : List ℕ) (ls : List (List ℕ)) → linesCarried (l ∷ m ∷ ls) ≡ (not (endsCr l) && not (isBoundary true m) && linesCarried (m ∷ ls))
-unfolding anyCr lastEmpty laterBoundary anyBoundary
+unfolding anyLine lastEmpty laterBoundary
 lines-more l m ls = go (lastEmpty (m ∷ ls)) (endsCr l) (anyCr (m ∷ ls)) (isBoundary true m) (anyBoundary ls)
   where
     go : (a c d m' n : Bool) → (not (c || d) && not a && not (m' || n)) ≡ (not c && not m' && (not d && not a && not n))

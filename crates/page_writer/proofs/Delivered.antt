@@ -31,7 +31,7 @@ use Rattle.writer.proofs.Necessary.{letters-free}
 use Rattle.writer.proofs.Back.{accepted-is}
 use Rattle.writer.proofs.Theorems.{given-exact, reading-back, written-most}
 use Rattle.page_reader.specs.Pages.{pageMost, opens, isEnd, endsPage, isBoundary, theEnd, ReadOutcome, PageRead, outcomeOf, readField, readAt}
-use Rattle.page_writer.specs.Adding.{anyCr, anyBoundary, withLf}
+use Rattle.page_writer.specs.Adding.{anyLine, anyCr, anyBoundary, withLf}
 use Rattle.page_writer.specs.WholePage.{Field, kept, new, textOf, pageOf, Gives, ReadsAs}
 use Rattle.page_writer.specs.Delivered.{crlf, IsEndLine}
 use Rattle.page_writer.proofs.Pieces.{pieces-of}
@@ -126,7 +126,7 @@ boundary-cr l e = (λ i. first l i || isEnd (cr-added l i)) ∙ ap (λ (x : List
     first (b ∷ l) = refl
 
 any-boundary : (ls : List (List ℕ)) → anyCr ls ≡ false → anyBoundary (map withCr ls) ≡ anyBoundary ls
-unfolding anyCr anyBoundary
+unfolding anyLine
 any-boundary [] e = refl
 any-boundary (l ∷ ls) e = λ i. boundary-cr l (either-left (endsCr l) (anyCr ls) e) i || any-boundary ls (either-right (endsCr l) (anyCr ls) e) i
 
@@ -167,7 +167,7 @@ module _ (p : Party) where
 
   module _ (h : Fit p) where
     sent-sound : Sound (sent p)
-    unfolding anyCr sent-lined
+    unfolding anyLine sent-lined
     sent-sound = record {
       lined = sent-lined;
       bounded =

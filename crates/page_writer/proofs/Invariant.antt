@@ -20,7 +20,7 @@ use Rattle.writer.proofs.Relined.{All}
 use Rattle.page_reader.specs.Pages.{pageMost, startsLine}
 use Rattle.page_reader.proofs.Starts.{starts-prefix}
 use Rattle.page_writer.specs.Beside.{Beside, isIndexed, isFree, noting}
-use Rattle.page_writer.specs.Adding.{isCarried, writable, withLf, Filed, positionAfter, putting, recordReply, addReply, freeBeside, add, entryFor, addIndex}
+use Rattle.page_writer.specs.Adding.{isCarried, writable, withLf, Filed, positionAfter, putting, recordSpace, asked, recordReply, tallyOf, freeBeside, addReply, add, entryFor, addIndex}
 use Rattle.page_writer.specs.Fold.{Step, run, acceptedOf}
 use Rattle.page_writer.specs.WholePage.{OpenPage, lastGiven, addStep, isAccepted, Model, modelBy, modelStep, kept, pageOf}
 use Rattle.page_writer.proofs.Addings.{reply-fit, reply-space, reply-free, add-record}
@@ -30,11 +30,11 @@ use Rattle.page_writer.proofs.Structure.{Sound, fields-start}
 use Rattle.page_writer.proofs.Records.{kept-sound}
 
 -- an add, by its reply
-pub add-is : (buffer : List ℕ) (at : ℕ) (b : Beside) (s : Said) {r : Reply} → writable buffer at ≡ true → recordReply (length buffer) at (freeBeside b) s ≡ r
+pub add-is : (buffer : List ℕ) (at : ℕ) (b : Beside) (s : Said) {r : Reply} → writable buffer at ≡ true → recordReply (length buffer) (isIndexed b) (tallyOf at b) s ≡ r
     → add buffer at b s ≡ putting r buffer at (withLf (writtenField s))
 unfolding add addReply
 add-is buffer at b s w e =
-    ap (λ (t : Bool). putting (must t 21 0 then recordReply (length buffer) at (freeBeside b) s) buffer at (withLf (writtenField s))) w ∙ ap (λ (x : Reply). putting x buffer at (withLf (writtenField s))) e
+    ap (λ (t : Bool). putting (must t 21 0 then recordReply (length buffer) (isIndexed b) (tallyOf at b) s) buffer at (withLf (writtenField s))) w ∙ ap (λ (x : Reply). putting x buffer at (withLf (writtenField s))) e
 
 -- as a step
 abbrev stepBy : Reply → OpenPage → Party → Step OpenPage Filed
@@ -42,7 +42,7 @@ stepBy r s p =
     let c = putting r (s .buffer) (s .position) (withLf (writtenField (said p))) in
     record { state = record { buffer = c .buffer; position = lastGiven (c .answer) (s .position); index = noting r (entryFor (s .position) (said p)) (s .index) }; answer = c .answer }
 
-step-is : (s : OpenPage) (p : Party) {r : Reply} → addReply (s .buffer) (s .position) (freeBeside (s .index)) (said p) ≡ r → addStep s p ≡ stepBy r s p
+step-is : (s : OpenPage) (p : Party) {r : Reply} → addReply (s .buffer) (s .position) (s .index) (said p) ≡ r → addStep s p ≡ stepBy r s p
 unfolding add addIndex
 step-is s p e = ap (λ (r : Reply). stepBy r s p) e
 
@@ -62,9 +62,9 @@ module _ (buffer : List ℕ) where
   pub adds-untouched : (s : OpenPage) → Untouched s → (ps : List Party) → Untouched (run addStep s ps .state)
   adds-untouched =
       run-keeps addStep Untouched
-      (λ s p h. let r = addReply (s .buffer) (s .position) (freeBeside (s .index)) (said p) in
+      (λ s p h. let r = addReply (s .buffer) (s .position) (s .index) (said p) in
       subst (λ (c : Step OpenPage Filed). Untouched (c .state)) (sym (step-is s p refl))
-      (put-untouched r s p (λ e. omega (arith, reply-space (length (s .buffer)) (s .position) (freeBeside (s .index)) (said p) (add-record (s .buffer) (s .position) (freeBeside (s .index)) (said p) e))) h))
+      (put-untouched r s p (λ e. omega (arith, reply-space (length (s .buffer)) (isIndexed (s .index)) (tallyOf (s .position) (s .index)) (said p) (add-record (s .buffer) (s .position) (s .index) (said p) e))) h))
 
 -- ---- the invariant
 -- a record that a page carries
@@ -89,10 +89,11 @@ fields-sound (p ∷ ps) h = (fit-sound p (h .0), fields-sound ps (h .1))
 pub record Invariant (len : ℕ) (indexed : Bool) (s : OpenPage) (m : Model) : Type 0 where
   pub fields : take (s .position) (s .buffer) ≡ fieldsOf (m .list)
   pub ends : s .position ≡ length (fieldsOf (m .list))
-  pub same : s .position ≡ m .position
+  pub same : s .position ≡ m .tally .position
+  pub used : m .tally .entries ≡ length (m .list)
   pub size : length (s .buffer) ≡ len
   pub fit : All Fit (m .list)
-  pub room : 0 < length (m .list) → m .position + 2 ≤ min len pageMost
+  pub room : 0 < length (m .list) → m .tally .position + 2 ≤ min len pageMost
   pub noted : Noted (s .index) (m .list)
   pub kind : isIndexed (s .index) ≡ indexed
 
@@ -120,49 +121,47 @@ module _ (len : ℕ) (indexed : Bool) (s : OpenPage) (m : Model) (h : Invariant 
       both (leb (s .position) (length (s .buffer))) (startsLine (s .buffer) (s .position)) (le-leb (s .position) (length (s .buffer)) (omega (arith, within, h .size))) starts
 
   -- an entry is free in the run where one is in the model
-  free-is : freeBeside (s .index) ≡ isFree indexed (length (m .list))
-  free-is = noted-free (s .index) (m .list) (h .noted) ∙ ap (λ (i : Bool). isFree i (length (m .list))) (h .kind)
+  free-is : freeBeside (s .index) ≡ isFree indexed (m .tally .entries)
+  free-is = noted-free (s .index) (m .list) (h .noted) ∙ (λ i. isFree (h .kind i) (sym (h .used) i))
 
   module _ (p : Party) where
     abbrev text : List ℕ
     text = withLf (writtenField (said p))
 
-    abbrev free : Bool
-    free = isFree indexed (length (m .list))
-
     -- an add keeps it, and answers what the model does
     abbrev Kept : Step OpenPage Filed → Step Model Filed → Type 0
     Kept a b = Invariant len indexed (a .state) (b .state) × (a .answer ≡ b .answer)
 
-    by-reply : (r : Reply) → recordReply len (m .position) free (said p) ≡ r → Kept (stepBy r s p) (modelBy r m p)
+    by-reply : (r : Reply) → recordReply len indexed (m .tally) (said p) ≡ r → Kept (stepBy r s p) (modelBy r m p)
     by-reply (refused k n) e = (h, refl)
     by-reply accepted e =
-        let space : s .position + length text + 2 ≤ min len pageMost = let k = reply-space len (m .position) free (said p) e in omega (arith, k, h .same) in
+        let space : s .position + length text + 2 ≤ min len pageMost = let k = reply-space len indexed (m .tally) (said p) e in omega (arith, k, h .same) in
         let room : s .position + length text ≤ length (s .buffer) = omega (arith, space, h .size) in
-        let f = reply-fit len (m .position) free (said p) e in
+        let f = reply-fit len indexed (m .tally) (said p) e in
         let q = fields-snoc (m .list) p in (
           record {
             fields = put-take (s .buffer) (s .position) text room ∙ ap (λ (x : List ℕ). x ++ text) (h .fields) ∙ sym q;
             ends = omega (arith, h .ends, ap length q, length-append (fieldsOf (m .list)) text);
             same = omega (arith, h .same);
+            used = omega (arith, h .used, length-append (m .list) (p ∷ []));
             size = put-length (s .buffer) (s .position) text room ∙ h .size;
             fit = fit-snoc (m .list) p (h .fit) (record { given = f .0; carried = f .1 });
             room = λ n. omega (arith, space, h .same);
             noted = subst (λ (k : ℕ). Noted (noting accepted (entryFor k (said p)) (s .index)) (m .list ++ p ∷ [])) (sym (h .ends))
-                (noted-more (s .index) (m .list) p (h .noted) (free-is ∙ reply-free len (m .position) free (said p) e));
+                (noted-more (s .index) (m .list) p (h .noted) (free-is ∙ reply-free len indexed (m .tally) (said p) e));
             kind = noting-kind accepted (entryFor (s .position) (said p)) (s .index) ∙ h .kind;
           },
           ap (λ (k : ℕ). positionAfter (k + length text)) (h .same),
         )
 
-    reply-is : addReply (s .buffer) (s .position) (freeBeside (s .index)) (said p) ≡ recordReply len (m .position) free (said p)
-    unfolding addReply
+    reply-is : addReply (s .buffer) (s .position) (s .index) (said p) ≡ recordReply len indexed (m .tally) (said p)
+    unfolding addReply recordReply
     reply-is =
-        ap (λ (t : Bool). must t 21 0 then recordReply (length (s .buffer)) (s .position) (freeBeside (s .index)) (said p)) ready
-        ∙ (λ i. recordReply (h .size i) (h .same i) (free-is i) (said p))
+        ap (λ (t : Bool). must t 21 0 then recordReply (length (s .buffer)) (isIndexed (s .index)) (tallyOf (s .position) (s .index)) (said p)) ready
+        ∙ (λ i. asked (said p) then must (recordSpace (h .size i) (h .same i) (said p)) 24 0 then must (free-is i) 31 0)
 
     add-keeps : Kept (addStep s p) (modelStep len indexed m p)
-    add-keeps = subst (λ (a : Step OpenPage Filed). Kept a (modelStep len indexed m p)) (sym (step-is s p reply-is)) (by-reply (recordReply len (m .position) free (said p)) refl)
+    add-keeps = subst (λ (a : Step OpenPage Filed). Kept a (modelStep len indexed m p)) (sym (step-is s p reply-is)) (by-reply (recordReply len indexed (m .tally) (said p)) refl)
 
 -- it holds after a run, and the run answers what the model does
 pub ran : (len : ℕ) (indexed : Bool) (s : OpenPage) (m : Model) → Invariant len indexed s m → (ps : List Party) → let a = run addStep s ps in let b = run (modelStep len indexed) m ps in
@@ -175,7 +174,7 @@ ran len indexed s m h ps =
 pub listed : (len : ℕ) (indexed : Bool) (ps : List Party) (m : Model) → let r = run (modelStep len indexed) m ps in r .state .list ≡ m .list ++ acceptedOf ps (map isAccepted (r .answers))
 unfolding run acceptedOf
 listed len indexed [] m = sym (append-nil (m .list))
-listed len indexed (p ∷ ps) m = go (recordReply len (m .position) (isFree indexed (length (m .list))) (said p)) (listed len indexed ps)
+listed len indexed (p ∷ ps) m = go (recordReply len indexed (m .tally) (said p)) (listed len indexed ps)
   where
     go : (r : Reply) → ((m : Model) → let a = run (modelStep len indexed) m ps in a .state .list ≡ m .list ++ acceptedOf ps (map isAccepted (a .answers)))
         → let c = modelBy r m p in let a = run (modelStep len indexed) (c .state) ps in a .state .list ≡ m .list ++ acceptedOf (p ∷ ps) (isAccepted (c .answer) ∷ map isAccepted (a .answers))

@@ -14,7 +14,7 @@ use Rattle.writer.proofs.Relined.{All, pieces-joined}
 use Rattle.writer.proofs.Weights.{joined-onto}
 use Rattle.page_reader.specs.Pages.{lineAt, isBoundary, runs}
 use Rattle.page_reader.proofs.Runs.{first-line, line-all, no-lf, line-at, lf-at, followed, followed-is, runs-stop, runs-on}
-use Rattle.page_writer.specs.Adding.{anyBoundary}
+use Rattle.page_writer.specs.Adding.{anyLine, anyBoundary}
 use lib.Seq.{take-at}
 
 -- ---- any text is its pieces joined, and they are lines
@@ -79,7 +79,7 @@ upToBoundary [] = []
 upToBoundary (m ∷ ms) = elim (isBoundary true m) [ true ↦ [] | false ↦ m ∷ upToBoundary ms ]
 
 pub none-cut : (ls : List (List ℕ)) → anyBoundary ls ≡ false → upToBoundary ls ≡ ls
-unfolding anyBoundary
+unfolding anyLine
 none-cut [] e = refl
 none-cut (m ∷ ms) e = rw (either-left (isBoundary true m) (anyBoundary ms) e, upToBoundary) (ap (_∷_ m) (none-cut ms (either-right (isBoundary true m) (anyBoundary ms) e)))
 

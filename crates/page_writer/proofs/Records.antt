@@ -4,7 +4,7 @@ use mathlib.Core.Bool.{Bool, true, false, not, _&&_, _||_, or-false}
 use mathlib.Core.List.{List, [], _∷_, _++_, append-assoc}
 use Prim.Native.Nat.{ℕ}
 use native.Mathlib.Omega.{arith}
-use lib.ListN.{length}
+use lib.ListN.{length, drop}
 use borrow.Author.Tests.{not-true}
 use Rattle.errors.specs.Refusals.{Reply, accepted, refused}
 use Rattle.party.specs.declared.PartyOption.{PartyOption}
@@ -14,17 +14,17 @@ use Rattle.party.specs.Limits.{options}
 use Rattle.party.proofs.Options.{by-option}
 use Rattle.field_utils.specs.Lines.{starts, withoutCr}
 use Rattle.field_utils.specs.Tags.{tagOf}
-use Rattle.field_utils.proofs.Tests.{both-left, both-right, either-left, either-right, Line}
+use Rattle.field_utils.proofs.Tests.{both-left, both-right, neither, either-left, either-right, Line}
 use Rattle.writer.specs.Writing.{joined, writtenBody, writtenField, pieces}
 use Rattle.writer.specs.Given.{Given}
 use Rattle.writer.specs.ReadBack.{endsCr, lastEmpty, earlierCr, isReadBack}
 use Rattle.writer.proofs.Relined.{cr-kept, cr-front, ends-after}
 use Rattle.writer.proofs.Theorems.{reading-back}
-use Rattle.page_reader.specs.Pages.{opens, begins, Tagged, tagged, tagIn, ReadOutcome, aRecord, aRefusal, PageRead, outcomeOf, readTagged, readField}
+use Rattle.page_reader.specs.Pages.{opens, endsPage, isBoundary, begins, Tagged, tagged, tagIn, ReadOutcome, aRecord, aRefusal, PageRead, outcomeOf, readTagged, readField}
 use Rattle.page_reader.proofs.Cases.{field-next}
 use Rattle.page_reader.specs.Index.{aField, taggedAs}
-use Rattle.page_writer.specs.Adding.{anyCr, anyBoundary, laterBoundary, isCarried, entryFor}
-use Rattle.page_writer.specs.WholePage.{kept, new, readNew, Gives}
+use Rattle.page_writer.specs.Adding.{anyLine, anyCr, anyBoundary, laterBoundary, isCarried, entryFor}
+use Rattle.page_writer.specs.WholePage.{kept, new, readNew, Gives, MayOverwrite}
 use Rattle.page_writer.proofs.Pieces.{pieces-of}
 use Rattle.page_writer.proofs.Structure.{Lined, Sound}
 
@@ -85,14 +85,25 @@ unfolding endsCr
 new-gives bytes next =
     subst (λ (x : List ℕ). Gives (readField x next) (new bytes)) (sym (cr-front (58 ∷ []) bytes refl)) (ap (readNew bytes) (sym (field-next (58 ∷ withoutCr bytes) next)))
 
-pub new-sound : (bytes : List ℕ) → laterBoundary (pieces bytes) ≡ false → Sound (new bytes)
+-- lines of which none starts with a colon and none would be an end line
+neither-any : (ls : List (List ℕ)) → anyLine opens ls ≡ false → anyLine (endsPage true) ls ≡ false → anyBoundary ls ≡ false
+unfolding anyLine
+neither-any [] o e = refl
+neither-any (l ∷ ls) o e =
+    neither (isBoundary true l) (anyBoundary ls)
+    (neither (opens l) (endsPage true l) (either-left (opens l) (anyLine opens ls) o) (either-left (endsPage true l) (anyLine (endsPage true) ls) e))
+    (neither-any ls (either-right (opens l) (anyLine opens ls) o) (either-right (endsPage true l) (anyLine (endsPage true) ls) e))
+
+pub new-sound : (bytes : List ℕ) → MayOverwrite bytes → Sound (new bytes)
 unfolding front-lined
-new-sound bytes e = record { lined = new-lined bytes; bounded = later-none bytes e; gives = new-gives bytes }
+new-sound bytes m =
+    let none : (is : List ℕ → Bool) → anyLine is (drop 1 (pieces bytes)) ≡ false → anyLine is (pieces-of bytes .later) ≡ false = λ is e. ap (λ (ls : List (List ℕ)). anyLine is (drop 1 ls)) (sym (pieces-of bytes .are)) ∙ e in
+    record { lined = new-lined bytes; bounded = neither-any (pieces-of bytes .later) (none opens (m .opening)) (none (endsPage true) (m .ending)); gives = new-gives bytes }
 
 -- ---- fields of records that a page carries
 -- a line ends in CR: an earlier one, or the last, which is the text's end
 any-cr : (l : List ℕ) (ls : List (List ℕ)) → anyCr (l ∷ ls) ≡ (earlierCr (l ∷ ls) || endsCr (joined (l ∷ ls)))
-unfolding anyCr earlierCr joined
+unfolding anyLine earlierCr joined
 any-cr l [] = or-false (endsCr l)
 any-cr l (m ∷ ls) = rw (ends-after l (joined (m ∷ ls)), any-cr m ls) (or-assoc (endsCr l))
   where

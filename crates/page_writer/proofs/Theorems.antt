@@ -19,11 +19,11 @@ use Rattle.writer.proofs.Theorems.{given-exact, necessary, written-most, writte
 use Rattle.writer.proofs.Puts.{put-length, put-take, put-drop}
 use Rattle.page_reader.specs.Pages.{pageMost, theEnd, aRefusal}
 use Rattle.page_writer.specs.Beside.{Beside, noIndex, anIndex, isIndexed}
-use Rattle.page_writer.specs.Adding.{isCarried, hasSpace, withLf, endLine, Filed, positionAfter, refusal, Call, putting, recordSpace, asked, recordReply, freeBeside}
+use Rattle.page_writer.specs.Adding.{isCarried, hasSpace, withLf, endLine, Filed, positionAfter, refusal, Call, putting, recordSpace, asked, recordReply, tallyOf, freeBeside}
 use Rattle.page_writer.specs.Fold.{Run, run, acceptedOf}
-use Rattle.page_writer.specs.WholePage.{OpenPage, addStep, isAccepted, Model, Field, kept, new, pageOf, ReadsAs, Alone, Overwrites}
+use Rattle.page_writer.specs.WholePage.{OpenPage, addStep, closingOf, closedPage, isAccepted, Model, Field, kept, new, pageOf, ReadsAs, Alone, Overwrites}
 use Rattle.page_writer.specs.Indexed.{IsEmpty, IndexedBeside}
-use Rattle.page_writer.specs.Demand3.{adds, model, acceptedAdds, closing, page, identifiedIn, OpenReads, ClosedPage, WholePage}
+use Rattle.page_writer.specs.Demand3.{adds, model, acceptedAdds, closing, identifiedIn, OpenReads, ClosedPage, ListedPage, WholePage}
 use Rattle.page_writer.specs.Delivered.{DeliveredPage}
 use Rattle.page_writer.proofs.Structure.{Sound, page-tail, nothing, ending, reads}
 use Rattle.page_writer.proofs.Records.{new-sound}
@@ -89,7 +89,7 @@ module _ (b : Beside) (empty : IsEmpty b) (ps : List Party) (buffer : List ℕ) 
 
   both-run : Invariant len (isIndexed b) s m × (adds b ps buffer .answers ≡ model b ps len .answers)
   unfolding pageOf
-  both-run = ran len (isIndexed b) _ _ (record { fields = refl; ends = refl; same = refl; size = refl; fit = tt; room = λ n. absurd (omega arith); noted = start-noted b empty; kind = refl }) ps
+  both-run = ran len (isIndexed b) _ _ (record { fields = refl; ends = refl; same = refl; used = refl; size = refl; fit = tt; room = λ n. absurd (omega arith); noted = start-noted b empty; kind = refl }) ps
 
   abbrev holds : Invariant len (isIndexed b) s m
   holds = both-run .0
@@ -127,12 +127,14 @@ module _ (b : Beside) (empty : IsEmpty b) (ps : List Party) (buffer : List ℕ) 
   beside = subst (Noted (s .index)) (sym list-is) (holds .noted)
 
   -- an open page, at any point of a run: the fields of the accepted adds, and 17 after them
-  pub open-page : OpenReads s list
+  pub open-page : OpenReads s list buffer
   open-page = record {
     bytes = prefix;
     reads = subst (λ (x : List ℕ). ReadsAs x 0 (map kept list) (aRefusal 17 0)) (sym prefix)
         (reads nothing refl (map kept list) open-most (fields-sound list all-fit));
     indexed = subst (λ (x : List ℕ). IndexedBeside (s .index) x list) (sym prefix) (indexed-beside nothing list all-fit open-most (s .index) beside);
+    after = untouched;
+    size = holds .size;
   }
 
   -- ---- the closing, by whether there is space
@@ -166,16 +168,16 @@ module _ (b : Beside) (empty : IsEmpty b) (ps : List Party) (buffer : List ℕ) 
       let d = closed-by a in
       omega (arith, d .space, ap length (d .bytes), put-length (s .buffer) (s .position) endLine (omega (arith, d .space, d .position)))
 
-  closed-page : {to : ℕ} → closing b ps buffer .answer ≡ positionAfter to → ClosedPage b ps buffer to
+  closed-page : {to : ℕ} → closing b ps buffer .answer ≡ positionAfter to → ClosedPage s list buffer to
   closed-page {to} a =
       let d = closed-by a in
       let bytes = closing b ps buffer .buffer in
       let k : s .position + length endLine ≤ length (s .buffer) = omega (arith, d .space, d .position) in
-      let q : page b ps buffer to ≡ pageOf (map kept list) endLine =
+      let q : closedPage s to ≡ pageOf (map kept list) endLine =
       ap (λ (n : ℕ). take n bytes) (d .position) ∙ ap (take (s .position + length endLine)) (d .bytes) ∙ put-take (s .buffer) (s .position) endLine k
       ∙ ap (λ (x : List ℕ). x ++ endLine) prefix ∙ sym (page-tail (map kept list) endLine) in
       let n : length (pageOf (map kept list) endLine) ≡ to = omega (arith, ap length (page-tail (map kept list) endLine), length-append (fieldsOf list) endLine, ends-at, d .position) in
-      let w : length (page b ps buffer to) ≡ to = ap length q ∙ n in
+      let w : length (closedPage s to) ≡ to = ap length q ∙ n in
       let within : length (pageOf (map kept list) endLine) ≤ pageMost = omega (arith, n, d .space) in
       record {
         reads = subst (λ (x : List ℕ). ReadsAs x 0 (map kept list) theEnd) (sym q) (reads (ending []) refl (map kept list) within (fields-sound list all-fit));
@@ -207,6 +209,16 @@ module _ (b : Beside) (empty : IsEmpty b) (ps : List Party) (buffer : List ℕ) 
           let u : s .buffer ≡ buffer = ap (λ (n : ℕ). drop n (s .buffer)) (sym z) ∙ untouched ∙ ap (λ (n : ℕ). drop n buffer) z in
           (closing-is false e ∙ ap {B = Call} (λ (x : List ℕ). record { answer = refusal 24 0; buffer = x }) u, short (leb 2 len) refl e, q)
 
+  -- the page that the adds left has the records of those that were accepted
+  listed-page : ListedPage s list buffer
+  listed-page = record {
+    opened = open-page;
+    closed = closed-page;
+    overwritten = λ fs o n. reads (ending []) refl fs n (overwritten-sound list all-fit fs o);
+    unclosed = unclosed-page;
+    closes = λ n. ap (λ (c : Call). c .answer) (closing-is true (space-two n));
+  }
+
 -- ---- a record that a reader can give, with space for it, in its turn
 module _ (b : Beside) (empty : IsEmpty b) (before : List Party) (p : Party) (buffer : List ℕ) where
   abbrev at : OpenPage
@@ -222,7 +234,7 @@ module _ (b : Beside) (empty : IsEmpty b) (before : List Party) (p : Party) (buf
     where
       answer : {t : Bool} → isCarried (said p) ≡ t → addStep at p .answer ≡ putting (must t 23 0 then accepted) (at .buffer) (at .position) (withLf (writtenField (said p))) .answer
       answer {t} e =
-          let r : recordReply (length (at .buffer)) (at .position) (freeBeside (at .index)) (said p) ≡ (must t 23 0 then accepted) = rw (necessary p g, e, space, free) in
+          let r : recordReply (length (at .buffer)) (isIndexed (at .index)) (tallyOf (at .position) (at .index)) (said p) ≡ (must t 23 0 then accepted) = rw (necessary p g, e, space, free) in
           ap (λ (c : Call). c .answer) (add-is (at .buffer) (at .position) (at .index) (said p) (ready (length buffer) (isIndexed b) at _ (holds b empty before buffer)) r)
 
       go : (t : Bool) → isCarried (said p) ≡ t → Exactly (addStep at p .answer)
@@ -244,14 +256,10 @@ delivered-page b empty ps buffer e d m = delivered (acceptedAdds b ps buffer) (a
 -- demand 3: for every list of adds, every buffer, and no index or any empty one
 pub whole-page : (b : Beside) → IsEmpty b → (ps : List Party) (buffer : List ℕ) → WholePage b ps buffer
 whole-page b empty ps buffer = record {
-  opened = open-page b empty ps buffer;
-  closed = closed-page b empty ps buffer;
+  listed = listed-page b empty ps buffer;
   in-turn = λ before p later e. turn-in b before p later buffer e;
   exactly = λ before p later e. exact b empty before p buffer;
-  overwritten = λ fs o n. reads (ending []) refl fs n (overwritten-sound (acceptedAdds b ps buffer) (all-fit b empty ps buffer) fs o);
   answers = both-run b empty ps buffer .1;
   position = holds b empty ps buffer .same;
   list = list-is b empty ps buffer;
-  unclosed = unclosed-page b empty ps buffer;
-  closes = λ n. ap (λ (c : Call). c .answer) (closing-is b empty ps buffer true (space-two b empty ps buffer n));
 }

@@ -1,5 +1,5 @@
 -- Adding to a page and closing it (document 01, 'Pages (added)' and 'From the state'; an index beside it, document 02, Three).
-use Prim.Native.Nat.{ℕ, _+_, min}
+use Prim.Native.Nat.{ℕ, suc, _+_, min}
 use mathlib.Core.Bool.{Bool, true, false, not, _&&_, _||_}
 use mathlib.Core.List.{List, [], _∷_, _++_}
 use lib.Dec.{leb}
@@ -11,21 +11,24 @@ use Rattle.swift_utils.specs.Bytes.{bytes}
 use Rattle.writer.specs.Writing.{writtenBody, writtenField, pieces, put}
 use Rattle.writer.specs.Given.{isGiven}
 use Rattle.writer.specs.ReadBack.{endsCr, lastEmpty}
-use Rattle.page_reader.specs.Pages.{pageMost, opens, endsPage, startsLine}
+use Rattle.page_reader.specs.Pages.{pageMost, isBoundary, startsLine}
 use Rattle.page_reader.specs.Index.{Entry}
 use Rattle.page_writer.specs.Beside.{Beside, isIndexed, entriesBeside, isFree, noting}
 use Rattle.page_writer.specs.declared.Filed.{Filed as FiledAt}
 use Rattle.page_writer.specs.declared.Filed.the-variants.{Position, Refused}
 
--- a line, any of them, ends in CR
-unfoldable pub anyCr : List (List ℕ) → Bool
-anyCr [] = false
-anyCr (l ∷ ls) = endsCr l || anyCr ls
+-- a line, any of them, is such
+unfoldable pub anyLine : (List ℕ → Bool) → List (List ℕ) → Bool
+anyLine is [] = false
+anyLine is (l ∷ ls) = is l || anyLine is ls
+
+-- a line ends in CR
+abbrev pub anyCr : List (List ℕ) → Bool
+anyCr ls = anyLine endsCr ls
 
 -- a line starts with `:` or is an end line, each closed by an LF
-unfoldable pub anyBoundary : List (List ℕ) → Bool
-anyBoundary [] = false
-anyBoundary (l ∷ ls) = opens l || endsPage true l || anyBoundary ls
+abbrev pub anyBoundary : List (List ℕ) → Bool
+anyBoundary ls = anyLine (isBoundary true) ls
 
 -- a line after the first does
 unfoldable pub laterBoundary : List (List ℕ) → Bool
@@ -79,22 +82,35 @@ recordSpace len at s = hasSpace len (at + length (withLf (writtenField s)) + 2)
 unfoldable pub asked : Said → Reply
 asked s = must (isGiven s) 22 0 then must (isCarried s) 23 0
 
--- a refusal that applies to a record at a position, from the buffer's length and whether an entry is free, and nothing else: 22, 23, 24, 31
--- (document 02, Three)
-unfoldable pub recordReply : ℕ → ℕ → Bool → Said → Reply
-recordReply len at free s = asked s then must (recordSpace len at s) 24 0 then must free 31 0
+-- how much of a page is used: its position and, where an index is kept, how many of its entries
+pub record Tally : Type 0 where
+  pub position : ℕ
+  pub entries : ℕ
 
--- a refusal that applies to an add: 21 before these
-unfoldable pub addReply : List ℕ → ℕ → Bool → Said → Reply
-addReply buffer at free s = must (writable buffer at) 21 0 then recordReply (length buffer) at free s
+-- with one record more: its written field and LF, and its entry
+abbrev pub tallied : Tally → Said → Tally
+tallied t s = record { position = t .position + length (withLf (writtenField s)); entries = suc (t .entries) }
+
+-- a refusal that applies to a record at a tally, from the buffer's length and whether an index is kept, and nothing else: 22, 23, 24, 31
+-- (document 02, Three)
+unfoldable pub recordReply : ℕ → Bool → Tally → Said → Reply
+recordReply len indexed t s = asked s then must (recordSpace len (t .position) s) 24 0 then must (isFree indexed (t .entries)) 31 0
+
+-- the tally of a page at a position, by what stands beside it
+abbrev pub tallyOf : ℕ → Beside → Tally
+tallyOf at b = record { position = at; entries = length (entriesBeside b) }
 
 -- an entry is free beside a page
 abbrev pub freeBeside : Beside → Bool
 freeBeside b = isFree (isIndexed b) (length (entriesBeside b))
 
+-- a refusal that applies to an add: 21 before these
+unfoldable pub addReply : List ℕ → ℕ → Beside → Said → Reply
+addReply buffer at b s = must (writable buffer at) 21 0 then recordReply (length buffer) (isIndexed b) (tallyOf at b) s
+
 -- adding, with an index or without: 21, 22, 23, 24, 31; writes tag, body and LF
 unfoldable pub add : List ℕ → ℕ → Beside → Said → Call
-add buffer at b s = putting (addReply buffer at (freeBeside b) s) buffer at (withLf (writtenField s))
+add buffer at b s = putting (addReply buffer at b s) buffer at (withLf (writtenField s))
 
 -- the entry of a record that is added at a position
 abbrev pub entryFor : ℕ → Said → Entry
@@ -102,7 +118,7 @@ entryFor at s = record { tag = placeOf (s .option); position = at; len = length 
 
 -- the index after it: the record's entry is noted
 unfoldable pub addIndex : List ℕ → ℕ → Beside → Said → Beside
-addIndex buffer at b s = noting (addReply buffer at (freeBeside b) s) (entryFor at s) b
+addIndex buffer at b s = noting (addReply buffer at b s) (entryFor at s) b
 
 -- closing: 21, 24; writes `-` and LF
 unfoldable pub close : List ℕ → ℕ → Call

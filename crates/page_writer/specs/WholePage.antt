@@ -1,16 +1,16 @@
 -- A whole page: the run of a list of adds, the model beside it, and reading it (document 01, 'A whole page (demand 3)').
-use Prim.Native.Nat.{ℕ, _+_}
+use Prim.Native.Nat.{ℕ}
 use mathlib.Core.Path.{_≡_}
 use mathlib.Core.Bool.{Bool, true, false}
 use mathlib.Core.List.{List, [], _∷_, _++_}
-use lib.ListN.{length}
+use lib.ListN.{length, take, drop}
 use Rattle.errors.specs.Refusals.{Reply, accepted, refused}
 use Rattle.party.specs.declared.Party.{Party}
 use Rattle.party.specs.Party.{said, Same}
 use Rattle.writer.specs.Writing.{writtenField, pieces}
-use Rattle.page_reader.specs.Pages.{lessCr, ReadOutcome, aRecord, theEnd, PageRead, bodiless, readField, readAt}
-use Rattle.page_writer.specs.Beside.{Beside, isFree}
-use Rattle.page_writer.specs.Adding.{laterBoundary, withLf, endLine, Filed, positionAfter, refusal, recordReply, add, addIndex}
+use Rattle.page_reader.specs.Pages.{opens, lessCr, endsPage, ReadOutcome, aRecord, theEnd, PageRead, bodiless, readField, readAt}
+use Rattle.page_writer.specs.Beside.{Beside}
+use Rattle.page_writer.specs.Adding.{anyLine, withLf, endLine, Filed, positionAfter, refusal, Call, Tally, tallied, recordReply, add, addIndex, close}
 use Rattle.page_writer.specs.Fold.{Step}
 
 -- the state of a run: the buffer as the last call left it, the last position that a call gave, and the index, if one is kept, as the last
@@ -32,26 +32,34 @@ addStep s p =
     let b = addIndex (s .buffer) (s .position) (s .index) (said p) in
     record { state = record { buffer = c .buffer; position = lastGiven (c .answer) (s .position); index = b }; answer = c .answer }
 
+-- the closing of an open page, in its buffer and at its position
+abbrev pub closingOf : OpenPage → Call
+closingOf s = close (s .buffer) (s .position)
+
+-- the closed page: the bytes before the position that closing gave
+abbrev pub closedPage : OpenPage → ℕ → List ℕ
+closedPage s to = take to (closingOf s .buffer)
+
 -- whether an add was accepted
 abbrev pub isAccepted : Filed → Bool
 isAccepted (positionAfter n) = true
 isAccepted (refusal k n) = false
 
--- beside the run: a position and a list
+-- beside the run: a list, and a position, with the entries that are used
 pub record Model : Type 0 where
   pub list : List Party
-  pub position : ℕ
+  pub tally : Tally
 
 -- a refusal moves neither; any other add puts its record last in the list, and answers the position past its written field and LF
 abbrev pub modelBy : Reply → Model → Party → Step Model Filed
 modelBy accepted m p =
-    let to = m .position + length (withLf (writtenField (said p))) in
-    record { state = record { list = m .list ++ p ∷ []; position = to }; answer = positionAfter to }
+    let t = tallied (m .tally) (said p) in
+    record { state = record { list = m .list ++ p ∷ []; tally = t }; answer = positionAfter (t .position) }
 modelBy (refused k n) m p = record { state = m; answer = refusal k n }
 
 -- from the records, the buffer's length and whether an index is kept alone
 abbrev pub modelStep : ℕ → Bool → Model → Party → Step Model Filed
-modelStep len indexed m p = modelBy (recordReply len (m .position) (isFree indexed (length (m .list))) (said p)) m p
+modelStep len indexed m p = modelBy (recordReply len indexed (m .tally) (said p)) m p
 
 -- a field of a page: a record's, as it was added, or new bytes between the opening colon and the closing LF
 pub data Field : Type 0 where
@@ -86,10 +94,15 @@ ReadsAs page at (f ∷ fs) last = Gives (readAt page at) f × ReadsAs page (read
 abbrev pub Alone : Party → Type 0
 Alone p = ReadsAs (pageOf (kept p ∷ []) endLine) 0 (kept p ∷ []) theEnd
 
--- the fields of a list in their order, each kept, or new bytes of which no line after the first starts with a colon or would be an end line
+-- new bytes that a field may be overwritten with: of their lines after the first none starts with a colon, and none would be an end line
+pub record MayOverwrite (bytes : List ℕ) : Type 0 where
+  pub opening : anyLine opens (drop 1 (pieces bytes)) ≡ false
+  pub ending : anyLine (endsPage true) (drop 1 (pieces bytes)) ≡ false
+
+-- the fields of a list in their order, each kept or overwritten
 unfoldable pub Overwrites : List Party → List Field → Type 0
 Overwrites [] [] = Unit {0}
 Overwrites [] (f ∷ fs) = ⊥
 Overwrites (p ∷ ps) [] = ⊥
 Overwrites (p ∷ ps) (kept q ∷ fs) = (q ≡ p) × Overwrites ps fs
-Overwrites (p ∷ ps) (new bytes ∷ fs) = (laterBoundary (pieces bytes) ≡ false) × Overwrites ps fs
+Overwrites (p ∷ ps) (new bytes ∷ fs) = MayOverwrite bytes × Overwrites ps fs

@@ -5,7 +5,7 @@ ghost use mathlib.Core.List.{[], _∷_};
 ghost use lib.ListN.{take};
 ghost use Rattle.party.specs.Limits.{limitsOf, placeOf, optionAt};
 ghost use Rattle.party.specs.Text.{textOf, used, partIn};
-ghost use Rattle.party.specs.Party.{IsParty, blank as blankParty, where-limit, namesOf, where-numbered, Same};
+ghost use Rattle.party.specs.Party.{blank as blankParty, where-limit, namesOf, where-numbered, Same};
 ghost use Rattle.party.specs.Decides.{Decides};
 
 // The eleven options, under the names of the Rust's structs.
@@ -366,11 +366,6 @@ pub fn limits_of(option: PartyOption) -> Limits
         PartyOption::Field59F => table[10],
     }
 }
-
-// What every record has, whatever its bytes say: each text has its 38 bytes, and there are four names and four digits.
-pub fn sized(p: Party)
-    ensures { λ r. ⌜ IsParty p ⌝ }
-{}
 
 // The text of the first 38 bytes of a slice, with the bytes after it zero.
 pub fn text_of(s: &[u8]) -> Text

@@ -19,7 +19,7 @@ use Rattle.field_utils.specs.Lines.{starts, isEmpty}
 use Rattle.field_utils.specs.Trim.{trimmed}
 use Rattle.field_utils.proofs.Tests.{both-left, both-right}
 use Rattle.reader.specs.Reading.{Reading, giving}
-use Rattle.choices.specs.Choices.{refusing}
+use Rattle.reader.specs.Choices.{refusing}
 use Rattle.profile.specs.Profile.{isSame, holdsBic, isNarrow, isCapital, isOpening, isInside, linesReply, profileReply, profiled}
 
 -- ---- two lists compared byte by byte

@@ -13,8 +13,8 @@ use Rattle.field_utils.specs.Lines.{starts, isEmpty, lines}
 use Rattle.field_utils.specs.Trim.{trimmed}
 use Rattle.reader.specs.Reading.{Reading, giving}
 use Rattle.reader.specs.Options.{read}
-use Rattle.choices.specs.declared.Choice.{Choice}
-use Rattle.choices.specs.Choices.{parse, parseWithVariant}
+use Rattle.reader.specs.declared.choices.Choice.{Choice}
+use Rattle.reader.specs.Choices.{parse, parseWithVariant}
 
 -- two lists have the same bytes
 unfoldable pub isSame : List ℕ → List ℕ → Bool

@@ -1,5 +1,4 @@
 // The network profile (document 02, Five): a body is read by an option or a choice as ever, then tested line by line as it came.
-use choices::Choice;
 use errors::Outcome;
 use errors::ParseError;
 use field_utils::lines::Line;
@@ -11,6 +10,7 @@ use party::TEXT_MOST;
 use party::Text;
 use party::limits_of;
 use reader::Answer;
+use reader::choices::Choice;
 use reader::refuse;
 use swift_utils::NARROW;
 use swift_utils::SMALL;
@@ -157,12 +157,15 @@ pub fn read(option: PartyOption, body: &[u8]) -> Answer
 pub fn parse(choice: Choice, body: &[u8]) -> Answer
     ensures { λ r. ⌜ toldAnswer r ≡ parseProfiled choice (now (body .entry)) ⌝ }
 {
-    under_profile(choices::parse(choice, body), body)
+    under_profile(reader::choices::parse(choice, body), body)
 }
 
 // A choice by a letter, 0 for none, under the profile.
 pub fn parse_with_variant(choice: Choice, body: &[u8], letter: u8) -> Answer
     ensures { λ r. ⌜ toldAnswer r ≡ parseWithVariantProfiled choice (now (body .entry)) letter ⌝ }
 {
-    under_profile(choices::parse_with_variant(choice, body, letter), body)
+    under_profile(
+        reader::choices::parse_with_variant(choice, body, letter),
+        body,
+    )
 }

@@ -25,7 +25,7 @@ use Rattle.writer.specs.Placing.{lengthIs, refusedWith, measure, place}
 use Rattle.writer.specs.ReadBack.{endsCr, lastEmpty}
 use Rattle.page_reader.specs.Pages.{isEnd, endsPage}
 use Rattle.page_writer.specs.Beside.{noIndex}
-use Rattle.page_writer.specs.Adding.{anyCr, anyBoundary, laterBoundary, isCarried, writable, refusal, asked, recordReply, addReply, add, addIndex}
+use Rattle.page_writer.specs.Adding.{anyLine, laterBoundary, isCarried, writable, refusal, asked, recordReply, addReply, add, addIndex}
 use Rattle.page_writer.specs.Fold.{run}
 use Rattle.page_writer.specs.Demand3.{adds}
 use Rattle.flat.specs.Flat.{flatTexts, flatten, stored, textAt, isFlat, partyFrom, unflatten}
@@ -85,7 +85,7 @@ pub record DigitsRuledOut : Type 0 where
   pub unadded : pageAdd (flatten (with 58)) (replicate 24 0) 0 noIndex .code ≡ 22 * 65536
 
 pub digits-ruled-out : DigitsRuledOut
-unfolding padded textOf said letter digit alphanumeric signs legal parseSwiftChars parseAccount upto onto starts lines isNumbered parsePartyIdentifier parseLine parseLines parseNameAndAddress four partyOf afterHead read nameLines writtenLines joined writtenBody writtenField pieces isLine areNames isGiven measure place endsCr lastEmpty withoutCr isEnd endsPage anyCr anyBoundary laterBoundary isCarried writable asked recordReply addReply add addIndex run flatTexts flatten stored optionAt textAt isFlat partyFrom unflatten tagOf
+unfolding padded textOf said letter digit alphanumeric signs legal parseSwiftChars parseAccount upto onto starts lines isNumbered parsePartyIdentifier parseLine parseLines parseNameAndAddress four partyOf afterHead read nameLines writtenLines joined writtenBody writtenField pieces isLine areNames isGiven measure place endsCr lastEmpty withoutCr isEnd endsPage anyLine laterBoundary isCarried writable asked recordReply addReply add addIndex run flatTexts flatten stored optionAt textAt isFlat partyFrom unflatten tagOf
 digits-ruled-out = record {
   held = refl;
   not-59F = refl;

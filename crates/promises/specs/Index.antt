@@ -19,9 +19,10 @@ use Rattle.page_reader.specs.Pages.{lineAt, isEnd, endsPage, runs, begins, tagI
 use Rattle.page_reader.specs.Reads.{readsFrom}
 use Rattle.page_reader.specs.Index.{entriesIn, entriesOf, fieldAt, fieldsIn, fieldsMet, found, notFound, lookUp, bodyOf}
 use Rattle.page_writer.specs.Beside.{Beside, anIndex, entriesBeside, noted}
-use Rattle.page_writer.specs.Adding.{anyCr, anyBoundary, laterBoundary, isCarried, writable, positionAfter, refusal, asked, recordReply, addReply, add, addIndex}
+use Rattle.page_writer.specs.Adding.{anyLine, laterBoundary, isCarried, writable, Filed, positionAfter, refusal, asked, recordReply, addReply, add, addIndex}
 use Rattle.page_writer.specs.Fold.{run}
 use Rattle.page_writer.specs.Demand3.{adds}
+use Rattle.promises.specs.Pages.{longPage}
 use Rattle.promises.specs.Filing.{of}
 
 -- an empty index, whose other numbers are any
@@ -86,7 +87,7 @@ pub record IndexRuledOut : Type 0 where
   pub body-refused : lookUp (bytes ":50K:~\n-\n") (index 1 (3 ∷ 0 ∷ 6 ∷ [])) 1 ≡ found (record { at = 0; gave = record { outcome = aRefusal 3 1; body = bytes "~"; next = 7 } })
 
 pub index-ruled-out : IndexRuledOut
-unfolding padded textOf said letter digit alphanumeric signs legal parseSwiftChars parseAccount upto onto starts lines parseLine parseLines parseNameAndAddress four partyOf accountHead afterHead read nameLines writtenLines joined writtenBody writtenField pieces isLine areNames isGiven endsCr lastEmpty withoutCr lineAt isEnd endsPage runs begins tagIn readField readCase readAt readsFrom entriesIn entriesOf fieldAt fieldsIn lookUp noted anyCr anyBoundary laterBoundary isCarried writable asked recordReply addReply add addIndex run tagOf
+unfolding padded textOf said letter digit alphanumeric signs legal parseSwiftChars parseAccount upto onto starts lines parseLine parseLines parseNameAndAddress four partyOf accountHead afterHead read nameLines writtenLines joined writtenBody writtenField pieces isLine areNames isGiven endsCr lastEmpty withoutCr lineAt isEnd endsPage runs begins tagIn readField readCase readAt readsFrom entriesIn entriesOf fieldAt fieldsIn lookUp noted anyLine laterBoundary isCarried writable asked recordReply addReply add addIndex run tagOf
 index-ruled-out = record {
   positions = refl;
   fields = refl;
@@ -117,3 +118,40 @@ index-ruled-out = record {
   without-cr = refl;
   body-refused = refl;
 }
+
+-- what an add answers in an empty buffer, beside a full index
+abbrev refusedAt : ℕ → List (List ℕ) → Filed
+refusedAt at names = add [] at full (said (of names)) .answer
+
+-- the order of what applies to an add: 21, 22, 23, 24, 31
+pub record AddOrder : Type 0 where
+  -- each where all later ones apply too
+  pub position-before-given : refusedAt 1 [] ≡ refusal 21 0
+  pub given-before-carried : refusedAt 0 [] ≡ refusal 22 0
+  pub carried-before-space : refusedAt 0 (bytes "A" ∷ [] ∷ []) ≡ refusal 23 0
+  pub space-before-entry : refusedAt 0 (bytes "A" ∷ []) ≡ refusal 24 0
+  -- and where the next one does not: a page would carry a name A⏎B; in 40 bytes there is space
+  pub given-before-space : refusedAt 0 (bytes "A\nB" ∷ []) ≡ refusal 22 0
+  pub carried-before-entry : add (replicate 40 0) 0 full (said (of (bytes "A" ∷ [] ∷ []))) .answer ≡ refusal 23 0
+  pub position-before-entry : add (replicate 40 0) 1 full (said (of (bytes "A" ∷ []))) .answer ≡ refusal 21 0
+
+pub add-order : AddOrder
+unfolding padded textOf said letter digit alphanumeric signs legal parseSwiftChars parseAccount starts onto parseLine parseLines parseNameAndAddress four partyOf nameLines writtenLines joined writtenBody writtenField pieces isLine areNames isGiven endsCr lastEmpty withoutCr isEnd endsPage anyLine laterBoundary isCarried writable asked recordReply addReply add entriesIn entriesOf tagOf
+add-order = record {
+  position-before-given = refl;
+  given-before-carried = refl;
+  carried-before-space = refl;
+  space-before-entry = refl;
+  given-before-space = refl;
+  carried-before-entry = refl;
+  position-before-entry = refl;
+}
+
+-- a lookup in the longest page, and in one of a byte more
+pub record LookMost : Type 0 where
+  pub found-in-32768 : bodyOf (lookUp (longPage 32759) (index 1 (3 ∷ 0 ∷ 6 ∷ [])) 1) ≡ bytes "A"
+  pub too-long-of-32769 : lookUp (longPage 32760) (index 1 (3 ∷ 0 ∷ 6 ∷ [])) 1 ≡ notFound 18 0
+
+pub look-most : LookMost
+unfolding padded textOf letter digit alphanumeric signs legal parseSwiftChars parseAccount upto onto starts lines parseLine parseLines parseNameAndAddress four partyOf accountHead afterHead read withoutCr lineAt isEnd endsPage runs begins tagIn readField readCase readAt entriesIn entriesOf fieldAt lookUp tagOf
+look-most = record { found-in-32768 = refl; too-long-of-32769 = refl }

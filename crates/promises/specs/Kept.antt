@@ -19,15 +19,15 @@ use Rattle.field_utils.specs.Names.{parseLine, parseLines, parseNameAndAddress}
 use Rattle.field_utils.specs.Tags.{tagOf}
 use Rattle.reader.specs.Reading.{partyOf}
 use Rattle.reader.specs.Options.{accountHead, shortAccountHead, afterHead, read}
-use Rattle.choices.specs.declared.Choice.the-variants.{Field50InstructingParty, Field50OrderingCustomerAFK}
-use Rattle.choices.specs.Detection.{anyNumbered, firstLine, lastLine, bicLike, testLine}
-use Rattle.choices.specs.Choices.{triedText, firstThat, parse, pickOf, parseWithVariant, isPicked, readText}
+use Rattle.reader.specs.declared.choices.Choice.the-variants.{Field50InstructingParty, Field50OrderingCustomerAFK}
+use Rattle.reader.specs.Detection.{anyNumbered, firstLine, lastLine, bicLike, testLine}
+use Rattle.reader.specs.Choices.{triedText, firstThat, parse, pickOf, parseWithVariant, isPicked, readText}
 use Rattle.writer.specs.Writing.{nameLines, writtenLines, joined, writtenBody, writtenField, pieces}
 use Rattle.writer.specs.Given.{isLine, areNames, isGiven}
 use Rattle.writer.specs.ReadBack.{endsCr, lastEmpty}
 use Rattle.page_reader.specs.Pages.{lineAt, isEnd, endsPage, runs, begins, tagIn, readField, readCase, readAt, bodyPlace}
 use Rattle.page_reader.specs.Reads.{readsFrom, reads}
-use Rattle.page_writer.specs.Adding.{anyCr, anyBoundary, laterBoundary, isCarried, writable, asked, recordReply, addReply, add, addIndex, close}
+use Rattle.page_writer.specs.Adding.{anyLine, laterBoundary, isCarried, writable, asked, recordReply, addReply, add, addIndex, close}
 use Rattle.page_writer.specs.Fold.{run}
 use Rattle.kept.specs.declared.Causes.{Causes}
 use Rattle.kept.specs.Kept.{hasCrLf, endsLf, causesOf, noCauses, Kept, keptOf, keptRead, keptParse, keptParseWithVariant, isKept}
@@ -120,6 +120,9 @@ pub record KeptRuledOut : Type 0 where
   -- a page's field: takes a CR that no LF follows for one, or leaves the CR of CR LF out
   pub field-takes-any-cr : fieldCauses Field50L true (bytes ":50L:A\r") 0 ≡ noCauses
   pub field-leaves-the-cr : fieldCauses Field50K false (bytes ":50K:A\r\n-\n") 0 ≡ closingCr
+  -- or tells one where no field is, or none with a known tag
+  pub field-tells-of-none : fieldCauses Field50K false (bytes "\r") 0 ≡ noCauses
+  pub field-tells-of-no-tag : fieldCauses Field50K false (bytes "\r\n:5:A\r\n-\n") 2 ≡ noCauses
   -- for C, an option's: reads by the first option where there is none, or tells causes for a refusal
   pub kept-read-takes-11 : keptReadCode 11 (bytes "A") ≡ 41 * 65536
   pub kept-read-hides-6 : keptReadCode 10 (bytes "2/A\n") ≡ 6 * 65536 + 1
@@ -141,7 +144,7 @@ pub record KeptRuledOut : Type 0 where
   pub page-file-tells-of-a-refusal : pageFile (bytes ":50:A\r\n-\n") (replicate 7 0) (replicate 10 7) .answers ≡ (24 * 65536 * 4294967296 + 7) ∷ (65536 + 2) ∷ replicate 8 7
 
 pub kept-ruled-out : KeptRuledOut
-unfolding padded textOf said letter digit alphanumeric signs legal parseSwiftChars parseAccount bicLength parseBic upto onto starts lines white trimmedStart keep trimmedEnd trimmed isNumbered secondSlash identifierReply parsePartyIdentifier parseLine parseLines parseNameAndAddress four partyOf accountHead shortAccountHead afterHead read anyNumbered firstLine lastLine bicLike firstThat pickOf testLine nameLines writtenLines joined writtenBody writtenField pieces isLine areNames isGiven endsCr lastEmpty withoutCr lineAt isEnd endsPage runs begins tagIn readField readCase readAt bodyPlace isCarried writable asked recordReply addReply add addIndex close parse parseWithVariant isPicked anyCr anyBoundary laterBoundary tagOf run readsFrom optionAt hasCrLf endsLf causesOf keptOf
+unfolding padded textOf said letter digit alphanumeric signs legal parseSwiftChars parseAccount bicLength parseBic upto onto starts lines white trimmedStart keep trimmedEnd trimmed isNumbered secondSlash identifierReply parsePartyIdentifier parseLine parseLines parseNameAndAddress four partyOf accountHead shortAccountHead afterHead read anyNumbered firstLine lastLine bicLike firstThat pickOf testLine nameLines writtenLines joined writtenBody writtenField pieces isLine areNames isGiven endsCr lastEmpty withoutCr lineAt isEnd endsPage runs begins tagIn readField readCase readAt bodyPlace isCarried writable asked recordReply addReply add addIndex close parse parseWithVariant isPicked anyLine laterBoundary tagOf run readsFrom optionAt hasCrLf endsLf causesOf keptOf
 kept-ruled-out = record {
   tried-text-trims-all = refl;
   tried-text-trims-the-start = refl;
@@ -157,6 +160,8 @@ kept-ruled-out = record {
   variant-detects = refl;
   field-takes-any-cr = refl;
   field-leaves-the-cr = refl;
+  field-tells-of-none = refl;
+  field-tells-of-no-tag = refl;
   kept-read-takes-11 = refl;
   kept-read-hides-6 = refl;
   kept-parse-counts-from-1 = refl;
@@ -173,6 +178,13 @@ kept-ruled-out = record {
 -- a page whose fields are kept, with a line before its first opening, the end line `-}` and more after it
 abbrev delivered : List ℕ
 delivered = bytes "{4:\n:50K:A\nB\n:50L: C\n-}\nrest\n"
+
+-- pages of a field that is kept, after a line that is stray and after one whose tag is unknown
+abbrev strayFirst : List ℕ
+strayFirst = bytes "X\n:50:A\n-\n"
+
+abbrev unknownFirst : List ℕ
+unknownFirst = bytes ":52A:X\n:50:A\n-\n"
 
 -- `kept-page` speaks of pages that there are, needs space, and does not speak of a page of which a field is not kept
 pub record KeptPages : Type 0 where
@@ -194,9 +206,15 @@ pub record KeptPages : Type 0 where
   pub told-cause : arePlain (answersFrom (bytes ":50:A\r\n-\n") (fileNumbers (bytes ":50:A\r\n-\n") (replicate 22 0) .answers)) ≡ false
   pub told-refusal : arePlain (answersFrom (bytes ":50C:B\n-\n") (fileNumbers (bytes ":50C:B\n-\n") (replicate 22 0) .answers)) ≡ false
   pub told-no-end : arePlain (answersFrom (bytes ":50:A\n") (fileNumbers (bytes ":50:A\n") (replicate 22 0) .answers)) ≡ false
+  -- a stray line before the first opening, 16, is no field; one whose tag is unknown, 15, is, and is not filed
+  pub stray-is-no-field : areKept strayFirst (fromOpening (reads strayFirst)) ≡ true
+  pub stray-is-left-out : partyLines strayFirst ≡ bytes ":50:A\n"
+  pub unknown-is-a-field : areKept unknownFirst (fromOpening (reads unknownFirst)) ≡ false
+  pub told-stray-is-no-field : arePlain (answersFrom strayFirst (fileNumbers strayFirst (replicate 22 0) .answers)) ≡ true
+  pub told-unknown-is-a-field : arePlain (answersFrom unknownFirst (fileNumbers unknownFirst (replicate 22 0) .answers)) ≡ false
 
 pub kept-pages : KeptPages
-unfolding padded textOf said letter digit alphanumeric signs legal parseSwiftChars parseAccount bicLength parseBic upto onto starts lines isNumbered parseLine parseLines parseNameAndAddress four partyOf accountHead afterHead read nameLines writtenLines joined writtenBody writtenField pieces isLine areNames isGiven endsCr lastEmpty withoutCr lineAt isEnd endsPage runs begins tagIn readField readCase readAt bodyPlace isCarried writable asked recordReply addReply add addIndex close anyCr anyBoundary laterBoundary tagOf run readsFrom hasCrLf endsLf causesOf areKept lastAt arePlain
+unfolding padded textOf said letter digit alphanumeric signs legal parseSwiftChars parseAccount bicLength parseBic upto onto starts lines isNumbered parseLine parseLines parseNameAndAddress four partyOf accountHead afterHead read nameLines writtenLines joined writtenBody writtenField pieces isLine areNames isGiven endsCr lastEmpty withoutCr lineAt isEnd endsPage runs begins tagIn readField readCase readAt bodyPlace isCarried writable asked recordReply addReply add addIndex close anyLine laterBoundary tagOf run readsFrom hasCrLf endsLf causesOf areKept lastAt arePlain
 kept-pages = record {
   kept = refl;
   lines = refl;
@@ -212,4 +230,9 @@ kept-pages = record {
   told-cause = refl;
   told-refusal = refl;
   told-no-end = refl;
+  stray-is-no-field = refl;
+  stray-is-left-out = refl;
+  unknown-is-a-field = refl;
+  told-stray-is-no-field = refl;
+  told-unknown-is-a-field = refl;
 }

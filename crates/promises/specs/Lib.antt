@@ -10,4 +10,13 @@ pub mod Digits
 pub mod OperationsLeaves
 pub mod OperationsReaders
 pub mod OperationsBuffers
+pub mod Interface
 pub mod Kept
+pub mod PageWitness
+pub mod ExportedWitness
+pub mod WriterWitness
+pub mod KeptWitness
+pub mod ProfileWitness
+pub mod LeavesWitness
+pub mod FieldsWitness
+pub mod CallsWitness

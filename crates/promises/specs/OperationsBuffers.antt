@@ -22,25 +22,25 @@ use Rattle.field_utils.specs.Names.{parseLine, parseLines, parseNameAndAddress}
 use Rattle.field_utils.specs.Tags.{tagOf}
 use Rattle.reader.specs.Reading.{partyOf}
 use Rattle.reader.specs.Options.{accountHead, shortAccountHead, afterHead, read}
-use Rattle.choices.specs.Detection.{anyNumbered, firstLine, lastLine, bicLike, testLine}
-use Rattle.choices.specs.Choices.{firstThat, parse, pickOf, parseWithVariant}
+use Rattle.reader.specs.Detection.{anyNumbered, firstLine, lastLine, bicLike, testLine}
+use Rattle.reader.specs.Choices.{firstThat, parse, pickOf, parseWithVariant}
 use Rattle.writer.specs.Writing.{nameLines, writtenLines, joined, writtenBody, writtenField, fieldMost, fits, placed, pieces}
 use Rattle.writer.specs.Given.{isLine, areNames, isGiven}
 use Rattle.writer.specs.Placing.{lengthIs, refusedWith, measure, place}
 use Rattle.writer.specs.ReadBack.{endsCr, lastEmpty}
 use Rattle.writer.specs.Longest.{longest}
-use Rattle.page_reader.specs.Pages.{lineAt, opens, isEnd, endsPage, endsAt, runs, begins, tagIn, readField, readCase, readAt, bodyPlace, readBytes}
+use Rattle.page_reader.specs.Pages.{lineAt, opens, isEnd, endsPage, endsAt, runs, begins, tagIn, aRefusal, bodiless, readField, readCase, readAt, bodyPlace, readLent, readBytes}
 use Rattle.page_reader.specs.Reads.{readsFrom}
-use Rattle.page_reader.specs.Index.{entriesIn, entriesOf, fieldAt, lookUp, lookBytes}
+use Rattle.page_reader.specs.Index.{entriesIn, entriesOf, fieldAt, notFound, lookUp, lookLent, lookBytes}
 use Rattle.page_writer.specs.Beside.{noIndex, anIndex, noted}
-use Rattle.page_writer.specs.Adding.{anyCr, anyBoundary, laterBoundary, isCarried, writable, refusal, asked, recordReply, addReply, add, addIndex, close}
+use Rattle.page_writer.specs.Adding.{anyLine, laterBoundary, isCarried, writable, refusal, asked, recordReply, addReply, add, addIndex, close}
 use Rattle.page_writer.specs.Fold.{run}
 use Rattle.kept.specs.Kept.{hasCrLf, endsLf, causesOf}
 use Rattle.flat.specs.Flat.{recordSize, flatTexts, flatten, stored, textAt, isFlat, partyFrom, unflatten}
 use Rattle.yewdome.specs.Interface.{partyRead, partyParse, partyParseWithVariant, partyMeasure, partyPlace, pageRead, pageLookUp, pageBody, pageAdd, pageAddIndex, pageClose, pageAnswers, pageFile}
 use Rattle.promises.specs.Starred.{gives, gives50F}
 use Rattle.promises.specs.Filing.{of}
-use Rattle.promises.specs.OperationsReaders.{lent}
+use Rattle.promises.specs.OperationsReaders.{lent, short}
 
 -- the 50K of one name, A, as bytes
 abbrev flatA : List ℕ
@@ -131,13 +131,17 @@ pub record PagesOperations : Type 0 where
   -- counts the LF that closes the field
   pub body-place-counts-the-lf : bodyPlace (bytes ":50K:A\n-\n") 0 ≡ record { start = 5; len = 1 }
   -- stores the first field's record, wherever it reads
-  pub read-at-into-stays : getD (readBytes (readAt page 7 .outcome) lent) 0 7 ≡ placeOf Field50NoOption
+  pub read-at-into-stays : getD (readBytes (readLent page 7 lent .outcome) lent) 0 7 ≡ placeOf Field50NoOption
   -- stores the blank record at the end
-  pub read-at-into-stores-the-end : readBytes (readAt page 13 .outcome) lent ≡ lent
+  pub read-at-into-stores-the-end : readBytes (readLent page 13 lent .outcome) lent ≡ lent
+  -- tells a record where 240 bytes are lent, and stores none
+  pub read-at-into-takes-240 : readLent page 7 short ≡ bodiless (aRefusal 42 0) 7
   -- counts the fields from 0, and stores the second one's record for the first
-  pub look-up-into-counts-from-0 : getD (lookBytes (lookUp page made 1) lent) 0 7 ≡ placeOf Field50K
+  pub look-up-into-counts-from-0 : getD (lookBytes (lookLent page made 1 lent) lent) 0 7 ≡ placeOf Field50K
   -- trusts an entry of another length, and stores the record that is there
-  pub look-up-into-trusts-an-entry : lookBytes (lookUp page (1 ∷ 3 ∷ 0 ∷ 7 ∷ replicate 765 0) 1) lent ≡ lent
+  pub look-up-into-trusts-an-entry : lookBytes (lookLent page (1 ∷ 3 ∷ 0 ∷ 7 ∷ replicate 765 0) 1 lent) lent ≡ lent
+  -- tests 31 before 42
+  pub look-up-into-tests-31-first : lookLent page made 3 short ≡ notFound 42 0
   -- files a record for bytes that are none
   pub add-record-takes-none : add (replicate 9 0) 0 noIndex (said (unflatten noFlat)) ≡ record { answer = refusal 22 0; buffer = replicate 9 0 }
   -- tests whether the bytes are a record before 21
@@ -150,7 +154,7 @@ pub record PagesOperations : Type 0 where
   pub close-tests-space-first : close (bytes "ab") 1 .answer ≡ refusal 21 0
 
 pub pages-operations : PagesOperations
-unfolding padded textOf said letter digit alphanumeric signs legal parseSwiftChars parseAccount upto onto starts lines withoutCr parseLine parseLines parseNameAndAddress four partyOf accountHead afterHead read nameLines writtenLines joined writtenBody writtenField pieces isLine areNames isGiven endsCr lastEmpty lineAt isEnd endsPage runs begins tagIn readField readCase readAt bodyPlace entriesIn entriesOf fieldAt lookUp anyCr anyBoundary laterBoundary isCarried writable asked recordReply addReply add noted addIndex close tagOf flatTexts flatten stored optionAt textAt isFlat partyFrom unflatten
+unfolding padded textOf said letter digit alphanumeric signs legal parseSwiftChars parseAccount upto onto starts lines withoutCr parseLine parseLines parseNameAndAddress four partyOf accountHead afterHead read nameLines writtenLines joined writtenBody writtenField pieces isLine areNames isGiven endsCr lastEmpty lineAt isEnd endsPage runs begins tagIn readField readCase readAt bodyPlace entriesIn entriesOf fieldAt lookUp anyLine laterBoundary isCarried writable asked recordReply addReply add noted addIndex close tagOf flatTexts flatten stored optionAt textAt isFlat partyFrom unflatten
 pages-operations = record {
   opens-at-takes-any-colon = refl;
   opens-at-takes-the-next-line = refl;
@@ -160,8 +164,10 @@ pages-operations = record {
   body-place-counts-the-lf = refl;
   read-at-into-stays = refl;
   read-at-into-stores-the-end = refl;
+  read-at-into-takes-240 = refl;
   look-up-into-counts-from-0 = refl;
   look-up-into-trusts-an-entry = refl;
+  look-up-into-tests-31-first = refl;
   add-record-takes-none = refl;
   add-record-tests-bytes-first = refl;
   add-indexed-record-notes-none = refl;
@@ -308,7 +314,7 @@ pub record YewdomeOperations : Type 0 where
   pub page-file-tests-late : pageFile (bytes "-\n") (bytes "ab") [] ≡ record { code = 43 * 65536; bytes = bytes "ab"; answers = [] }
 
 pub yewdome-operations : YewdomeOperations
-unfolding padded textOf said letter digit alphanumeric signs legal parseSwiftChars parseAccount bicLength parseBic upto onto starts lines white trimmedStart keep trimmedEnd trimmed isNumbered secondSlash identifierReply parsePartyIdentifier parseLine parseLines parseNameAndAddress four partyOf accountHead shortAccountHead afterHead read anyNumbered firstLine lastLine bicLike firstThat pickOf testLine nameLines writtenLines joined writtenBody writtenField pieces isLine areNames isGiven measure place endsCr lastEmpty withoutCr lineAt isEnd endsPage runs begins tagIn readField readAt isCarried writable asked recordReply addReply add noted addIndex close flatTexts flatten stored optionAt textAt isFlat partyFrom unflatten entriesIn entriesOf fieldAt lookUp parse parseWithVariant readCase anyCr anyBoundary laterBoundary bodyPlace tagOf run readsFrom hasCrLf endsLf causesOf
+unfolding padded textOf said letter digit alphanumeric signs legal parseSwiftChars parseAccount bicLength parseBic upto onto starts lines white trimmedStart keep trimmedEnd trimmed isNumbered secondSlash identifierReply parsePartyIdentifier parseLine parseLines parseNameAndAddress four partyOf accountHead shortAccountHead afterHead read anyNumbered firstLine lastLine bicLike firstThat pickOf testLine nameLines writtenLines joined writtenBody writtenField pieces isLine areNames isGiven measure place endsCr lastEmpty withoutCr lineAt isEnd endsPage runs begins tagIn readField readAt isCarried writable asked recordReply addReply add noted addIndex close flatTexts flatten stored optionAt textAt isFlat partyFrom unflatten entriesIn entriesOf fieldAt lookUp parse parseWithVariant readCase anyLine laterBoundary bodyPlace tagOf run readsFrom hasCrLf endsLf causesOf
 yewdome-operations = record {
   party-read-drops-the-line = refl;
   party-read-takes-11 = refl;

@@ -1,12 +1,12 @@
 -- Wrong programs that the contracts of `errors`, `party`, `swift_utils` and `field_utils` rule out (document 01, 'For the auditor's form'),
 -- each by computation. A field is named after its operation and the mistake, and its comment says what the wrong program does.
-use mathlib.Core.Path.{_≡_, refl, sym, _∙_}
+use mathlib.Core.Path.{_≡_, refl}
 use mathlib.Core.Bool.{true, false}
 use mathlib.Core.List.{List, [], _∷_}
 use Prim.Native.Nat.{ℕ, _+_}
 use native.Mathlib.Omega.{arith}
 use lib.ListN.{length, drop, getD, replicate}
-use Rattle.errors.specs.declared.ParseError.the-variants.{Position}
+use Rattle.errors.specs.declared.ParseError.the-variants.{BicByte, Position}
 use Rattle.errors.specs.Refusals.{accepted, refused, refusalAt, refusalOf}
 use Rattle.party.specs.declared.PartyOption.the-variants.{Field50NoOption, Field50A, Field50F, Field50K, Field59NoOption, Field59F}
 use Rattle.party.specs.declared.Party.{Party}
@@ -14,7 +14,7 @@ use Rattle.party.specs.declared.Part.{Part}
 use Rattle.party.specs.declared.Parts.{Parts}
 use Rattle.party.specs.Limits.{limitsOf, placeOf, optionAt}
 use Rattle.party.specs.Text.{padded, textOf, partIn, four}
-use Rattle.party.specs.Party.{IsParty, blank, partyIn, said, Same}
+use Rattle.party.specs.Party.{blank, partyIn, said, Same}
 use Rattle.party.specs.declared.Numbering.the-variants.{Unnumbered, Numbered, InTurn}
 use Rattle.swift_utils.specs.Bytes.{bytes, all, letter, small, digit, alphanumeric, signs, legal, narrowSigns, narrow}
 use Rattle.swift_utils.specs.Classes.{bitsOf, classesOf, classTable, entryIn}
@@ -24,14 +24,16 @@ use Rattle.field_utils.specs.Lines.{upto, starts, withoutCr}
 use Rattle.field_utils.specs.Cursor.{lineOf, nextLine, placesOf, linePlaces, noPlace, namePlaces}
 use Rattle.field_utils.specs.Trim.{white, trimmedStart, keep, trimmedEnd, trimmed}
 use Rattle.field_utils.specs.Identifier.{isNumbered, secondSlash, identifierReply}
-use Rattle.field_utils.specs.Names.{skipOf, keptFrom, parseCount}
+use Rattle.field_utils.specs.Names.{skipOf, keptFrom, parseLine, parseLines, parseCount, parseNameAndAddress}
 
 pub record ErrorsOperations : Type 0 where
   -- numbers the cases one after the other, so that a position is 19
   pub refusal-leaves-no-gap : refusalOf Position ≡ refusalAt 21 0
+  -- tells a wrong byte of a BIC as 9, its length
+  pub refusal-of-a-bic-byte-is-10 : refusalOf (BicByte 2) ≡ refusalAt 10 2
 
 pub errors-operations : ErrorsOperations
-errors-operations = record { refusal-leaves-no-gap = refl }
+errors-operations = record { refusal-leaves-no-gap = refl; refusal-of-a-bic-byte-is-10 = refl }
 
 -- a 50K with a BIC text, which the option leaves out
 abbrev withBic : List ℕ → Party
@@ -76,10 +78,6 @@ pub record PartyOperations : Type 0 where
   pub option-at-gives-the-last : optionAt 11 ≡ Field50NoOption
   -- takes any digits in 59F
   pub limits-of-leaves-59F : limitsOf Field59F .numbering ≡ InTurn
-  -- promises nothing: but a record of three names or digits, or with a text of 37 bytes, does not have what it promises
-  pub sized-takes-three : (p : Party) → length (p .«name_and_address») ≡ 3 → IsParty p → ⊥
-  pub sized-takes-three-digits : (p : Party) → length (p .digits) ≡ 3 → IsParty p → ⊥
-  pub sized-takes-37 : (p : Party) → length (p .account .bytes) ≡ 37 → IsParty p → ⊥
   -- gives the length of the slice, though only 38 bytes are kept
   pub text-of-counts-all : textOf (replicate 40 65) .len ≡ 38
   -- fills with spaces
@@ -89,9 +87,9 @@ pub record PartyOperations : Type 0 where
   -- gives nothing of a part that passes the body
   pub part-of-gives-nothing : partIn (bytes "AB") (record { start = 1; len = 2 }) ≡ bytes "B"
   -- gives every name the first one's text
-  pub party-of-repeats-the-first : getD (partyIn (bytes "ABCD") parts .«name_and_address») 1 (textOf []) ≡ textOf (bytes "D")
+  pub store-parts-repeats-the-first : getD (partyIn (bytes "ABCD") parts .«name_and_address») 1 (textOf []) ≡ textOf (bytes "D")
   -- leaves the digits out
-  pub party-of-drops-the-digits : partyIn (bytes "ABCD") parts .digits ≡ 49 ∷ 56 ∷ 0 ∷ 0 ∷ []
+  pub store-parts-drops-the-digits : partyIn (bytes "ABCD") parts .digits ≡ 49 ∷ 56 ∷ 0 ∷ 0 ∷ []
   -- counts four empty names
   pub blank-has-four : blank .count ≡ 0
   -- says that there is an account, an empty one
@@ -109,15 +107,12 @@ party-operations = record {
   option-at-counts-from-1 = refl;
   option-at-gives-the-last = refl;
   limits-of-leaves-59F = refl;
-  sized-takes-three = λ p e h. let z : _≡_ {A = ℕ} 3 4 = sym e ∙ h .size in omega arith;
-  sized-takes-three-digits = λ p e h. let z : _≡_ {A = ℕ} 3 4 = sym e ∙ h .digits in omega arith;
-  sized-takes-37 = λ p e h. let z : _≡_ {A = ℕ} 37 38 = sym e ∙ h .account .size in omega arith;
   text-of-counts-all = refl;
   text-of-fills = refl;
   part-of-takes-an-end = refl;
   part-of-gives-nothing = refl;
-  party-of-repeats-the-first = refl;
-  party-of-drops-the-digits = refl;
+  store-parts-repeats-the-first = refl;
+  store-parts-drops-the-digits = refl;
   blank-has-four = refl;
   blank-has-an-account = refl;
   same-compares-unused = refl;
@@ -126,6 +121,8 @@ party-operations = record {
 pub record SwiftUtilsOperations : Type 0 where
   -- puts the classes of each byte one entry late: A has those of `@`
   pub class-table-is-late : getD classTable 65 0 ≡ 31
+  -- has `~` among the legal bytes
+  pub class-table-has-no-tilde : getD classTable 126 1 ≡ 0
   -- takes every printable byte
   pub is-legal-takes-tilde : legal 126 ≡ false
   -- goes one past 9
@@ -144,6 +141,8 @@ pub record SwiftUtilsOperations : Type 0 where
   pub all-alphanumeric-takes-some : all alphanumeric (bytes "A-") ≡ false
   -- leaves the last byte out
   pub parse-swift-chars-stops-short : parseSwiftChars 1 (bytes "A~") ≡ refused 3 1
+  -- makes a line up: always 1
+  pub parse-swift-chars-names-the-line : parseSwiftChars 7 (bytes "~") ≡ refused 3 7
   -- refuses the shortest length
   pub parse-length-refuses-the-shortest : parseLength 1 2 1 (bytes "A") ≡ accepted
   -- names no line
@@ -161,6 +160,7 @@ pub swift-utils-operations : SwiftUtilsOperations
 unfolding letter small digit alphanumeric signs legal narrowSigns narrow bitsOf classesOf classTable parseSwiftChars parseAccount bicLength
 swift-utils-operations = record {
   class-table-is-late = refl;
+  class-table-has-no-tilde = refl;
   is-legal-takes-tilde = refl;
   is-digit-takes-colon = refl;
   is-digit-refuses-0 = refl;
@@ -170,6 +170,7 @@ swift-utils-operations = record {
   all-alphanumeric-refuses-digits = refl;
   all-alphanumeric-takes-some = refl;
   parse-swift-chars-stops-short = refl;
+  parse-swift-chars-names-the-line = refl;
   parse-length-refuses-the-shortest = refl;
   parse-length-drops-the-line = refl;
   parse-account-refuses-the-longest = refl;
@@ -227,6 +228,8 @@ pub record FieldUtilsOperations : Type 0 where
   pub parse-count-takes-none : parseCount 4 0 ≡ refused 7 0
   -- refuses as many as there may be
   pub parse-count-refuses-four : parseCount 4 4 ≡ accepted
+  -- tells the place among the names, 2, for the body line, 3, where a line precedes them
+  pub names-tell-the-body-line : parseNameAndAddress Field50K 2 (bytes "A" ∷ bytes "~" ∷ []) ≡ refused 3 3
   -- takes a name that is like an earlier one from the earlier place
   pub names-from-one-place : linePlaces (bytes "A\r\nA") 0 ≡ record { start = 0; len = 1 } ∷ record { start = 3; len = 1 } ∷ []
   -- gives 50F's number with its name, or the places of refused names
@@ -234,7 +237,7 @@ pub record FieldUtilsOperations : Type 0 where
   pub names-refused : namePlaces (refused 7 0) 2 (record { start = 0; len = 3 } ∷ []) ≡ noPlace ∷ noPlace ∷ noPlace ∷ noPlace ∷ []
 
 pub field-utils-operations : FieldUtilsOperations
-unfolding four letter digit alphanumeric signs legal parseSwiftChars parseAccount upto starts withoutCr lineOf nextLine placesOf white trimmedStart keep trimmedEnd trimmed isNumbered secondSlash identifierReply
+unfolding four letter digit alphanumeric signs legal parseSwiftChars parseAccount upto starts withoutCr lineOf nextLine placesOf white trimmedStart keep trimmedEnd trimmed isNumbered secondSlash identifierReply parseLine parseLines parseNameAndAddress
 field-utils-operations = record {
   find-skips-the-start = refl;
   find-skips-bytes = refl;
@@ -258,6 +261,7 @@ field-utils-operations = record {
   kept-from-leaves-59F = refl;
   parse-count-takes-none = refl;
   parse-count-refuses-four = refl;
+  names-tell-the-body-line = refl;
   names-from-one-place = refl;
   names-with-numbers = refl;
   names-refused = refl;

@@ -24,20 +24,23 @@ use Rattle.field_utils.specs.Names.{parseLine, parseLines, parseNameAndAddress}
 use Rattle.flat.specs.Flat.{recordSize, flatTexts, flatten, stored, isFlat, partyFrom, unflatten}
 use Rattle.reader.specs.declared.Answer.{Answer}
 use Rattle.reader.specs.Reading.{partyOf, toldAnswer, answerFrom, readInto}
-use Rattle.reader.specs.Options.{lengthReply, accountHead, shortAccountHead, afterHead, ascii, bodyReply, readOwn, read}
-use Rattle.choices.specs.declared.Choice.the-variants.{Field50InstructingParty, Field50OrderingCustomerFGH, Field50OrderingCustomerAFK, Field50OrderingCustomerNCF, Field50Creditor, Field59, Field59Debtor}
-use Rattle.choices.specs.declared.Test.the-variants.{LaterNumbered, AnyNumbered, LastIsBic, BicSized, FirstNumbered}
-use Rattle.choices.specs.Detection.{anyNumbered, firstLine, lastLine, bicLike, testLine, holds}
-use Rattle.choices.specs.Choices.{refusing, firstThat, parse, pickOf, parseWithVariant}
+use Rattle.reader.specs.Options.{lengthReply, accountHead, shortAccountHead, afterHead, ascii, bodyReply, read}
+use Rattle.reader.specs.declared.choices.Choice.the-variants.{Field50InstructingParty, Field50OrderingCustomerFGH, Field50OrderingCustomerAFK, Field50OrderingCustomerNCF, Field50Creditor, Field59, Field59Debtor}
+use Rattle.reader.specs.declared.choices.Test.the-variants.{LaterNumbered, AnyNumbered, LastIsBic, BicSized, FirstNumbered}
+use Rattle.reader.specs.Detection.{anyNumbered, firstLine, lastLine, bicLike, testLine, holds}
+use Rattle.reader.specs.Choices.{refusing, firstThat, parse, pickOf, parseWithVariant}
 use Rattle.promises.specs.RuledOut.{bodyOf, As}
 
 -- what `refuse` gives, as its contract has it
 abbrev refusedWith : ParseError → Answer
 refusedWith e = record { outcome = Refused e; party = blank }
 
--- a lent record
+-- a lent record, and one byte less
 abbrev pub lent : List ℕ
 lent = replicate recordSize 7
+
+abbrev pub short : List ℕ
+short = replicate 240 7
 
 pub record ReaderOperations : Type 0 where
   -- tests 50H's account as 50G's
@@ -64,14 +67,13 @@ pub record ReaderOperations : Type 0 where
   pub parse-body-refuses-2048 : bodyReply (replicate 2048 65) ≡ accepted
   -- tests the bytes before the length
   pub parse-body-tests-bytes-first : bodyReply (replicate 2049 128) ≡ refused 12 0
-  -- tests 13 too, which is not the option's own
-  pub read-own-into-tests-13 : readInto (readOwn Field50H (47 ∷ 128 ∷ bytes "\nA")) lent .reply ≡ accepted
-  -- stores what was found before the line that is refused
-  pub read-own-into-stores-a-part : readInto (readOwn Field50A (bytes "/1\nA")) lent ≡ record { reply = refused 9 2; bytes = lent }
   -- stores the blank record beside a refusal
   pub read-into-stores-the-blank : readInto (read Field50C (bytes "A")) lent ≡ record { reply = refused 9 1; bytes = lent }
   -- leaves 13 to its caller
   pub read-into-leaves-13 : readInto (read Field50H (47 ∷ 128 ∷ bytes "\nA")) lent .reply ≡ refused 13 0
+  -- accepts where 240 bytes are lent, stores nothing and does not say so; or asks for more than 241
+  pub read-into-takes-240 : readInto (read Field50L (bytes "A")) short ≡ record { reply = refused 42 0; bytes = short }
+  pub read-into-refuses-241 : readInto (read Field50L (bytes "A")) lent .reply ≡ accepted
   -- gives what the room holds beside a refusal
   pub answer-from-keeps-the-room : answerFrom (Refused (TooLong 2)) (0 ∷ 1 ∷ replicate 239 0) .party .present ≡ false
   -- gives the blank record beside an acceptance
@@ -92,10 +94,10 @@ reader-operations = record {
   is-ascii-stops-short = refl;
   parse-body-refuses-2048 = refl;
   parse-body-tests-bytes-first = refl;
-  read-own-into-tests-13 = refl;
-  read-own-into-stores-a-part = refl;
   read-into-stores-the-blank = refl;
   read-into-leaves-13 = refl;
+  read-into-takes-240 = refl;
+  read-into-refuses-241 = refl;
   answer-from-keeps-the-room = refl;
   answer-from-gives-the-blank = refl;
 }
@@ -179,10 +181,14 @@ pub record ChoicesOperations : Type 0 where
   pub parse-into-takes-the-untrimmed : getD (readInto (parse Field50InstructingParty (bytes " A")) lent .bytes) 4 0 ≡ 65
   -- stores the blank record where no option accepts
   pub parse-into-stores-the-blank : readInto (parse Field50Creditor []) lent ≡ record { reply = refused 11 0; bytes = lent }
+  -- tests 42 last
+  pub parse-into-tests-42-last : readInto (parse Field50Creditor []) short ≡ record { reply = refused 42 0; bytes = short }
   -- detects all the same, and stores a 50A by K
   pub parse-with-variant-into-detects : getD (readInto (parseWithVariant Field50OrderingCustomerAFK (bytes "ABCDEFGH") 75) lent .bytes) 0 0 ≡ placeOf Field50K
   -- stores the record, and then refuses the letter
   pub parse-with-variant-into-stores-first : readInto (parseWithVariant Field50OrderingCustomerAFK (bytes "ABCDEFGH") 97) lent ≡ record { reply = refused 14 0; bytes = lent }
+  -- tests 14 before 42
+  pub parse-with-variant-into-tests-14-first : readInto (parseWithVariant Field50OrderingCustomerAFK (bytes "ABCDEFGH") 97) short ≡ record { reply = refused 42 0; bytes = short }
   -- the tests: whether a line after the first is numbered tests the first too, or the second alone
   pub later-numbered-takes-the-first : holds LaterNumbered (lines (bytes "1/A\nB")) ≡ false
   pub later-numbered-stops-short : holds LaterNumbered (lines (bytes "A\nB\n1/C")) ≡ true
@@ -207,8 +213,10 @@ choices-operations = record {
   parse-with-variant-refuses-z = (refl, refl);
   parse-into-takes-the-untrimmed = refl;
   parse-into-stores-the-blank = refl;
+  parse-into-tests-42-last = refl;
   parse-with-variant-into-detects = refl;
   parse-with-variant-into-stores-first = refl;
+  parse-with-variant-into-tests-14-first = refl;
   later-numbered-takes-the-first = refl;
   later-numbered-stops-short = refl;
   any-numbered-stops-short = refl;

@@ -1,9 +1,9 @@
 -- Pages at the edges (document 01, 'Pages (added)'), each read by computation, and wrong programs that they rule out.
 use mathlib.Core.Path.{_≡_, refl}
 use mathlib.Core.Bool.{Bool, true, false}
-use mathlib.Core.List.{List, [], _∷_}
+use mathlib.Core.List.{List, [], _∷_, _++_, map}
 use Prim.Native.Nat.{ℕ, zero, suc, _≤_, _<_}
-use lib.ListN.{length, drop}
+use lib.ListN.{length, drop, replicate}
 use borrow.Author.Tests.{le-leb, lt-leb}
 use Rattle.party.specs.declared.PartyOption.the-variants.{Field50K}
 use Rattle.party.specs.Text.{padded, textOf, four}
@@ -99,3 +99,55 @@ pub record PagesRuledOut : Type 0 where
 pub pages-ruled-out : PagesRuledOut
 unfolding padded textOf letter digit alphanumeric signs legal parseSwiftChars parseAccount bicLength parseBic upto onto starts lines parseLine parseLines parseNameAndAddress four partyOf accountHead afterHead read withoutCr lineAt isEnd endsPage runs begins tagIn readField readCase readAt tagOf
 pages-ruled-out = record { not-ended = refl; next-short = refl; hyphen = refl; closing-lf = refl; sixteen = refl }
+
+-- where a read goes on, and where one can start
+pub record PageMoves : Type 0 where
+  -- after 16: the next opening, the end line or the length, and not the next line
+  pub stray-next-is-the-opening : readAt (bytes "X\nY\n:50K:A\n-\n") 0 ≡ refuses 16 4
+  pub stray-next-is-the-end-line : readAt (bytes "X\nY\n-\n") 0 ≡ refuses 16 4
+  pub stray-next-is-the-length : readAt (bytes "X\nY") 0 ≡ refuses 16 3
+  -- after 15 and a body's refusal too, of which the second hands the body back
+  pub unknown-next-is-the-opening : readAt (bytes ":52A:X\nY\n:50K:A\n-\n") 0 ≡ refuses 15 9
+  pub refused-next-is-the-opening : readAt (bytes ":50C:X\nY\n:50K:A\n-\n") 0 ≡ record { outcome = aRefusal 9 1; body = bytes "X\nY"; next = 9 }
+  -- where neither an opening nor an end line follows, one last LF is left off
+  pub one-last-lf-is-left-off : readAt (bytes ":50L:A\n\n") 0 ≡ record { outcome = aRefusal 1 0; body = bytes "A\n"; next = 8 }
+  -- a hyphen with a CR that no LF follows is a line of the field
+  pub open-hyphen-cr-is-in-the-field : readAt (bytes ":50L:A\n-\r") 0 ≡ record { outcome = aRefusal 1 0; body = bytes "A\n-\r"; next = 9 }
+  -- a line starts after an LF, and not after a CR
+  pub no-start-after-cr : readAt (bytes "X\r:50K:A\n-\n") 2 ≡ refuses 21 2
+  -- the length is a position to read at, after any byte
+  pub length-after-any-byte : readAt (bytes "X") 1 ≡ refuses 17 1
+  -- a tag has a capital or none, and a colon after it
+  pub tag-is-whole : map (λ (page : List ℕ). readAt page 0 .outcome) (bytes ":50k:A" ∷ bytes ":59K:A" ∷ bytes ":50KA" ∷ bytes ":50 :A" ∷ bytes ":5:A" ∷ []) ≡ replicate 5 (aRefusal 15 0)
+
+pub page-moves : PageMoves
+unfolding padded textOf letter digit alphanumeric signs legal parseSwiftChars parseAccount bicLength parseBic upto onto starts lines parseLine parseLines parseNameAndAddress four partyOf accountHead afterHead read withoutCr lineAt isEnd endsPage runs begins tagIn readField readCase readAt tagOf
+page-moves = record {
+  stray-next-is-the-opening = refl;
+  stray-next-is-the-end-line = refl;
+  stray-next-is-the-length = refl;
+  unknown-next-is-the-opening = refl;
+  refused-next-is-the-opening = refl;
+  one-last-lf-is-left-off = refl;
+  open-hyphen-cr-is-in-the-field = refl;
+  no-start-after-cr = refl;
+  length-after-any-byte = refl;
+  tag-is-whole = refl;
+}
+
+-- a page of one field and its end, with so many bytes after it
+abbrev pub longPage : ℕ → List ℕ
+longPage n = bytes ":50K:A\n-\n" ++ replicate n 0
+
+-- the most that a page has
+pub record PageMost : Type 0 where
+  -- 32,768 bytes are read, one more is 18
+  pub read-of-32768 : readAt (longPage 32759) 0 ≡ named (bytes "A") 7
+  pub too-long-of-32769 : readAt (longPage 32760) 0 ≡ refuses 18 0
+  -- 18 before 21 and 17: within a line, and at the length
+  pub too-long-before-position : readAt (longPage 32760) 1 ≡ refuses 18 1
+  pub too-long-before-length : readAt (longPage 32760) 32769 ≡ refuses 18 32769
+
+pub page-most : PageMost
+unfolding padded textOf letter digit alphanumeric signs legal parseSwiftChars parseAccount upto onto starts lines parseLine parseLines parseNameAndAddress four partyOf accountHead afterHead read withoutCr lineAt isEnd endsPage runs begins tagIn readField readCase readAt tagOf
+page-most = record { read-of-32768 = refl; too-long-of-32769 = refl; too-long-before-position = refl; too-long-before-length = refl }

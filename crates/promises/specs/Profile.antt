@@ -1,7 +1,7 @@
 -- The network profile by computation (document 02, Five): each rule at the first line where it can be broken and at a later one, and wrong
 -- programs that the definitions rule out.
 use mathlib.Core.Path.{_≡_, refl}
-use mathlib.Core.Bool.{true}
+use mathlib.Core.Bool.{true, false}
 use mathlib.Core.List.{List, [], _∷_}
 use Prim.Native.Nat.{ℕ, _+_, _*_}
 use lib.ListN.{getD, replicate}
@@ -10,7 +10,7 @@ use Rattle.party.specs.declared.PartyOption.the-variants.{Field50NoOption, Fiel
 use Rattle.party.specs.Limits.{placeOf, optionAt}
 use Rattle.party.specs.Text.{padded, textOf, four}
 use Rattle.party.specs.Party.{said}
-use Rattle.swift_utils.specs.Bytes.{bytes, letter, small, digit, alphanumeric, signs, legal, narrowSigns, narrow}
+use Rattle.swift_utils.specs.Bytes.{bytes, all, letter, small, digit, alphanumeric, signs, legal, narrowSigns, narrow}
 use Rattle.swift_utils.specs.Checks.{parseSwiftChars, parseAccount, bicLength, parseBic}
 use Rattle.field_utils.specs.Lines.{upto, onto, starts, lines, withoutCr}
 use Rattle.field_utils.specs.Trim.{white, trimmedStart, keep, trimmedEnd, trimmed}
@@ -19,26 +19,27 @@ use Rattle.field_utils.specs.Names.{parseLine, parseLines, parseNameAndAddress}
 use Rattle.field_utils.specs.Tags.{tagOf}
 use Rattle.reader.specs.Reading.{Reading, partyOf}
 use Rattle.reader.specs.Options.{accountHead, shortAccountHead, afterHead, read}
-use Rattle.choices.specs.declared.Choice.the-variants.{Field50InstructingParty, Field50OrderingCustomerAFK, Field50Creditor}
-use Rattle.choices.specs.Detection.{anyNumbered, firstLine, lastLine, bicLike, testLine}
-use Rattle.choices.specs.Choices.{firstThat, parse, pickOf, parseWithVariant}
+use Rattle.reader.specs.declared.choices.Choice.the-variants.{Field50InstructingParty, Field50OrderingCustomerAFK, Field50Creditor}
+use Rattle.reader.specs.Detection.{anyNumbered, firstLine, lastLine, bicLike, testLine}
+use Rattle.reader.specs.Choices.{firstThat, parse, pickOf, parseWithVariant}
 use Rattle.profile.specs.Profile.{isSame, holdsBic, isInside, linesReply, profileReply, profiled, readProfiled, parseProfiled, parseWithVariantProfiled}
 use Rattle.writer.specs.Writing.{nameLines, writtenLines, joined, writtenBody, writtenField, pieces}
 use Rattle.writer.specs.Given.{isLine, areNames, isGiven}
 use Rattle.writer.specs.ReadBack.{endsCr, lastEmpty}
 use Rattle.page_reader.specs.Pages.{isEnd, endsPage}
-use Rattle.page_writer.specs.Adding.{anyCr, anyBoundary, laterBoundary, isCarried, asked, recordReply}
+use Rattle.page_writer.specs.Adding.{anyLine, laterBoundary, isCarried, asked, recordReply}
 use Rattle.flat.specs.Flat.{recordSize, flatTexts, flatten, stored}
 use Rattle.yewdome.specs.Interface.{profileRead, profileParse, profileParseWithVariant}
-use Rattle.promises.specs.Starred.{gives}
+use Rattle.promises.specs.Starred.{gives, atPosition}
 use Rattle.promises.specs.RuledOut.{As}
 
 -- each rule, where it is broken at its first line and at a later one
 pub record ProfileRules : Type 0 where
-  -- only letters, digits, space and `/-?:().,'+`; all of these pass
+  -- only letters, digits, space and `/-?:().,'+`; all of these pass, and `narrow-73` counts no others
   pub set-first : readProfiled Field50K (bytes "A&B") .reply ≡ refused 32 1
   pub set-later : readProfiled Field50K (bytes "A\nB\nC&") .reply ≡ refused 32 3
   pub set-all : readProfiled Field50K (bytes "Az09 /-?:().,'+") .reply ≡ accepted
+  pub set-whole : all narrow (bytes "ABCDEFGHIJKLMNOPQRSTUVWXYZabcdefghijklmnopqrstuvwxyz0123456789 /-?:().,'+") ≡ true
   -- a CR that stays in a line is outside, one just before an LF is not
   pub cr-first : readProfiled Field50K (bytes "A\rB") .reply ≡ refused 32 1
   pub cr-later : readProfiled Field50K (bytes "A\nB\r") .reply ≡ refused 32 2
@@ -46,6 +47,10 @@ pub record ProfileRules : Type 0 where
   -- BIC letters are capitals
   pub capitals-first : readProfiled Field50C (bytes "DEUTDEFf") .reply ≡ refused 32 1
   pub capitals-later : readProfiled Field50G (bytes "/1\ndEUTDEFF") .reply ≡ refused 32 2
+  -- small letters are those from a to z, and no others
+  pub capitals-a : readProfiled Field50C (bytes "DEUTDEFa") .reply ≡ refused 32 1
+  pub capitals-z : readProfiled Field50C (bytes "DEUTDEFz") .reply ≡ refused 32 1
+  pub capitals-all : readProfiled Field50C (bytes "AZAZAZ09") .reply ≡ accepted
   -- no line after the BIC: it can be broken from line 2 on
   pub after-first : readProfiled Field50A (bytes "DEUTDEFF\nA") .reply ≡ refused 32 2
   pub after-later : readProfiled Field59A (bytes "/1\nDEUTDEFF\nA") .reply ≡ refused 32 3
@@ -76,11 +81,15 @@ profile-rules = record {
   set-first = refl;
   set-later = refl;
   set-all = refl;
+  set-whole = refl;
   cr-first = refl;
   cr-later = refl;
   cr-lf = refl;
   capitals-first = refl;
   capitals-later = refl;
+  capitals-a = refl;
+  capitals-z = refl;
+  capitals-all = refl;
   after-first = refl;
   after-later = refl;
   empty-first = refl;
@@ -157,7 +166,7 @@ profile-ruled-out = record {
 -- ---- what the promise of pages needs
 -- what a page of 40 bytes says of a reading's record
 abbrev filed : Reading → Reply
-filed r = recordReply 40 0 true (said (r .party))
+filed r = recordReply 40 false (atPosition 0) (said (r .party))
 
 pub record ProfileNeeded : Type 0 where
   -- no exception: 59F with an identifier is taken under the profile, and a page carries it as it does one without
@@ -171,7 +180,7 @@ pub record ProfileNeeded : Type 0 where
   pub hyphen : filed (read Field50K (bytes "A\n-")) ≡ refused 23 0
 
 pub profile-needed : ProfileNeeded
-unfolding padded textOf said letter small digit alphanumeric signs legal narrowSigns narrow parseSwiftChars parseAccount upto onto starts lines withoutCr isNumbered secondSlash identifierReply parsePartyIdentifier parseLine parseLines parseNameAndAddress four partyOf accountHead afterHead read holdsBic isInside linesReply profileReply profiled nameLines writtenLines joined writtenBody writtenField pieces isLine areNames isGiven endsCr lastEmpty isEnd endsPage anyCr anyBoundary laterBoundary isCarried asked recordReply tagOf
+unfolding padded textOf said letter small digit alphanumeric signs legal narrowSigns narrow parseSwiftChars parseAccount upto onto starts lines withoutCr isNumbered secondSlash identifierReply parsePartyIdentifier parseLine parseLines parseNameAndAddress four partyOf accountHead afterHead read holdsBic isInside linesReply profileReply profiled nameLines writtenLines joined writtenBody writtenField pieces isLine areNames isGiven endsCr lastEmpty isEnd endsPage anyLine laterBoundary isCarried asked recordReply tagOf
 profile-needed = record { taken-59F = (refl, refl); filed-59F = refl; bare-59F = refl; cr = refl; empty = refl; colon = refl; hyphen = refl }
 
 -- ---- for C

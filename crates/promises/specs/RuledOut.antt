@@ -18,9 +18,9 @@ use Rattle.field_utils.specs.Identifier.{isNumbered, secondSlash, identifierRep
 use Rattle.field_utils.specs.Names.{parseLine, parseLines, parseNameAndAddress}
 use Rattle.reader.specs.Reading.{Reading, partyOf}
 use Rattle.reader.specs.Options.{accountHead, shortAccountHead, afterHead, read}
-use Rattle.choices.specs.declared.Choice.the-variants.{Field50InstructingParty, Field50OrderingCustomerFGH, Field50OrderingCustomerAFK, Field50OrderingCustomerNCF, Field50Creditor, Field59, Field59Debtor}
-use Rattle.choices.specs.Detection.{anyNumbered, firstLine, lastLine, bicLike, testLine}
-use Rattle.choices.specs.Choices.{firstThat, parse, pickOf, parseWithVariant}
+use Rattle.reader.specs.declared.choices.Choice.the-variants.{Field50InstructingParty, Field50OrderingCustomerFGH, Field50OrderingCustomerAFK, Field50OrderingCustomerNCF, Field50Creditor, Field59, Field59Debtor}
+use Rattle.reader.specs.Detection.{anyNumbered, firstLine, lastLine, bicLike, testLine}
+use Rattle.reader.specs.Choices.{refusing, firstThat, parse, pickOf, parseWithVariant}
 use Rattle.promises.specs.Starred.{gives}
 
 -- two bodies that an option accepts, one letter apart
@@ -114,4 +114,33 @@ ruled-out = record {
   f-before-59 = (refl, refl);
   debtor-a-before-59 = (refl, refl);
   no-letter = (refl, refl);
+}
+
+-- the order of what a body is refused for: 12, 13, what the option says, 11; `not-a-letter` has that 14 comes first
+pub record BodyOrder : Type 0 where
+  -- an option, which has another refusal of each of these bodies
+  pub length-before-bytes : read Field50C (replicate 2049 128) .reply ≡ refused 12 0
+  pub length-before-own : read Field50C (replicate 2049 65) .reply ≡ refused 12 0
+  pub bytes-before-own : read Field50C (128 ∷ []) .reply ≡ refused 13 0
+  -- a choice, and one by a letter that picks
+  pub length-before-none : parse Field50Creditor (replicate 2049 128) ≡ refusing 12 0
+  pub bytes-before-none : parse Field50Creditor (128 ∷ []) ≡ refusing 13 0
+  pub length-before-picked : parseWithVariant Field50Creditor (replicate 2049 128) 65 ≡ refusing 12 0
+  pub bytes-before-picked : parseWithVariant Field50Creditor (128 ∷ []) 65 ≡ refusing 13 0
+  -- 2,048 bytes are read, by an option and by a choice, which counts them as they came
+  pub read-of-2048 : As (read Field50A (bytes "ABCDEFGH\n" ++ replicate 2039 65)) Field50A
+  pub parsed-of-2048 : As (parse Field50InstructingParty (65 ∷ replicate 2047 32)) Field50L
+
+pub body-order : BodyOrder
+unfolding padded textOf letter digit alphanumeric signs legal parseSwiftChars parseAccount bicLength parseBic upto onto starts lines white trimmedStart keep trimmedEnd trimmed parsePartyIdentifier four partyOf afterHead read firstThat pickOf parse parseWithVariant
+body-order = record {
+  length-before-bytes = refl;
+  length-before-own = refl;
+  bytes-before-own = refl;
+  length-before-none = refl;
+  bytes-before-none = refl;
+  length-before-picked = refl;
+  bytes-before-picked = refl;
+  read-of-2048 = (refl, refl);
+  parsed-of-2048 = (refl, refl);
 }

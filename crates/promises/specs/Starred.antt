@@ -18,14 +18,14 @@ use Rattle.field_utils.specs.Names.{parseLine, parseLines, parseNameAndAddress}
 use Rattle.field_utils.specs.Tags.{tagOf}
 use Rattle.reader.specs.Reading.{Reading, partyOf}
 use Rattle.reader.specs.Options.{accountHead, shortAccountHead, afterHead, read}
-use Rattle.choices.specs.declared.Choice.the-variants.{Field50OrderingCustomerAFK, Field50OrderingCustomerNCF}
-use Rattle.choices.specs.Detection.{anyNumbered, firstLine, lastLine, bicLike}
-use Rattle.choices.specs.Choices.{refusing, firstThat, parse}
+use Rattle.reader.specs.declared.choices.Choice.the-variants.{Field50OrderingCustomerAFK, Field50OrderingCustomerNCF}
+use Rattle.reader.specs.Detection.{anyNumbered, firstLine, lastLine, bicLike}
+use Rattle.reader.specs.Choices.{refusing, firstThat, parse}
 use Rattle.writer.specs.Writing.{nameLines, writtenLines, joined, writtenBody, writtenField, pieces}
 use Rattle.writer.specs.Given.{isLine, areNames, isGiven}
 use Rattle.writer.specs.ReadBack.{endsCr, lastEmpty}
 use Rattle.page_reader.specs.Pages.{isEnd, endsPage}
-use Rattle.page_writer.specs.Adding.{anyCr, anyBoundary, laterBoundary, isCarried, asked, recordReply}
+use Rattle.page_writer.specs.Adding.{anyLine, laterBoundary, isCarried, asked, Tally, recordReply}
 
 -- what the definitions give, and what document 01 says of it: a reading, a written field, or the refusal of a page
 pub data Case : Type 0 where
@@ -37,9 +37,13 @@ pub data Case : Type 0 where
 abbrev pub fieldOf : Reading → List ℕ
 fieldOf r = writtenField (said (r .party))
 
+-- a page up to a position, of whose entries none is used
+abbrev pub atPosition : ℕ → Tally
+atPosition n = record { position = n; entries = 0 }
+
 -- what an empty page of 100 bytes answers to the record that a reading gives
 abbrev pub filingOf : Reading → Reply
-filingOf r = recordReply 100 0 true (said (r .party))
+filingOf r = recordReply 100 false (atPosition 0) (said (r .party))
 
 -- accepted, with the record of these texts and digits
 abbrev givesWith : List ℕ → PartyOption → Bool → List ℕ → List ℕ → List (List ℕ) → Reading
@@ -99,5 +103,5 @@ Hold [] = Unit {0}
 Hold (c ∷ cs) = Holds c × Hold cs
 
 pub starred-hold : Hold starred
-unfolding padded textOf letter digit alphanumeric signs legal parseSwiftChars parseAccount bicLength parseBic upto onto starts lines white trimmedStart keep trimmedEnd trimmed isNumbered secondSlash identifierReply parsePartyIdentifier parseLine parseLines parseNameAndAddress four partyOf accountHead shortAccountHead afterHead read anyNumbered firstLine lastLine bicLike firstThat said nameLines writtenLines joined writtenBody writtenField isLine areNames isGiven pieces endsCr lastEmpty withoutCr isEnd endsPage isCarried asked recordReply parse anyCr anyBoundary laterBoundary tagOf
+unfolding padded textOf letter digit alphanumeric signs legal parseSwiftChars parseAccount bicLength parseBic upto onto starts lines white trimmedStart keep trimmedEnd trimmed isNumbered secondSlash identifierReply parsePartyIdentifier parseLine parseLines parseNameAndAddress four partyOf accountHead shortAccountHead afterHead read anyNumbered firstLine lastLine bicLike firstThat said nameLines writtenLines joined writtenBody writtenField isLine areNames isGiven pieces endsCr lastEmpty withoutCr isEnd endsPage isCarried asked recordReply parse anyLine laterBoundary tagOf
 starred-hold = (refl, (refl, (refl, (refl, (refl, (refl, (refl, (refl, (refl, (refl, (refl, (refl, (refl, (refl, (refl, (refl, (refl, (refl, (refl, (refl, tt))))))))))))))))))))

@@ -1,21 +1,24 @@
 -- What placing a field promises of every buffer, and records at the edge of 22 (document 01, 'From the state'; document 02, Two).
 use mathlib.Core.Path.{_≡_, refl, sym, _∙_, ap}
-use mathlib.Core.Bool.{true, false}
+use mathlib.Core.Bool.{Bool, true, false, true≢false}
 use mathlib.Core.List.{List, [], _∷_}
 use Prim.Native.Nat.{ℕ, _+_, _≤_, _<_}
 use native.Mathlib.Nat.{zero-add}
 use native.Mathlib.Omega.{arith}
+use lib.Dec.{eqb}
 use lib.ListN.{length, take, drop, replicate}
 use lib.Seq.{take-at, drop-at, take-length}
 use borrow.Author.Tests.{le-leb, lt-leb}
 use Rattle.errors.specs.Refusals.{Reply, accepted, refused, must, _then_}
-use Rattle.party.specs.declared.PartyOption.the-variants.{Field50K}
+use Rattle.party.specs.declared.PartyOption.{PartyOption}
+use Rattle.party.specs.declared.PartyOption.the-variants.{Field50NoOption, Field50K, Field50C, Field50H, Field59NoOption}
 use Rattle.party.specs.declared.Party.{Party}
 use Rattle.party.specs.declared.Text.{Text}
-use Rattle.party.specs.Text.{padded, textOf}
-use Rattle.party.specs.Party.{Said, said}
+use Rattle.party.specs.Limits.{placeOf}
+use Rattle.party.specs.Text.{padded, textOf, Used}
+use Rattle.party.specs.Party.{Said, said, Same}
 use Rattle.swift_utils.specs.Bytes.{bytes, letter, digit, alphanumeric, signs, legal}
-use Rattle.swift_utils.specs.Checks.{parseSwiftChars, parseAccount}
+use Rattle.swift_utils.specs.Checks.{parseSwiftChars, parseAccount, bicLength, parseBic}
 use Rattle.field_utils.specs.Lines.{starts}
 use Rattle.field_utils.specs.Names.{parseLine, parseLines, parseNameAndAddress}
 use Rattle.writer.specs.Writing.{nameLines, writtenField, put, fits}
@@ -72,16 +75,29 @@ writes s buffer =
     }
 
 -- ---- records at the edge of 22
-abbrev named : Text → Text → Party
-named first fourth = record {
-  option = Field50K;
-  present = false;
-  account = textOf [];
-  bic = textOf [];
-  count = 1;
+-- a record of an option, a presence, an account, a BIC, a count, and a first and a fourth name
+abbrev held : PartyOption → Bool → List ℕ → List ℕ → ℕ → Text → Text → Party
+held o present account bic count first fourth = record {
+  option = o;
+  present = present;
+  account = textOf account;
+  bic = textOf bic;
+  count = count;
   «name_and_address» = first ∷ textOf [] ∷ textOf [] ∷ fourth ∷ [];
   digits = 0 ∷ 0 ∷ 0 ∷ 0 ∷ [];
 }
+
+-- a 50K of one name
+abbrev named : Text → Text → Party
+named first fourth = held Field50K false [] [] 1 first fourth
+
+-- a record whose first name is A, with an account and a count
+abbrev counted : PartyOption → Bool → List ℕ → ℕ → Party
+counted o present account count = held o present account [] count (textOf (bytes "A")) (textOf [])
+
+-- a 50C of a count
+abbrev bicOf : ℕ → Party
+bicOf count = held Field50C false [] (bytes "ABCDEFGH") count (textOf []) (textOf [])
 
 pub record Edges : Type 0 where
   -- a test by the legal class alone would let an LF through
@@ -92,7 +108,61 @@ pub record Edges : Type 0 where
   pub long : isGiven (said (named (record { bytes = replicate 38 65; len = 99 }) (textOf []))) ≡ false
   -- a first name that would be read as an account
   pub slash : isGiven (said (named (textOf (bytes "/A")) (textOf []))) ≡ false
+  -- an account that is not there is empty; there is none in 50, and always one in 50H
+  pub absent-is-empty : isGiven (said (counted Field50K false (bytes "1") 1)) ≡ false
+  pub none-in-50 : isGiven (said (counted Field50NoOption true [] 1)) ≡ false
+  pub one-in-50H : isGiven (said (counted Field50H true (bytes "1") 1)) ≡ true
+  pub always-in-50H : isGiven (said (counted Field50H false [] 1)) ≡ false
+  -- one to four names, and none in 50C
+  pub no-name : isGiven (said (counted Field50K false [] 0)) ≡ false
+  pub four-names : isGiven (said (counted Field50K false [] 4)) ≡ true
+  pub five-names : isGiven (said (counted Field50K false [] 5)) ≡ false
+  pub none-in-50C : isGiven (said (bicOf 0)) ≡ true
+  pub one-in-50C : isGiven (said (bicOf 1)) ≡ false
 
 pub edges : Edges
-unfolding padded textOf said letter digit alphanumeric signs legal parseSwiftChars parseAccount starts parseLine parseLines parseNameAndAddress nameLines isLine areNames isGiven
-edges = record { lf = refl; stale = refl; long = refl; slash = refl }
+unfolding padded textOf said letter digit alphanumeric signs legal parseSwiftChars parseAccount bicLength parseBic starts parseLine parseLines parseNameAndAddress nameLines isLine areNames isGiven
+edges = record {
+  lf = refl;
+  stale = refl;
+  long = refl;
+  slash = refl;
+  absent-is-empty = refl;
+  none-in-50 = refl;
+  one-in-50H = refl;
+  always-in-50H = refl;
+  no-name = refl;
+  four-names = refl;
+  five-names = refl;
+  none-in-50C = refl;
+  one-in-50C = refl;
+}
+
+-- the length of an account, if there is one
+abbrev accountLength : List Used → ℕ
+accountLength [] = 0
+accountLength (u ∷ us) = u .len
+
+-- when two records are the same: option, presence, counts and used bytes agree
+pub record Sameness : Type 0 where
+  -- records of which all but one of these agree are not
+  pub option-counts : Same (counted Field50K false [] 1) (counted Field59NoOption false [] 1) → ⊥
+  pub presence-counts : Same (counted Field50K true [] 1) (counted Field50K false [] 1) → ⊥
+  pub count-counts : Same (bicOf 0) (bicOf 1) → ⊥
+  pub absent-account-counts : Same (counted Field50K false (bytes "1") 1) (counted Field50K false [] 1) → ⊥
+  -- a text that the option or the count leaves out does not count, nor do the bytes after a text's length
+  pub left-out-by-option : Same (counted Field50NoOption false (bytes "1") 1) (counted Field50NoOption false [] 1)
+  pub left-out-by-count : Same (named (textOf (bytes "A")) (textOf (bytes "B"))) (named (textOf (bytes "A")) (textOf []))
+  pub after-the-length : Same (named (record { bytes = 65 ∷ replicate 37 66; len = 1 }) (textOf [])) (named (textOf (bytes "A")) (textOf []))
+
+pub sameness : Sameness
+unfolding padded textOf said
+sameness = record {
+  option-counts = λ e. true≢false (ap (λ (s : Said). eqb (placeOf (s .option)) 3) e);
+  presence-counts = λ e. true≢false (ap (λ (s : Said). s .present) e);
+  count-counts = λ e. true≢false (ap (λ (s : Said). eqb (s .count) 0) e);
+  absent-account-counts = λ e. true≢false (ap (λ (s : Said). eqb (accountLength (s .account)) 1) e);
+  left-out-by-option = refl;
+  left-out-by-count = refl;
+  after-the-length = refl;
+}

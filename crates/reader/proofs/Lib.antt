@@ -4,3 +4,11 @@ pub mod LineCounts
 pub mod Bodies
 pub mod Into
 pub mod Loading
+pub mod LineTests
+pub mod Walks
+pub mod Trials
+pub mod Trimmed
+pub mod RuledOut
+pub mod Letters
+pub mod Every
+pub mod ByValue

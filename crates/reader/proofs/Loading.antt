@@ -29,6 +29,7 @@ use Rattle.reader.specs.Options.{Head, headBy, withNames, withBic, after
 use Rattle.flat.specs.Flat.{recordSize, textsOf, flatten, stored, unflatten}
 use Rattle.flat.proofs.Laws.{none, Sizes, stored-whole}
 use Rattle.flat.proofs.Theorems.{loads-back}
+use Rattle.reader.proofs.Into.{into-whole}
 
 -- ---- a reader's texts: 38 bytes, of which at most 38 are used
 record Good (t : Text) : Type 0 where
@@ -155,7 +156,7 @@ stored-loads p bytes loads size = ap unflatten (stored-whole p bytes size) ∙ l
 
 -- the answer by value, of a reading into bytes that are as many as a record's
 pub answered : (r : Reading) (o : Outcome) (d e : List ℕ) → Back r → recordSize ≤ length d → toldInto o e ≡ readInto r d → toldAnswer (answerFrom o e) ≡ r
-answered r o d e back size = go (r .reply) (r .party) o back
+answered r o d e back size told = go (r .reply) (r .party) o back (told ∙ into-whole r d size)
   where
     go : (q : Reply) (p : Party) (o : Outcome) → Whole q p → toldInto o e ≡ storing q p d → toldAnswer (answerFrom o e) ≡ (record { reply = q; party = p })
     go accepted p Accepted loads h =

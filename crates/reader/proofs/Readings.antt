@@ -33,6 +33,11 @@ module _ (o : PartyOption) (f : Found) (body : List ℕ) (r : FoundAt) where
       ∙ ap {B = Reading} (λ (p : Party). record { reply = accepted; party = p }) h
       ∙ sym (ap (λ (s : Reply). giving s (partyOf o f)) t)
 
+-- a reading says what is said of it
+pub giving-reply : (r : Reply) (p : Party) → giving r p .reply ≡ r
+giving-reply accepted p = refl
+giving-reply (refused k n) p = refl
+
 -- what the names give, by their reply
 names-or : (r : Reply) (ns : List (List ℕ)) (ds : List ℕ) → namesOr r ns ds .reply ≡ r
 names-or accepted ns ds = refl

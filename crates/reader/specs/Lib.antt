@@ -1,3 +1,6 @@
 pub mod Reading
 pub mod Options
 pub mod Code
+pub mod Detection
+pub mod Choices
+pub mod ChoicesCode

@@ -2,15 +2,16 @@
 use Prim.Native.Nat.{ℕ}
 use mathlib.Core.Bool.{Bool}
 use mathlib.Core.List.{List}
+use lib.Dec.{leb}
 use lib.ListN.{length}
-use Rattle.errors.specs.Refusals.{Reply, accepted, refused, told}
+use Rattle.errors.specs.Refusals.{Reply, accepted, refused, must, _then_, told}
 use Rattle.party.specs.declared.PartyOption.{PartyOption}
 use Rattle.party.specs.declared.Party.{Party}
 use Rattle.party.specs.Text.{textOf, four, fourTexts}
 use Rattle.party.specs.Party.{blank}
 use Rattle.errors.specs.declared.Outcome.{Outcome}
 use Rattle.errors.specs.declared.Outcome.the-variants.{Accepted, Refused}
-use Rattle.flat.specs.Flat.{stored, unflatten}
+use Rattle.flat.specs.Flat.{recordSize, stored, unflatten}
 use Rattle.reader.specs.declared.Answer.{Answer}
 
 -- accepted with a record, or refused; the record beside a refusal is the blank one
@@ -37,9 +38,17 @@ abbrev pub storing : Reply → Party → List ℕ → Into
 storing accepted p bytes = record { reply = accepted; bytes = stored p bytes }
 storing (refused k n) p bytes = record { reply = refused k n; bytes = bytes }
 
--- what a reading leaves in lent bytes
+-- what a reading leaves in bytes that are as many as a record's
+abbrev pub leaves : Reading → List ℕ → Into
+leaves r bytes = storing (r .reply) (r .party) bytes
+
+-- 42, which document 01 has not: under 241 bytes are lent for the record
+abbrev pub roomReply : ℕ → Reply
+roomReply len = must (leb recordSize len) 42 0
+
+-- what a reading leaves in lent bytes: 42 comes before everything else
 abbrev pub readInto : Reading → List ℕ → Into
-readInto r bytes = storing (r .reply) (r .party) bytes
+readInto r bytes = storing (roomReply (length bytes) then r .reply) (r .party) bytes
 
 -- an answer of the code with the bytes that it left
 abbrev pub toldInto : Outcome → List ℕ → Into

@@ -1,5 +1,5 @@
 // The readers of the eleven options: one for all, by option. What the Rust writes out in each `parse` of field50.rs and field59.rs
-// is here in parts: the first line, then a BIC or names.
+// is here in parts: the first line, then a BIC or names. The choices among options are a module.
 use errors::Outcome;
 use errors::ParseError;
 use field_utils::PartyIdentifier;
@@ -27,10 +27,13 @@ use party::limits_of;
 use swift_utils::parse_account;
 use swift_utils::parse_bic;
 use swift_utils::parse_length;
+
+pub mod choices;
+
 ghost use mathlib.Core.Path.{_≡_};
 ghost use mathlib.Core.Bool.{true, false};
 ghost use mathlib.Core.List.{List};
-ghost use Prim.Native.Nat.{ℕ, suc, _-_, _<_};
+ghost use Prim.Native.Nat.{ℕ, suc, _-_, _≤_, _<_};
 ghost use lib.ListN.{length, take, drop};
 ghost use Rattle.errors.specs.declared.Outcome.the-variants.{Accepted, Refused};
 ghost use Rattle.errors.specs.Refusals.{told};
@@ -39,7 +42,8 @@ ghost use Rattle.party.specs.Text.{partIn};
 ghost use Rattle.party.specs.Party.{blank as blankParty, partyIn};
 ghost use Rattle.party.specs.declared.First.the-variants.{Identified};
 ghost use Rattle.field_utils.specs.Lines.{lines};
-ghost use Rattle.reader.specs.Reading.{toldAnswer, answerFrom, partyOf, toldInto, readInto};
+ghost use Rattle.flat.specs.Flat.{recordSize};
+ghost use Rattle.reader.specs.Reading.{toldAnswer, answerFrom, partyOf, toldInto, leaves, readInto};
 ghost use Rattle.reader.specs.Options.{isCounted, lengthReply, accountReply, slashHead, headBy, withNames, withBic, afterHead, byLines, bicOnly, textOnly, bodyReply, readOwn, read as readOf};
 ghost use Rattle.reader.specs.Code.{toldParts, toldHead, passedHead, hasAccount, accountBy, nameless, IsRest, readingOf};
 
@@ -443,10 +447,11 @@ fn read_own(option: PartyOption, body: &[u8]) -> FoundAt
     }
 }
 
-// The option's own checks, after 12 and 13, with the record stored at the start of lent bytes, straight from the parts that were found; a
-// refusal changes none.
-pub fn read_own_into(option: PartyOption, body: &[u8], record: &mut [u8]) -> Outcome
-    ensures { λ r. ⌜ toldInto r (now («record» .exit)) ≡ readInto (readOwn option (now (body .entry))) (now («record» .entry)) ⌝ }
+// The option's own checks, after 12, 13 and 42, with the record stored at the start of lent bytes, straight from the parts that were found;
+// a refusal changes none.
+pub(crate) fn read_own_into(option: PartyOption, body: &[u8], record: &mut [u8]) -> Outcome
+    requires { ⌜ recordSize ≤ length (now «record») ⌝ }
+    ensures { λ r. ⌜ toldInto r (now («record» .exit)) ≡ leaves (readOwn option (now (body .entry))) (now («record» .entry)) ⌝ }
 {
     let found = read_own(option, body);
     let outcome = found.outcome;
@@ -458,10 +463,13 @@ pub fn read_own_into(option: PartyOption, body: &[u8], record: &mut [u8]) -> Out
     Outcome::Accepted
 }
 
-// The reader of an option, with the record stored at the start of lent bytes; a refusal changes none.
+// The reader of an option, with the record stored at the start of lent bytes; a refusal changes none. 42 where they are under 241.
 pub fn read_into(option: PartyOption, body: &[u8], record: &mut [u8]) -> Outcome
     ensures { λ r. ⌜ toldInto r (now («record» .exit)) ≡ readInto (readOf option (now (body .entry))) (now («record» .entry)) ⌝ }
 {
+    if record.len() < RECORD_SIZE {
+        return Outcome::Refused(ParseError::ShortRecord);
+    }
     let outcome = parse_body(body);
     if let Outcome::Refused(e) = outcome {
         return Outcome::Refused(e);

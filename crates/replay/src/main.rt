@@ -1,109 +1,114 @@
-// Replays the list of the Rust's answers, from standard input: asks our readers each case, and compares each answer with what is
-// expected; has our writer write each record, and compares it with what the Rust writes; and has it write each record that our readers
-// give, and compares that with the body that came, by what `kept` tells of it. Says which cases differ, and at the end how many there are
-// of each kind.
-mod answer;
-mod asked;
-mod compare;
-mod digits;
-mod keeping;
+// Replays a list of calls from standard input, through the functions that C and Rust call, and compares what each gives with what the list
+// expects: bodies read, records written and causes told of 6,000 cases of which the Rust's answers are known; then pages filled, closed,
+// read, overwritten and looked up. Says which lines differ, and at the end how many there are of each kind.
+mod cases;
+mod count;
 mod list;
-mod rules;
-mod tally;
-mod writing;
+mod pages;
+mod record;
 
-use answer::Reply;
-use answer::given_reply;
-use answer::reply_of;
-use asked::NamedQuestion;
-use asked::Question;
-use asked::ask;
-use asked::question_named;
-use compare::Difference;
-use compare::compare;
-use digits::digits_of;
-use digits::with_digits;
-use keeping::Keeping;
-use keeping::keep;
+use cases::judge;
+use count::COUNTS;
+use count::Difference;
+use count::more;
+use count::note;
+use count::print_counts;
 use libc::STDIN_FILENO;
 use libc::STDOUT_FILENO;
 use list::field;
-use list::is_plain;
-use list::line_end;
-use list::past_line;
+use list::find;
+use list::line_at;
+use list::number;
+use list::part;
+use list::past;
 use list::unescape;
-use rules::Rule;
-use rules::expect;
-use tally::Tally;
-use tally::Verdict;
-use writing::LONGEST;
-use writing::Writing;
-use writing::write;
+use page_reader::index::INDEX_SIZE;
+use pages::RECORDS;
+use pages::add;
+use pages::close;
+use pages::define;
+use pages::overwrite;
+use pages::read;
+use pages::record_line;
 
-// The verdict on a case, from its line of the list.
-fn judge(line: &[u8]) -> Verdict {
-    let NamedQuestion::Is(question) = question_named(field(line, 0), field(line, 1)) else {
-        return Verdict::Differs(Difference::Malformed);
-    };
-    let rust = given_reply(line);
-    let mut buffer = [0u8; 4096];
-    let body = unescape(field(line, 2), &mut buffer);
-    let mut written = [0u8; LONGEST];
-    let text = unescape(field(line, 13), &mut written);
-    if !is_plain(line) || !rust.whole || !body.whole || !text.whole {
-        return Verdict::Differs(Difference::Malformed);
-    }
-    let len = body.len;
-    let text_len = text.len;
-    let reply = rust.reply;
-    weigh(question, &buffer[..len], reply, &written[..text_len])
-}
-
-// The verdict on our answer, from the question, the body, what the Rust answers and the text that it writes.
-fn weigh(question: Question, body: &[u8], rust: Reply, text: &[u8]) -> Verdict {
-    let wanted = expect(question, body, rust);
-    let ours = reply_of(ask(question, body));
-    let rule = wanted.rule;
-    let reply = wanted.reply;
-    match compare(with_digits(reply, body), ours) {
-        Difference::Nothing => settle(
-            rule,
-            write(rust, digits_of(body), text),
-            keep(question, body, ours),
-        ),
-        found => Verdict::Differs(found),
+// A call on a page, by its line and the line of the record that it names.
+fn play_page(
+    line: &[u8],
+    record: &[u8],
+    buf: &mut [u8],
+    position: &mut usize,
+    index: &mut [u32; INDEX_SIZE],
+    counts: &mut [u64; COUNTS],
+) -> Difference {
+    match number(line, 0) {
+        4 => {
+            index[0] = 0;
+            *position = 0;
+            Difference::Nothing
+        }
+        5 | 6 => add(line, record, buf, position, index, counts),
+        7 => close(line, buf, position),
+        8 | 9 => read(line, record, part(buf, 0, *position), index, counts),
+        10 => overwrite(line, buf, position, counts),
+        _ => Difference::Malformed,
     }
 }
 
-// The verdict where our answer is as expected.
-fn settle(rule: Rule, writing: Writing, keeping: Keeping) -> Verdict {
-    if let Writing::Differs = writing {
-        return Verdict::Differs(Difference::Written);
-    }
-    if let Keeping::Differs = keeping {
-        return Verdict::Differs(Difference::Kept);
-    }
-    Verdict::Agrees(rule, writing, keeping)
+// Prints the text of a line, with counts.
+fn say(line: &[u8], counts: &[u64; COUNTS]) -> Difference {
+    let mut text = io::buffer();
+    let len = unescape(field(line, 1), &mut text, 0);
+    print_counts(&text[..len], counts);
+    Difference::Nothing
 }
 
-// Every line but the comments is a case.
-fn replay(list: &[u8]) -> Tally {
-    let mut tally = Tally::new();
+// Plays the line that starts at a place of the list.
+fn play(
+    list: &[u8],
+    at: usize,
+    buf: &mut [u8],
+    position: &mut usize,
+    index: &mut [u32; INDEX_SIZE],
+    starts: &mut [usize; RECORDS],
+    counts: &mut [u64; COUNTS],
+) -> Difference {
+    let line = line_at(list, at);
+    if 0 < line.len() && line[0] == b'#' {
+        return Difference::Nothing;
+    }
+    match number(line, 0) {
+        0 | 1 | 2 => judge(line, counts),
+        3 => define(starts, at),
+        11 => say(line, counts),
+        call => {
+            let n = number(line, if call < 8 { 3 } else { 6 });
+            let record = record_line(list, starts, n);
+            play_page(line, record, buf, position, index, counts)
+        }
+    }
+}
+
+// Every line but the comments is played.
+fn replay(list: &[u8], buf: &mut [u8], counts: &mut [u64; COUNTS]) {
+    let mut index = [0u32; INDEX_SIZE];
+    let mut starts = [0usize; RECORDS];
+    let mut position = 0;
+    let mut lines = 0;
     let mut at = 0;
     while at < list.len() {
-        let end = line_end(list, at);
-        let line = &list[at..end];
-        tally = tally.next_line();
-        if !is_comment(line) {
-            tally = tally.note(judge(line));
-        }
-        at = past_line(list, at);
+        lines = more(lines);
+        let difference = play(
+            list,
+            at,
+            buf,
+            &mut position,
+            &mut index,
+            &mut starts,
+            counts,
+        );
+        note(difference, lines, counts);
+        at = past(list, find(list, at, b'\n'));
     }
-    tally
-}
-
-fn is_comment(line: &[u8]) -> bool {
-    0 < line.len() && line[0] == b'#'
 }
 
 // Reads the list into the room for it, and replays it.
@@ -113,7 +118,9 @@ fn run(room: &mut [u8]) {
         io::write_all(STDOUT_FILENO, b"error: the list is too long\n");
         return;
     }
-    replay(&room[..len]).print();
+    let mut buf = io::large_buffer();
+    let mut counts = [0u64; COUNTS];
+    replay(&room[..len], &mut buf, &mut counts);
 }
 
 // By reference the array has its length from its type; a proof that counts so many bytes would be too deep.

@@ -1,5 +1,5 @@
 -- The bodies whose account 50H takes and the Rust does not: what the options say of them. Assumes nothing.
-use mathlib.Core.Path.{_≡_, refl, sym, _∙_, ap}
+use mathlib.Core.Path.{_≡_, sym, _∙_, ap}
 use mathlib.Core.Bool.{Bool, true, false, not, and-eq-true-iff, false≢true}
 use mathlib.Core.List.{List, [], _∷_}
 use mathlib.Core.Option.{some}
@@ -12,17 +12,17 @@ use Rattle.errors.specs.Refusals.{Reply, accepted, refused, must, _then_}
 use Rattle.errors.proofs.Replies.{refused≢accepted, must-held, then-first, then-second, then-assoc}
 use Rattle.party.specs.declared.PartyOption.{PartyOption}
 use Rattle.party.specs.declared.PartyOption.the-variants.{Field50F, Field50G, Field50H}
-use Rattle.party.specs.declared.Party.{Party}
 use Rattle.party.specs.declared.Numbering.the-variants.{Unnumbered}
 use Rattle.swift_utils.specs.Bytes.{between, all, legal}
 use Rattle.swift_utils.specs.Checks.{parseSwiftChars, parseAccount}
 use Rattle.field_utils.specs.Lines.{lines, starts}
 use Rattle.field_utils.specs.Names.{parseLine, parseLines, parseCount, parseNameAndAddress}
 use Rattle.reader.specs.Reading.{Reading, giving, Found, partyOf}
+use Rattle.reader.proofs.Readings.{giving-reply}
 use Rattle.reader.specs.Options.{accountReply, isCounted, afterHead, byLines, bodyReply, read}
 use Rattle.reader.specs.Code.{readingOf}
 use Rattle.reader.proofs.Bodies.{body-passed}
-use Rattle.choices.specs.Detection.{firstLine}
+use Rattle.reader.specs.Detection.{firstLine}
 use Rattle.swift_mt_message.specs.Std.{Str, slash}
 use Rattle.swift_mt_message.specs.Equal.{asParty, illegalAccount}
 use Rattle.swift_mt_message.proofs.Bodies.{names-party, kept-whole}
@@ -43,12 +43,8 @@ illegal ls e =
     record { two = c .0; slashed = c .1; fits = b .1; other = not-true _ (a .1) }
 
 -- the reply of a reading
-given : (r : Reply) (p : Party) → giving r p .reply ≡ r
-given accepted p = refl
-given (refused k n) p = refl
-
 replied : (o : PartyOption) (f : Found) → readingOf o f .reply ≡ f .reply
-replied o f = given (f .reply) (partyOf o f)
+replied o f = giving-reply (f .reply) (partyOf o f)
 
 -- an account or identifier that passes is of legal bytes
 passes : (shortest longest : ℕ) (s : Str) → parseAccount shortest longest 1 s ≡ accepted → all legal s ≡ true
@@ -116,4 +112,4 @@ module _ (body : Str) (q : bodyReply body ≡ accepted) (i : Illegal (lines body
 
   pub differs : read Field50H body .reply ≡ refused 3 1 → ⊥
   unfolding parseNameAndAddress
-  differs e = never 2 1 (length (drop 1 (lines body))) (drop 1 (lines body)) (omega arith) (sym (ap (λ (r : Reading). r .reply) reads-on ∙ given (parseNameAndAddress Field50H 2 (drop 1 (lines body))) _) ∙ e)
+  differs e = never 2 1 (length (drop 1 (lines body))) (drop 1 (lines body)) (omega arith) (sym (ap (λ (r : Reading). r .reply) reads-on ∙ giving-reply (parseNameAndAddress Field50H 2 (drop 1 (lines body))) _) ∙ e)

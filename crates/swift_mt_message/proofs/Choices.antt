@@ -19,12 +19,12 @@ use Rattle.field_utils.specs.Trim.{trimmed}
 use Rattle.field_utils.specs.Identifier.{isNumbered}
 use Rattle.reader.specs.Reading.{Reading}
 use Rattle.reader.specs.Options.{bodyReply, read}
-use Rattle.choices.specs.declared.Choice.{Choice}
-use Rattle.choices.specs.declared.Choice.the-variants.{Field50InstructingParty, Field50OrderingCustomerFGH, Field50OrderingCustomerAFK, Field50OrderingCustomerNCF, Field50Creditor, Field59, Field59Debtor}
-use Rattle.choices.specs.Detection.{anyNumbered, firstLine, testLine}
-use Rattle.choices.specs.Choices.{trialsOf, triedText, wanted, refusing, when, orElse, firstThat, parse, letterReply, optionsOf, pickOf, parseWithVariant}
-use Rattle.choices.proofs.Trials.{by-choice, check-passed}
-use Rattle.choices.proofs.Trimmed.{trimmed-body}
+use Rattle.reader.specs.declared.choices.Choice.{Choice}
+use Rattle.reader.specs.declared.choices.Choice.the-variants.{Field50InstructingParty, Field50OrderingCustomerFGH, Field50OrderingCustomerAFK, Field50OrderingCustomerNCF, Field50Creditor, Field59, Field59Debtor}
+use Rattle.reader.specs.Detection.{anyNumbered, firstLine, testLine}
+use Rattle.reader.specs.Choices.{trialsOf, triedText, wanted, refusing, when, orElse, firstThat, parse, letterReply, optionsOf, pickOf, parseWithVariant}
+use Rattle.reader.proofs.Trials.{by-choice, check-passed}
+use Rattle.reader.proofs.Trimmed.{trimmed-body}
 use Rattle.swift_mt_message.specs.Std.{Str, slash, Result, Ok, Err, Panic, if-ok, arm}
 use Rattle.swift_mt_message.specs.Field50 as rust50
 use Rattle.swift_mt_message.specs.Field59 as rust59

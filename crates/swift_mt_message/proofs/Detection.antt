@@ -12,7 +12,7 @@ use Rattle.swift_utils.specs.Checks.{bicLength}
 use Rattle.field_utils.specs.Lines.{starts}
 use Rattle.field_utils.specs.Trim.{trimmedStart, trimmedEnd, trimmed}
 use Rattle.field_utils.specs.Identifier.{isNumbered}
-use Rattle.choices.specs.Detection.{anyNumbered, firstLine, lastLine, bicLike, lastIsBic, testLine}
+use Rattle.reader.specs.Detection.{anyNumbered, firstLine, lastLine, bicLike, lastIsBic, testLine}
 use Rattle.swift_mt_message.specs.Std.{Str, slash, Ok, _and-then_, _and_, any, nth, equals, unwrap, at, is-digit, is-alphanumeric}
 use Rattle.swift_mt_message.specs.Field50.{numbered, last-is-bic, is-variant, no-variant}
 use Rattle.swift_mt_message.specs.Field59 as rust

@@ -17,10 +17,10 @@ use Rattle.field_utils.specs.Lines.{lines}
 use Rattle.field_utils.proofs.Tests.{either-left, either-right}
 use Rattle.reader.specs.Reading.{Reading, giving, partyOf}
 use Rattle.reader.specs.Options.{bodyReply, foundBy, read}
-use Rattle.choices.specs.declared.Choice.{Choice}
-use Rattle.choices.specs.Choices.{triedText, refusing, parse, letterReply, optionsOf, pickOf, parseWithVariant}
-use Rattle.choices.proofs.Trials.{by-choice}
-use Rattle.choices.proofs.Every.{Each, parse-by, variant-by}
+use Rattle.reader.specs.declared.choices.Choice.{Choice}
+use Rattle.reader.specs.Choices.{triedText, refusing, parse, letterReply, optionsOf, pickOf, parseWithVariant}
+use Rattle.reader.proofs.Trials.{by-choice}
+use Rattle.reader.proofs.Every.{Each, parse-by, variant-by}
 use Rattle.swift_mt_message.specs.Std.{Str}
 use Rattle.swift_mt_message.specs.Equal.{renumberedBy, renumbered, renumber, rustParse, rustParseWithVariant, illegalAccount, byAccount, has50F, FGH, Equal}
 use Rattle.swift_mt_message.proofs.Accounts.{illegal, reads-on, differs}

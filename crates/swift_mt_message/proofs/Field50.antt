@@ -23,8 +23,8 @@ use Rattle.reader.specs.Options.{noHead, head, identifierHead, accountReply, sl
 use Rattle.reader.specs.Code.{readingOf}
 use Rattle.reader.proofs.Bodies.{body-passed}
 use Rattle.reader.proofs.Heads.{account-none, account-some}
-use Rattle.choices.specs.Detection.{firstLine}
-use Rattle.choices.specs.Choices.{refusing}
+use Rattle.reader.specs.Detection.{firstLine}
+use Rattle.reader.specs.Choices.{refusing}
 use Rattle.swift_mt_message.specs.Std.{Str, slash, newline, Result, Ok, _and-then_, err-if, is-empty, slice-from, starts-with}
 use Rattle.swift_mt_message.specs.Std as S
 use Rattle.swift_mt_message.specs.SwiftUtils.{parse-swift-chars}

@@ -15,3 +15,4 @@ pub mod Writing
 pub mod Values
 pub mod Panics
 pub mod Listed
+pub mod Witness

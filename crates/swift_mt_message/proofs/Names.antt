@@ -16,7 +16,7 @@ use Rattle.party.specs.declared.Numbering.the-variants.{Unnumbered, Numbered, I
 use Rattle.swift_utils.specs.Bytes.{between, digit}
 use Rattle.field_utils.specs.Identifier.{isNumbered}
 use Rattle.field_utils.specs.Names.{parseLine, parseLines, parseCount, parseNameAndAddress, kept}
-use Rattle.field_utils.proofs.Tests.{numbered-room}
+use Rattle.field_utils.proofs.NameLines.{numbered-room}
 use Rattle.swift_mt_message.specs.Std.{Str, slash, Result, Ok, _and-then_, err-if, _or_, for-from, is-empty, push, nth, is-some-and, equals, unwrap, to-digit, is-digit}
 use Rattle.swift_mt_message.specs.Std as S
 use Rattle.swift_mt_message.specs.SwiftUtils.{parse-swift-chars}

@@ -10,8 +10,8 @@ use Rattle.party.specs.declared.PartyOption.the-variants.{Field50NoOption, Fiel
 use Rattle.party.specs.declared.Party.{Party}
 use Rattle.reader.specs.Reading.{Reading}
 use Rattle.reader.specs.Options.{bodyReply}
-use Rattle.choices.specs.declared.Choice.{Choice}
-use Rattle.choices.specs.declared.Choice.the-variants.{Field50InstructingParty, Field50OrderingCustomerFGH, Field50OrderingCustomerAFK, Field50OrderingCustomerNCF, Field50Creditor, Field59, Field59Debtor}
+use Rattle.reader.specs.declared.choices.Choice.{Choice}
+use Rattle.reader.specs.declared.choices.Choice.the-variants.{Field50InstructingParty, Field50OrderingCustomerFGH, Field50OrderingCustomerAFK, Field50OrderingCustomerNCF, Field50Creditor, Field59, Field59Debtor}
 use Rattle.swift_mt_message.specs.Std.{Str, Result, Ok, Err, Panic, arm}
 use Rattle.swift_mt_message.specs.Field50 as rust50
 use Rattle.swift_mt_message.specs.Field59 as rust59

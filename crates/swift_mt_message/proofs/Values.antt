@@ -27,10 +27,10 @@ use Rattle.field_utils.specs.Names.{skipOf}
 use Rattle.field_utils.proofs.Tests.{both-left}
 use Rattle.reader.specs.Reading.{Reading, giving, partyOf}
 use Rattle.reader.specs.Options.{bodyReply, foundBy, read}
-use Rattle.choices.specs.declared.Choice.{Choice}
-use Rattle.choices.specs.declared.Choice.the-variants.{Field50InstructingParty, Field50OrderingCustomerFGH, Field50OrderingCustomerAFK, Field50OrderingCustomerNCF, Field50Creditor, Field59, Field59Debtor}
-use Rattle.choices.specs.Choices.{refusing, parse, optionsOf}
-use Rattle.choices.proofs.Every.{every-parse, every-variant}
+use Rattle.reader.specs.declared.choices.Choice.{Choice}
+use Rattle.reader.specs.declared.choices.Choice.the-variants.{Field50InstructingParty, Field50OrderingCustomerFGH, Field50OrderingCustomerAFK, Field50OrderingCustomerNCF, Field50Creditor, Field59, Field59Debtor}
+use Rattle.reader.specs.Choices.{refusing, parse, optionsOf}
+use Rattle.reader.proofs.Every.{every-parse, every-variant}
 use Rattle.writer.specs.Writing.{numberOf, nameLines}
 use Rattle.writer.specs.Given.{Given, every, isAccount, isBic, areNames}
 use Rattle.writer.proofs.Relined.{All}

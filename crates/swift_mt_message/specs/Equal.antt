@@ -21,10 +21,10 @@ use Rattle.field_utils.specs.Lines.{lines, starts}
 use Rattle.field_utils.specs.Names.{parseNameAndAddress}
 use Rattle.reader.specs.Reading.{Reading, giving, partyOf}
 use Rattle.reader.specs.Options.{read}
-use Rattle.choices.specs.declared.Choice.{Choice}
-use Rattle.choices.specs.declared.Choice.the-variants.{Field50OrderingCustomerFGH}
-use Rattle.choices.specs.Detection.{firstLine}
-use Rattle.choices.specs.Choices.{refusing, firstThat, parse, letterReply, optionsOf, parseWithVariant}
+use Rattle.reader.specs.declared.choices.Choice.{Choice}
+use Rattle.reader.specs.declared.choices.Choice.the-variants.{Field50OrderingCustomerFGH}
+use Rattle.reader.specs.Detection.{firstLine}
+use Rattle.reader.specs.Choices.{refusing, firstThat, parse, letterReply, optionsOf, parseWithVariant}
 use Rattle.swift_mt_message.specs.Std.{Str, Result, Ok, Err, Panic, is-some}
 use Rattle.swift_mt_message.specs.Structs.{Struct, Parts, partsOf}
 use Rattle.swift_mt_message.specs.Structs as structs

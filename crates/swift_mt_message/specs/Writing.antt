@@ -16,8 +16,8 @@ use Rattle.party.specs.Text.{Used, used}
 use Rattle.party.specs.Party.{Said, namesOf, said, Same}
 use Rattle.reader.specs.Reading.{Reading}
 use Rattle.reader.specs.Options.{read}
-use Rattle.choices.specs.declared.Choice.{Choice}
-use Rattle.choices.specs.Choices.{parse, letterReply, parseWithVariant}
+use Rattle.reader.specs.declared.choices.Choice.{Choice}
+use Rattle.reader.specs.Choices.{parse, letterReply, parseWithVariant}
 use Rattle.writer.specs.Writing.{writtenField, identified59F}
 use Rattle.writer.specs.Given.{Given}
 use Rattle.swift_mt_message.specs.Std.{Str, Result, Ok}

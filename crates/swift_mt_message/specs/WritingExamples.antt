@@ -15,7 +15,7 @@ use Rattle.field_utils.specs.Names.{parseLine, parseLines, parseNameAndAddress}
 use Rattle.field_utils.specs.Tags.{tagOf}
 use Rattle.reader.specs.Reading.{partyOf}
 use Rattle.reader.specs.Options.{afterHead, read}
-use Rattle.choices.specs.declared.Choice.the-variants.{Field50InstructingParty, Field50OrderingCustomerFGH, Field50OrderingCustomerAFK, Field50OrderingCustomerNCF, Field50Creditor, Field59, Field59Debtor}
+use Rattle.reader.specs.declared.choices.Choice.the-variants.{Field50InstructingParty, Field50OrderingCustomerFGH, Field50OrderingCustomerAFK, Field50OrderingCustomerNCF, Field50Creditor, Field59, Field59Debtor}
 use Rattle.writer.specs.Writing.{nameLines, writtenLines, joined, writtenBody, writtenField}
 use Rattle.swift_mt_message.specs.Std.{Ok, _and-then_}
 use Rattle.swift_mt_message.specs.Std as std

@@ -23,6 +23,7 @@ use Rattle.swift_utils.proofs.Checks.{bicLength-least}
 use Rattle.field_utils.specs.Lines.{lines, isEmpty}
 use Rattle.field_utils.proofs.Tests.{both-left, both-right, Line}
 use Rattle.reader.specs.Reading.{giving, partyOf}
+use Rattle.reader.proofs.Readings.{giving-reply}
 use Rattle.reader.specs.Options.{accountReply, ascii, bodyReply, byLines, foundBy, read, bodyMost}
 use Rattle.writer.specs.Writing.{nameLines, writtenLines, joined, writtenBody, pieces}
 use Rattle.writer.specs.Given.{isAccount, isBic}
@@ -42,10 +43,6 @@ pub record Accepted (o : PartyOption) (body : List ℕ) : Type 0 where
   pub fits : bodyReply body ≡ accepted
   pub good : GoodIn o (readLines (limitsOf o .layout) body) (foundBy (limitsOf o .layout) o body)
   pub says : said (read o body .party) ≡ saying o (foundBy (limitsOf o .layout) o body)
-
-pub giving-reply : (r : Reply) (p : Party) → giving r p .reply ≡ r
-giving-reply accepted p = refl
-giving-reply (refused k n) p = refl
 
 giving-party : (r : Reply) (p : Party) → r ≡ accepted → giving r p .party ≡ p
 giving-party r p e = rw e

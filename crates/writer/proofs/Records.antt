@@ -22,7 +22,8 @@ use Rattle.swift_utils.specs.Checks.{parseSwiftChars, parseAccount}
 use Rattle.swift_utils.specs.Classes.{plain}
 use Rattle.field_utils.specs.Identifier.{isNumbered}
 use Rattle.field_utils.specs.Names.{skipOf, parseNumber, parseLine, parseLines, parseCount, parseNameAndAddress}
-use Rattle.field_utils.proofs.NameLines.{and-first, number-room, number-legal}
+use Rattle.field_utils.proofs.NameLines.{number-room, number-legal}
+use Rattle.field_utils.proofs.Tests.{both-left}
 use Rattle.reader.specs.Options.{accountReply, lengthReply, ascii}
 use Rattle.writer.specs.Writing.{numberOf, nameLines}
 use Rattle.writer.specs.Given.{passes, every, isLine, textReply, isPresence, isBic, areNames, isTaken, isGiven}
@@ -93,7 +94,7 @@ turn-room InTurn k d x e = number-room InTurn k k x (passed (parseNumber InTurn 
 kept-legal : (f : Numbering) (k d : ℕ) (x : List ℕ) → inTurn f k d x ≡ true → all legal (drop (numberIn f) x) ≡ all legal x
 kept-legal Unnumbered k d x e = refl
 kept-legal Numbered k d x e = refl
-kept-legal InTurn k d x e = number-legal x (and-first (isNumbered x) (eqb (getD x 0 0) (48 + k)) (sym (turn-kept k d x) ∙ e))
+kept-legal InTurn k d x e = number-legal x (both-left (isNumbered x) (eqb (getD x 0 0) (48 + k)) (sym (turn-kept k d x) ∙ e))
 
 kept-text : (f : Numbering) (d : ℕ) (x : List ℕ) → drop (skipOf f) (numberOf f d ++ x) ≡ drop (numberIn f) x
 kept-text Unnumbered d x = refl

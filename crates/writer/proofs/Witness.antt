@@ -33,7 +33,7 @@ use Rattle.writer.proofs.Facts.{Facts, names-are, account-line, account
 use Rattle.writer.proofs.Written.{firstBytes, accountBytes, foundOf}
 
 -- ---- the record of what is found in its lines says what it says
-where-yes : (limit : ℕ) (us : List Used) → ltb 0 limit ≡ true → where-limit limit us ≡ us
+pub where-yes : (limit : ℕ) (us : List Used) → ltb 0 limit ≡ true → where-limit limit us ≡ us
 where-yes limit us e = rw (e, where-limit)
 
 where-no : (limit : ℕ) (us : List Used) → ltb 0 limit ≡ false → where-limit limit us ≡ []

@@ -16,12 +16,12 @@ use Rattle.party.specs.Party.{said}
 use Rattle.reader.specs.declared.Answer.{Answer}
 use Rattle.swift_utils.specs.Bytes.{all}
 use Rattle.field_utils.specs.Lines.{lines}
-use Rattle.reader.specs.Reading.{Reading, toldAnswer, Into, storing as readingInto, readInto, toldInto}
+use Rattle.reader.specs.Reading.{Reading, toldAnswer, Into, storing as readingInto, roomReply, readInto, toldInto}
 use Rattle.reader.specs.Options.{ascii, bodyMost, bodyReply, read}
 use Rattle.reader.proofs.LineCounts.{lines-most}
-use Rattle.choices.specs.declared.Choice.{Choice}
-use Rattle.choices.specs.Choices.{triedText, refusing, parse, optionsOf, parseWithVariant}
-use Rattle.choices.proofs.Every.{each, parse-by, variant-by, every-parse, every-variant}
+use Rattle.reader.specs.declared.choices.Choice.{Choice}
+use Rattle.reader.specs.Choices.{triedText, refusing, parse, optionsOf, parseWithVariant}
+use Rattle.reader.proofs.Every.{each, parse-by, variant-by, every-parse, every-variant}
 use Rattle.profile.specs.Profile.{holdsBic, isInside, linesReply, profileReply, profiled, readProfiled, parseProfiled, parseWithVariantProfiled}
 use Rattle.writer.specs.declared.Measured.{Measured as MeasuredAs}
 use Rattle.writer.specs.Writing.{fieldMost, writtenField, fits}
@@ -74,13 +74,16 @@ pub reads : (known : Bool) (r : Reading) (bytes : List ℕ) (o : Outcome) {out :
     → _≡_ {A = Called} (record { code = n; bytes = out }) (given known r bytes)
 reads known r bytes o {out} {n} e i c =
     ap {B = Called} (λ (k : ℕ). record { code = k; bytes = out }) c
-    ∙ ap {B = Called} (λ (x : Into). record { code = codeOf (x .reply); bytes = x .bytes }) i
+    ∙ ap {B = Called} (λ (x : Into). record { code = codeOf (x .reply); bytes = x .bytes })
+    (i ∙ ap (λ (t : Reply). readingInto (t then r .reply) (r .party) bytes) (then-first (roomReply (length bytes)) (must known 41 0) e))
     ∙ into (r .reply) (r .party) bytes
     ∙ sym (ap (λ (t : Reply). asked t (storing (r .reply) (r .party) bytes) bytes) e)
 
--- and what is said of it is what the reading says
+-- and what is said of it is 42, or what the reading says
 pub reads-named : (r : Reading) (bytes : List ℕ) (o : Outcome) {out : List ℕ} → toldInto o out ≡ readInto r bytes → Named (r .reply) → Named (told o)
-reads-named r bytes o i h = subst Named (sym (ap (λ (x : Into). x .reply) i ∙ by (r .reply))) h
+reads-named r bytes o i h =
+    subst Named (sym (ap (λ (x : Into). x .reply) i ∙ by (roomReply (length bytes) then r .reply)))
+    (must-then (leb recordSize (length bytes)) 42 0 (r .reply) (omega arith) (omega arith) h)
   where
     by : (t : Reply) → readingInto t (r .party) bytes .reply ≡ t
     by accepted = refl

@@ -43,6 +43,17 @@ code-none c = go (c .«inner_cr») (c .«last_lf») (c .«after_bic») (c .blank
     go false false false false true = refl
     go false false false false false = refl
 
+-- it is below 32
+pub causes-most : (c : Causes) → causesCode c < 32
+causes-most c = go (c .«inner_cr») (c .«last_lf») (c .«after_bic») (c .blanks) (c .«closing_cr»)
+  where
+    few : (t : Bool) (n : ℕ) → cause t n ≤ n
+    few true n = omega arith
+    few false n = omega arith
+
+    go : (p q r s t : Bool) → cause p 1 + cause q 2 + cause r 4 + cause s 8 + cause t 16 < 32
+    go p q r s t = omega (arith, few p 1, few q 2, few r 4, few s 8, few t 16)
+
 -- no two causes tell the same number
 cause-bit : (t : Bool) (n : ℕ) → cause t n ≡ n * bit t
 cause-bit true n = omega arith

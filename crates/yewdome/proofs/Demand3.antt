@@ -19,17 +19,17 @@ use Rattle.page_reader.proofs.Entries.{found-here}
 use Rattle.page_reader.proofs.Moves.{next-most}
 use Rattle.page_writer.specs.Beside.{Beside, noIndex, anIndex, noting}
 use Rattle.page_writer.specs.Adding.{writable, endLine, Filed, positionAfter, refusal, Call, putting, withLf, asked, recordReply, addReply, add, entryFor, addIndex}
-use Rattle.page_writer.specs.Fold.{Step, Run, acceptedOf}
+use Rattle.page_writer.specs.Fold.{Step, Run, run, acceptedOf}
 use Rattle.page_writer.specs.WholePage.{OpenPage, lastGiven as lastOf, addStep as addParty, isAccepted, Field, kept, new, pageOf, readNew, Gives as GivesField, ReadsAs, Overwrites}
 use Rattle.page_writer.specs.Indexed.{IsEmpty, IndexedBeside}
-use Rattle.page_writer.specs.Demand3.{adds as partyAdds, acceptedAdds, closing as closingOf}
+use Rattle.page_writer.specs.Demand3.{adds as partyAdds, acceptedAdds, closing as closingOf, ListedPage}
 use Rattle.page_writer.proofs.Fold.{run-map, alike, accepted-map}
 use Rattle.page_writer.proofs.Theorems.{whole-page}
 use Rattle.flat.specs.Flat.{recordSize, isFlat, unflatten}
 use Rattle.flat.proofs.Laws.{loaded-not}
-use Rattle.yewdome.specs.Interface.{Called, codeOf, recordReply as lentRecord, readCode, readInto, pageRead, filedCode, filed, pageAdd, pageAddIndex, pageClose}
+use Rattle.yewdome.specs.Interface.{Called, codeOf, recordReply as lentRecord, asked as askedCall, codeOr, readCode, readInto, pageRead, filedCode, filed, pageAdd, pageAddIndex, pageClose}
 use Rattle.yewdome.specs.Code.{Named, Within}
-use Rattle.yewdome.specs.Demand3.{isPosition, lastGiven, addStep, adds, records, closing, page, movedBy, Gives, Reads, ExportedBeside, ExportedPage}
+use Rattle.yewdome.specs.Demand3.{isPosition, lastGiven, addStep, adds, records, closing, page, movedBy, Gives, Reads, ExportedBeside, answersOf, ExportedPage}
 use Rattle.yewdome.proofs.Pages.{add-within, close-within, onward-from}
 use Rattle.yewdome.proofs.Looks.{look-read}
 use Rattle.yewdome.proofs.Theorems.{lent-named, page-loads, read-moved}
@@ -108,6 +108,26 @@ step-alike s t l e =
     (let h = add-agrees l (s .buffer) (s .position) (s .index) in
     agreed (pageAdd l (s .buffer) (s .position) (s .index) .code) (s .position) (add (s .buffer) (s .position) (s .index) (said (unflatten l)) .answer) (h .0) (h .1) (h .2))
 
+-- the number of an add, by what the record's add answers
+code-by : (l : List ℕ) (s : OpenPage) → addStep s l .answer ≡ codeOr (lentRecord l) (filedCode (partyStep s l .answer))
+code-by l s = go (lentRecord l)
+  where
+    c : Called
+    c = filed (add (s .buffer) (s .position) (s .index) (said (unflatten l)))
+
+    go : (t : Reply) → askedCall t c (s .buffer) .code ≡ codeOr t (c .code)
+    go accepted = refl
+    go (refused k n) = refl
+
+-- those of a run
+answers-are : (s : OpenPage) (ls : List (List ℕ)) → run addStep s ls .answers ≡ answersOf ls (run partyStep s ls .answers)
+unfolding run answersOf
+answers-are s [] = refl
+answers-are s (l ∷ ls) =
+    let c = partyStep s l .state in
+    let later : run addStep (addStep s l .state) ls .answers ≡ answersOf ls (run partyStep c ls .answers) = ap (λ (t : OpenPage). run addStep t ls .answers) (step-alike s s l refl .0) ∙ answers-are c ls in
+    λ i. code-by l s i ∷ later i
+
 -- ---- reading
 module _ (page : List ℕ) (at : ℕ) (into : List ℕ) (i : recordSize ≤ length into) where
   read-is : {r : PageRead} → readAt page at ≡ r → pageRead page at into ≡ readInto r at into
@@ -184,24 +204,34 @@ module _ (b : Beside) (empty : IsEmpty b) (lents : List (List ℕ)) (buffer : Li
           let w : Named (refused k n) = subst Within e (close-within (left .buffer) (left .position)) in
           absurd (false≢true (sym (above (codeOf (refused k n)) (omega (arith, w .0))) ∙ (ap isPosition (sym (code-is ∙ ap filedCode e)) ∙ h)))
 
+  listed : ListedPage (adds b lents buffer .state) (records b lents buffer) buffer
+  listed =
+      subst (λ (s : OpenPage). ListedPage s (records b lents buffer) buffer) (sym (alike-run .0))
+      (subst (λ (x : List Party). ListedPage left x buffer) (sym list) (whole-page b empty ps buffer .listed))
+
   pub exported-page : ExportedPage b lents buffer
   exported-page = record {
+    state = alike-run .0;
+    accepted-adds = list;
+    answers = answers-are (record { buffer = buffer; position = 0; index = b }) lents
+        ∙ ap (λ (r : Run OpenPage Filed). answersOf lents (r .answers)) (run-map addParty unflatten (record { buffer = buffer; position = 0; index = b }) lents);
+    listed = listed;
     reads = λ h.
         let c = closed h in
         subst (λ (x : List ℕ). Reads x 0 (map kept (records b lents buffer))) (sym (c .2))
-        (reads _ 0 (map kept (records b lents buffer)) (subst (λ (x : List Party). ReadsAs (take (c .0) (closingOf b ps buffer .buffer)) 0 (map kept x) theEnd) (sym list) (whole-page b empty ps buffer .closed (c .1) .reads)));
+        (reads _ 0 (map kept (records b lents buffer)) (subst (λ (x : List Party). ReadsAs (take (c .0) (closingOf b ps buffer .buffer)) 0 (map kept x) theEnd) (sym list) (whole-page b empty ps buffer .listed .closed (c .1) .reads)));
     open-looks = subst (λ (s : OpenPage). ExportedBeside (s .index) (take (s .position) (s .buffer)) (records b lents buffer)) (sym (alike-run .0))
         (subst (λ (x : List Party). ExportedBeside (left .index) (take (left .position) (left .buffer)) x) (sym list)
-        (looks-as (left .index) _ (acceptedAdds b ps buffer) (whole-page b empty ps buffer .opened .indexed)));
+        (looks-as (left .index) _ (acceptedAdds b ps buffer) (whole-page b empty ps buffer .listed .opened .indexed)));
     looks = λ h.
         let c = closed h in
         subst (λ (s : OpenPage). ExportedBeside (s .index) (page b lents buffer) (records b lents buffer)) (sym (alike-run .0))
         (subst (λ (x : List ℕ). ExportedBeside (left .index) x (records b lents buffer)) (sym (c .2))
         (subst (λ (x : List Party). ExportedBeside (left .index) (take (c .0) (closingOf b ps buffer .buffer)) x) (sym list)
-        (looks-as (left .index) _ (acceptedAdds b ps buffer) (whole-page b empty ps buffer .closed (c .1) .indexed))));
+        (looks-as (left .index) _ (acceptedAdds b ps buffer) (whole-page b empty ps buffer .listed .closed (c .1) .indexed))));
     closes = λ n.
-        let e = whole-page b empty ps buffer .closes n in
+        let e = whole-page b empty ps buffer .listed .closes n in
         let w = subst Within e (close-within (left .buffer) (left .position)) in
         ap isPosition (code-is ∙ ap filedCode e) ∙ below (left .position + 2) (omega (arith, w));
-    overwritten = λ fs o m. reads (pageOf fs endLine) 0 fs (whole-page b empty ps buffer .overwritten fs (subst (λ (x : List Party). Overwrites x fs) list o) m);
+    overwritten = λ fs o m. reads (pageOf fs endLine) 0 fs (whole-page b empty ps buffer .listed .overwritten fs (subst (λ (x : List Party). Overwrites x fs) list o) m);
   }

@@ -28,11 +28,11 @@ use Rattle.page_reader.proofs.Cases.{runs-most}
 use Rattle.page_reader.proofs.Runs.{Closed, runs-closed}
 use Rattle.page_reader.proofs.Moves.{fieldAt, next-most}
 use Rattle.page_reader.proofs.Records.{Gave, refusal≢record, end≢record, record-gave, end-gave, end-first}
-use Rattle.page_writer.specs.Adding.{anyBoundary, isCarried, hasSpace, withLf, endLine, Filed, positionAfter, refusal, asked, recordReply}
+use Rattle.page_writer.specs.Adding.{anyBoundary, isCarried, hasSpace, withLf, endLine, Filed, positionAfter, refusal, asked, Tally, tallied, recordReply}
 use Rattle.page_writer.specs.WholePage.{OpenPage, addStep, isAccepted, Model, modelBy, modelStep, kept, pageOf}
 use Rattle.page_writer.specs.Beside.{noIndex}
 use Rattle.page_writer.specs.Fold.{Step, run, acceptedOf}
-use Rattle.page_writer.specs.Demand3.{adds, acceptedAdds, closing, WholePage}
+use Rattle.page_writer.specs.Demand3.{adds, acceptedAdds, closing, ListedPage}
 use Rattle.page_writer.proofs.Pieces.{upToBoundary, runs-cut}
 use Rattle.page_writer.proofs.Structure.{Lined, Sound, page-tail, ending, reads as sound-reads}
 use Rattle.page_writer.proofs.Records.{tagged-lined}
@@ -201,23 +201,19 @@ came (suc n) page at e = go (isLast r at) refl (readsFrom n page (r .next)) refl
 
 -- ---- the adds of records that a page carries, with room for all of them, are all accepted
 module _ (len : ℕ) where
-  fit-accepted : (p : Party) (at : ℕ) → Fit p → at + length (withLf (writtenField (said p))) + 2 ≤ min len pageMost → recordReply len at true (said p) ≡ accepted
+  fit-accepted : (p : Party) (t : Tally) → Fit p → t .position + length (withLf (writtenField (said p))) + 2 ≤ min len pageMost → recordReply len false t (said p) ≡ accepted
   unfolding recordReply asked
-  fit-accepted p at f h = rw (f .given, f .carried, le-leb (at + length (withLf (writtenField (said p))) + 2) (min len pageMost) h)
+  fit-accepted p t f h = rw (f .given, f .carried, le-leb (t .position + length (withLf (writtenField (said p))) + 2) (min len pageMost) h)
 
-  model-all : (ps : List Party) (m : Model) → All Fit ps → m .position + length (fieldsOf ps) + 2 ≤ min len pageMost → let r = run (modelStep len false) m ps .state in (r .list ≡ m .list ++ ps) × (r .position ≡ m .position + length (fieldsOf ps))
+  model-all : (ps : List Party) (m : Model) → All Fit ps → m .tally .position + length (fieldsOf ps) + 2 ≤ min len pageMost → run (modelStep len false) m ps .state .list ≡ m .list ++ ps
   unfolding run pageOf
-  model-all [] m f h = (sym (append-nil (m .list)), omega arith)
+  model-all [] m f h = sym (append-nil (m .list))
   model-all (p ∷ ps) m f h =
       let text = withLf (writtenField (said p)) in
       let n = length-append text (fieldsOf ps) in
-      let next : Model = record { list = m .list ++ p ∷ []; position = m .position + length text } in
-      let step : modelStep len false m p .state ≡ next = ap (λ (r : Reply). modelBy r m p .state) (fit-accepted p (m .position) (f .0) (omega (arith, h, n))) in
-      let later = model-all ps next (f .1) (omega (arith, h, n)) in
-      let whole : run (modelStep len false) (modelStep len false m p .state) ps .state ≡ run (modelStep len false) next ps .state = ap (λ (x : Model). run (modelStep len false) x ps .state) step in (
-        ap (λ (x : Model). x .list) whole ∙ later .0 ∙ append-assoc (m .list) (p ∷ []) ps,
-        omega (arith, ap (λ (x : Model). x .position) whole, later .1, n),
-      )
+      let next : Model = record { list = m .list ++ p ∷ []; tally = tallied (m .tally) (said p) } in
+      let step : modelStep len false m p .state ≡ next = ap (λ (r : Reply). modelBy r m p .state) (fit-accepted p (m .tally) (f .0) (omega (arith, h, n))) in
+      ap (λ (x : Model). run (modelStep len false) x ps .state .list) step ∙ model-all ps next (f .1) (omega (arith, h, n)) ∙ append-assoc (m .list) (p ∷ []) ps
 
 -- ---- the reads from the first opening on
 record Opened (page : List ℕ) : Type 0 where
@@ -306,8 +302,8 @@ module _ (page : List ℕ) (k : areKept page (fromOpening (reads page)) ≡ true
 
     -- where all were added, the closed page is their fields
     module _ (all : acceptedAdds noIndex ps buffer ≡ ps) (closable : 2 ≤ length buffer) where
-      w : WholePage noIndex ps buffer
-      w = whole-page noIndex tt ps buffer
+      w : ListedPage (adds noIndex ps buffer .state) (acceptedAdds noIndex ps buffer) buffer
+      w = whole-page noIndex tt ps buffer .listed
 
       abbrev to : ℕ
       to = adds noIndex ps buffer .state .position + 2
@@ -330,8 +326,8 @@ module _ (page : List ℕ) (k : areKept page (fromOpening (reads page)) ≡ true
     spaced : hasSpace (length buffer) (length (partyLines page) + 2) ≡ true → FiledAsCame page buffer
     spaced space =
         let n = leb-true (length (partyLines page) + 2) (min (length buffer) pageMost) space in
-        let m = model-all (length buffer) ps (record { list = []; position = 0 }) all-fit (omega (arith, n, ap length part-is)) in
-        as-came (whole-page noIndex tt ps buffer .list ∙ m .0) (omega (arith, n))
+        let m = model-all (length buffer) ps (record { list = []; tally = record { position = 0; entries = 0 } }) all-fit (omega (arith, n, ap length part-is)) in
+        as-came (whole-page noIndex tt ps buffer .list ∙ m) (omega (arith, n))
 
 -- a page whose fields are kept is filed as its very bytes, from its first opening to its end line, with space for them
 pub kept-page : (page buffer : List ℕ) → KeptPage page buffer

@@ -8,6 +8,7 @@ pub mod Causes
 pub mod Steps
 pub mod Walks
 pub mod WholePages
+pub mod FiledRecords
 pub mod KeptPage
 pub mod Demand3
 pub mod ProfileLines

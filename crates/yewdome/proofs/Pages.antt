@@ -1,29 +1,31 @@
 -- What reading a page, adding and closing answer in numbers. Assumes nothing.
-use Prim.Native.Nat.{ℕ, _+_, _*_, _-_, _≤_, min}
+use Prim.Native.Nat.{ℕ, _+_, _-_, _≤_, min}
 use mathlib.Core.Path.{_≡_, refl, sym, ap, _∙_, subst}
-use mathlib.Core.Bool.{true}
 use mathlib.Core.List.{List}
 use mathlib.Core.Logic.{⊎-elim}
 use native.Mathlib.Omega.{arith}
 use borrow.Author.Tests.{leb-true}
+use lib.Dec.{leb}
 use lib.ListN.{length}
-use Rattle.errors.specs.Refusals.{Reply, accepted, refused, must, _then_}
+use Rattle.errors.specs.Refusals.{Reply, accepted, refused, must, _then_, refusalOf}
 use Rattle.errors.proofs.Replies.{must-held, then-second, then-assoc}
 use Rattle.party.specs.declared.Party.{Party}
 use Rattle.party.specs.Party.{Said, said}
+use Rattle.reader.specs.Reading.{roomReply}
 use Rattle.reader.specs.Options.{read}
 use Rattle.writer.specs.Writing.{writtenField, put}
 use Rattle.writer.specs.Given.{isGiven}
-use Rattle.page_reader.specs.declared.PageRead.{PageRead as Read}
+use Rattle.page_reader.specs.declared.ReadInto.{ReadInto}
 use Rattle.page_reader.specs.declared.ReadOutcome.{ReadOutcome as OutcomeAt}
-use Rattle.page_reader.specs.Pages.{pageMost, ReadOutcome, aRecord, theEnd, aRefusal, PageRead, outcomeOf, readAt, toldOutcome, toldRead, readBytes}
+use Rattle.page_reader.specs.declared.ReadOutcome.the-variants.{Record, End, Refused}
+use Rattle.page_reader.specs.Pages.{pageMost, ReadOutcome, aRecord, theEnd, aRefusal, outcomeOf, readAt, lentBy, readLent, readBytes, partyBeside, kindOf, Outline, outline, toldKind, toldInto}
 use Rattle.page_reader.proofs.Moves.{stays-or-moves, next-most, every-read}
 use Rattle.page_writer.specs.declared.Filed.{Filed as FiledAt}
-use Rattle.page_writer.specs.Beside.{Beside}
-use Rattle.page_writer.specs.Adding.{isCarried, writable, hasSpace, withLf, endLine, positionAfter, Call, putting, recordSpace, asked, recordReply, addReply, freeBeside, add, addIndex, close, toldFiled, toldCall}
+use Rattle.page_writer.specs.Beside.{Beside, isIndexed}
+use Rattle.page_writer.specs.Adding.{isCarried, writable, hasSpace, withLf, endLine, positionAfter, Call, putting, recordSpace, asked, recordReply, tallyOf, freeBeside, addReply, add, addIndex, close, toldFiled, toldCall}
 use Rattle.page_writer.proofs.Addings.{position≢refusal, reply-space}
-use Rattle.flat.specs.Flat.{unflatten}
-use Rattle.yewdome.specs.Interface.{Called, codeOf, lentReply, recordReply as lentRecordReply, readCode, readInto, askedRead, pageRead, filedCode, filed, pageAdd, pageAddIndex}
+use Rattle.flat.specs.Flat.{recordSize, unflatten}
+use Rattle.yewdome.specs.Interface.{Called, recordReply as lentRecordReply, readCode, pageRead, filedCode, filed, pageAdd, pageAddIndex}
 use Rattle.yewdome.specs.Code.{Named, Within}
 use Rattle.yewdome.proofs.LineBounds.{must-line, must-then, read-line}
 
@@ -37,18 +39,18 @@ unfolding add addReply recordReply asked
 add-within buffer at b s =
     let space = recordSpace (length buffer) at s in
     let last = must space 24 0 then must (freeBeside b) 31 0 in
-    putting-within (must (writable buffer at) 21 0 then recordReply (length buffer) at (freeBeside b) s) buffer at (withLf (writtenField s))
+    putting-within (must (writable buffer at) 21 0 then recordReply (length buffer) (isIndexed b) (tallyOf at b) s) buffer at (withLf (writtenField s))
     (subst (λ (r : Reply). Named (must (writable buffer at) 21 0 then r)) (sym (then-assoc (must (isGiven s) 22 0) (must (isCarried s) 23 0) last))
     (must-then (writable buffer at) 21 0 (must (isGiven s) 22 0 then must (isCarried s) 23 0 then last) (omega arith) (omega arith)
     (must-then (isGiven s) 22 0 (must (isCarried s) 23 0 then last) (omega arith) (omega arith)
     (must-then (isCarried s) 23 0 last (omega arith) (omega arith)
     (must-then space 24 0 (must (freeBeside b) 31 0) (omega arith) (omega arith) (must-line (freeBeside b) 31 0 (omega arith) (omega arith)))))))
-    (λ e. omega (arith, reply-space (length buffer) at (freeBeside b) s (then-second (must (writable buffer at) 21 0) _ e)))
+    (λ e. omega (arith, reply-space (length buffer) (isIndexed b) (tallyOf at b) s (then-second (must (writable buffer at) 21 0) _ e)))
 
 -- an accepted add puts the field and its LF, and is past them
 pub add-taken : (buffer : List ℕ) (at : ℕ) (b : Beside) (s : Said) {to : ℕ} → add buffer at b s .answer ≡ positionAfter to → let text = withLf (writtenField s) in (to ≡ at + length text) × (add buffer at b s .buffer ≡ put buffer at text)
 unfolding add
-add-taken buffer at b s {to} e = go (addReply buffer at (freeBeside b) s) e
+add-taken buffer at b s {to} e = go (addReply buffer at b s) e
   where
     text : List ℕ
     text = withLf (writtenField s)
@@ -82,6 +84,23 @@ module _ (flat buffer : List ℕ) (at : ℕ) (b : Beside) {p : Party} (a : lentR
   adds-index = ap (λ (x : Party). addIndex buffer at b (said x)) l ∙ rw a
 
 -- ---- reading
+-- an outcome of the code, with the record beside it
+abbrev pub outcomeAs : OutcomeAt → Party → ReadOutcome
+outcomeAs Record p = aRecord p
+outcomeAs End p = theEnd
+outcomeAs (Refused e) p = aRefusal (refusalOf e .number) (refusalOf e .line)
+
+pub told-outcome : (c : OutcomeAt) (o : ReadOutcome) → toldKind c ≡ kindOf o → o ≡ outcomeAs c (partyBeside o)
+told-outcome Record (aRecord p) h = refl
+told-outcome Record theEnd h = absurd (let z : _≡_ {A = ℕ} 0 1 = cc in omega arith)
+told-outcome Record (aRefusal k n) h = absurd (let z : _≡_ {A = ℕ} 0 1 = cc in omega arith)
+told-outcome End (aRecord p) h = absurd (let z : _≡_ {A = ℕ} 0 1 = cc in omega arith)
+told-outcome End theEnd h = refl
+told-outcome End (aRefusal k n) h = absurd (let z : _≡_ {A = ℕ} 0 1 = cc in omega arith)
+told-outcome (Refused e) (aRecord p) h = absurd (let z : _≡_ {A = ℕ} 0 1 = cc in omega arith)
+told-outcome (Refused e) theEnd h = absurd (let z : _≡_ {A = ℕ} 0 1 = cc in omega arith)
+told-outcome (Refused e) (aRefusal k n) h = let a : k ≡ refusalOf e .number = cc in let b : n ≡ refusalOf e .line = cc in λ i. aRefusal (a i) (b i)
+
 -- a read's refusal
 abbrev pub replyOf : ReadOutcome → Reply
 replyOf (aRecord p) = accepted
@@ -100,23 +119,29 @@ module _ (page : List ℕ) (at : ℕ) where
   pub onward-from : at ≤ readAt page at .next
   onward-from = ⊎-elim (λ s. omega (arith, s)) (λ m. omega (arith, m .past)) (stays-or-moves page at)
 
-  -- the read of the code
-  module _ (r : Read) (e : toldRead r (readAt page at .body) ≡ readAt page at) where
-    pub answer-line : (x : OutcomeAt) → r .outcome ≡ x → Named (replyOf (toldOutcome x (r .party)))
-    answer-line x q = rw q at (subst (λ (y : PageRead). Named (replyOf (y .outcome))) (sym e) (page-line page at))
+  -- a read into lent bytes: its refusal, and where it leads
+  by-lent : (t : Reply) → Named t → let r = lentBy t (readAt page at) at in Named (replyOf (r .outcome)) × (at ≤ r .next) × (r .next ≤ at + pageMost)
+  by-lent accepted n = (page-line page at, onward-from, next-most page at)
+  by-lent (refused k l) n = (n, omega arith, omega arith)
 
-    pub answer-next : (at ≤ r .next) × (r .next ≤ at + pageMost)
-    answer-next = subst (λ (y : PageRead). (at ≤ y .next) × (y .next ≤ at + pageMost)) (sym e) (onward-from, next-most page at)
+  module _ (bytes : List ℕ) where
+    pub lent-bounded : let r = readLent page at bytes in Named (replyOf (r .outcome)) × (at ≤ r .next) × (r .next ≤ at + pageMost)
+    lent-bounded = by-lent (roomReply (length bytes)) (must-line (leb recordSize (length bytes)) 42 0 (omega arith) (omega arith))
 
-    pub reads : (bytes : List ℕ) {x : OutcomeAt} → lentReply (length bytes) true ≡ accepted → r .outcome ≡ x → let o = toldOutcome x (r .party) in
-        (record { code = readCode o (r .next - at); bytes = readBytes o bytes }) ≡ pageRead page at bytes
-    reads bytes {x = x} p q =
-        let o = toldOutcome x (r .party) in
-        let tells : (record { code = readCode o (r .next - at); bytes = readBytes o bytes }) ≡ readInto (toldRead r (readAt page at .body)) at bytes = rw q in
-        let passed : readInto (readAt page at) at bytes ≡ pageRead page at bytes = rw p in
-        tells ∙ (ap (λ (y : PageRead). readInto y at bytes) e ∙ passed)
+    -- the read of the code, and what it stored
+    module _ (r : ReadInto) {out : List ℕ} (e : toldInto r ≡ outline (readLent page at bytes)) (o : out ≡ readBytes (readLent page at bytes .outcome) bytes) where
+      abbrev p : Party
+      p = partyBeside (readLent page at bytes .outcome)
 
-  -- 42
-  pub short : (bytes : List ℕ) (t : Reply) {n : ℕ} → n ≡ codeOf t → (n ≡ 0 → ⊥) → (record { code = n * 4294967296; bytes = bytes }) ≡ readInto (askedRead t (readAt page at) at) at bytes
-  short bytes accepted e h = absurd (h e)
-  short bytes (refused k n) e h = let z : codeOf (refused k n) * 4294967296 ≡ codeOf (refused k n) * 4294967296 + (at - at) = omega arith in ap {B = Called} (λ (m : ℕ). record { code = m; bytes = bytes }) (ap (λ (m : ℕ). m * 4294967296) e ∙ z)
+      -- its outcome, with the record that was stored
+      outcome-is : (x : OutcomeAt) → r .outcome ≡ x → readLent page at bytes .outcome ≡ outcomeAs x p
+      outcome-is x q = told-outcome x (readLent page at bytes .outcome) (sym (ap toldKind q) ∙ ap (λ (y : Outline). y .kind) e)
+
+      pub answer-line : (x : OutcomeAt) → r .outcome ≡ x → Named (replyOf (outcomeAs x p))
+      answer-line x q = subst (λ (y : ReadOutcome). Named (replyOf y)) (outcome-is x q) (lent-bounded .0)
+
+      pub answer-next : (at ≤ r .next) × (r .next ≤ at + pageMost)
+      answer-next = subst (λ (n : ℕ). (at ≤ n) × (n ≤ at + pageMost)) (sym (ap (λ (y : Outline). y .next) e)) (lent-bounded .1, lent-bounded .2)
+
+      pub reads : (x : OutcomeAt) → r .outcome ≡ x → (record { code = readCode (outcomeAs x p) (r .next - at); bytes = out }) ≡ pageRead page at bytes
+      reads x q = λ i. record { code = readCode (sym (outcome-is x q) i) (e i .next - at); bytes = o i }

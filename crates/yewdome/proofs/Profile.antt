@@ -19,9 +19,9 @@ use Rattle.field_utils.specs.Trim.{trimmed}
 use Rattle.field_utils.proofs.Tests.{Line}
 use Rattle.reader.specs.Reading.{Reading}
 use Rattle.reader.specs.Options.{accountReply, textOnly, foundBy, read}
-use Rattle.choices.specs.declared.Choice.{Choice}
-use Rattle.choices.specs.Choices.{refusing, parse, parseWithVariant}
-use Rattle.choices.proofs.Every.{body-parse, body-variant}
+use Rattle.reader.specs.declared.choices.Choice.{Choice}
+use Rattle.reader.specs.Choices.{refusing, parse, parseWithVariant}
+use Rattle.reader.proofs.Every.{body-parse, body-variant}
 use Rattle.profile.specs.Profile.{holdsBic, isInside, linesReply, profileReply, profiled}
 use Rattle.profile.proofs.Laws.{lines-none, lines-fault, lines-pass, profiled-refused, profiled-pass}
 use Rattle.writer.specs.Writing.{writtenLines, writtenBody, writtenField}
@@ -33,7 +33,8 @@ use Rattle.writer.proofs.Facts.{is-given}
 use Rattle.writer.proofs.Witness.{written-plain}
 use Rattle.writer.proofs.Sufficient.{lines-of}
 use Rattle.writer.specs.Sender.{readLines}
-use Rattle.writer.proofs.Back.{accepted-is, giving-reply, text-least}
+use Rattle.reader.proofs.Readings.{giving-reply}
+use Rattle.writer.proofs.Back.{accepted-is, text-least}
 use Rattle.page_writer.specs.Adding.{linesCarried, isCarried, withLf, Call, putting, add}
 use Rattle.page_writer.proofs.Addings.{add-asked, asked-by}
 use Rattle.yewdome.specs.Profile.{OnlyRefuses, PageAccepts, Promise, Profile}

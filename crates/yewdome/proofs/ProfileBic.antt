@@ -15,7 +15,7 @@ use Rattle.party.specs.declared.PartyOption.the-variants.{Field50C, Field50L}
 use Rattle.party.specs.declared.Party.{Party}
 use Rattle.party.specs.Limits.{limitsOf}
 use Rattle.party.specs.Text.{Used, used}
-use Rattle.party.specs.Party.{where-limit, Said, said}
+use Rattle.party.specs.Party.{Said, said}
 use Rattle.party.proofs.Options.{by-option}
 use Rattle.swift_utils.specs.Bytes.{all, letter, digit, alphanumeric}
 use Rattle.swift_utils.specs.Checks.{bicLength, parseBic}
@@ -24,13 +24,14 @@ use Rattle.field_utils.specs.Trim.{white, trimmedStart, keep, trimmedEnd, trimm
 use Rattle.field_utils.proofs.Tests.{both-left, both-right, both, first-not, rest-not, Line}
 use Rattle.reader.specs.Reading.{Reading, Found}
 use Rattle.reader.specs.Options.{foundBy, read}
-use Rattle.choices.specs.Detection.{firstLine}
+use Rattle.reader.specs.Detection.{firstLine}
 use Rattle.profile.specs.Profile.{isSame, holdsBic}
 use Rattle.writer.specs.Writing.{headLines, writtenLines}
 use Rattle.writer.specs.Given.{every, isBic}
 use Rattle.writer.proofs.Relined.{lines-rest}
 use Rattle.writer.proofs.Sayings.{usedOf, saying}
 use Rattle.writer.proofs.Facts.{bic-passes}
+use Rattle.writer.proofs.Witness.{where-yes}
 use Rattle.writer.specs.Sender.{readLines}
 use Rattle.writer.proofs.Necessary.{letters-free}
 use Rattle.writer.proofs.Back.{accepted-is, bic-least}
@@ -240,9 +241,6 @@ some-trimmed (b ∷ l) h n = go (white b) (eqb b 10) (eqb b 13 && starts 10 l) r
         (kept-start b (firstLine (lines l)) w ∙ ap (keep b) (end-first l (keep-line b (trimmedEnd l) (subst Line (kept-start b l w) h))) ∙ sym (kept-start b l w)))
 
 -- ---- the BIC of a record that was read: what its lines have, a line of the body holds
-limit-some : (limit : ℕ) (us : List Used) → ltb 0 limit ≡ true → where-limit limit us ≡ us
-limit-some limit us e = rw (e, where-limit)
-
 module _ (o : PartyOption) (text : List ℕ) (e : read o text .reply ≡ accepted) where
   abbrev p : Party
   p = read o text .party
@@ -262,11 +260,11 @@ module _ (o : PartyOption) (text : List ℕ) (e : read o text .reply ≡ accepte
     has = ap (λ (x : PartyOption). ltb 0 (limitsOf x .bic)) (sym option-is) ∙ b
 
     one : saying o f .bic ≡ usedOf (f .bic) ∷ []
-    one = limit-some (limitsOf o .bic) (usedOf (f .bic) ∷ []) has
+    one = where-yes (limitsOf o .bic) (usedOf (f .bic) ∷ []) has
 
     bic-used : used (p .bic) ≡ usedOf (f .bic)
     unfolding said
-    bic-used = head-eq-of-cons-eq (sym (limit-some (limitsOf (p .option) .bic) (used (p .bic) ∷ []) b) ∙ ap (λ (s : Said). s .bic) says ∙ one)
+    bic-used = head-eq-of-cons-eq (sym (where-yes (limitsOf (p .option) .bic) (used (p .bic) ∷ []) b) ∙ ap (λ (s : Said). s .bic) says ∙ one)
 
     pub bic-accepted : parseBic 1 (f .bic) ≡ accepted
     bic-accepted = bic-passes (usedOf (f .bic)) (both-left (isBic (usedOf (f .bic))) true (subst (λ (us : List Used). every isBic us ≡ true) one (accepted-is o text e .good .facts .bic)))

@@ -13,7 +13,7 @@ use Rattle.field_utils.specs.Names.{parseLines, parseNameAndAddress}
 use Rattle.field_utils.proofs.Tests.{both-left, both-right}
 use Rattle.reader.specs.Reading.{Reading}
 use Rattle.reader.specs.Options.{read}
-use Rattle.choices.specs.Choices.{parse, parseWithVariant}
+use Rattle.reader.specs.Choices.{parse, parseWithVariant}
 use Rattle.profile.specs.Profile.{profiled}
 use Rattle.writer.specs.Writing.{nameLines}
 use Rattle.writer.specs.Given.{areNames, isGiven}

@@ -22,7 +22,7 @@ use Rattle.writer.proofs.Relined.{All}
 use Rattle.writer.proofs.Back.{bic-least}
 use Rattle.page_reader.specs.Pages.{opens, endsPage, isBoundary}
 use Rattle.page_reader.proofs.EndLines.{ends-not}
-use Rattle.page_writer.specs.Adding.{anyCr, anyBoundary, laterBoundary, linesCarried}
+use Rattle.page_writer.specs.Adding.{anyLine, anyCr, anyBoundary, laterBoundary, linesCarried}
 
 -- ---- lines that a page carries: the first, one after it, and all
 pub record Front (l : List ℕ) : Type 0 where
@@ -38,12 +38,12 @@ Carried [] = Unit {0}
 Carried (l ∷ ls) = Front l × All Later ls
 
 later-crs : (ls : List (List ℕ)) → All Later ls → anyCr ls ≡ false
-unfolding anyCr
+unfolding anyLine
 later-crs [] h = refl
 later-crs (l ∷ ls) h = neither (endsCr l) (anyCr ls) (h .0 .front .cr) (later-crs ls (h .1))
 
 later-boundaries : (ls : List (List ℕ)) → All Later ls → anyBoundary ls ≡ false
-unfolding anyBoundary
+unfolding anyLine
 later-boundaries [] h = refl
 later-boundaries (l ∷ ls) h = neither (isBoundary true l) (anyBoundary ls) (h .0 .inner) (later-boundaries ls (h .1))
 
@@ -53,7 +53,7 @@ last-some l [] f h = f .some
 last-some l (m ∷ ls) f h = last-some m ls (h .0 .front) (h .1)
 
 pub carried-lines : (ls : List (List ℕ)) → 0 < length ls → Carried ls → linesCarried ls ≡ true
-unfolding anyCr laterBoundary
+unfolding anyLine laterBoundary
 carried-lines [] n h = absurd (omega arith)
 carried-lines (l ∷ ls) n h =
     both (not (anyCr (l ∷ ls)) && not (lastEmpty (l ∷ ls))) (not (laterBoundary (l ∷ ls)))

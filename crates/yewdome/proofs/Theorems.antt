@@ -15,9 +15,9 @@ use Rattle.party.specs.Limits.{optionAt}
 use Rattle.party.specs.Party.{said}
 use Rattle.reader.specs.Reading.{Reading}
 use Rattle.reader.specs.Options.{read}
-use Rattle.choices.specs.declared.Choice.{Choice}
-use Rattle.choices.specs.Choices.{parse, parseWithVariant}
-use Rattle.choices.proofs.Every.{every-parse, every-variant}
+use Rattle.reader.specs.declared.choices.Choice.{Choice}
+use Rattle.reader.specs.Choices.{parse, parseWithVariant}
+use Rattle.reader.proofs.Every.{every-parse, every-variant}
 use Rattle.writer.specs.Writing.{writtenField}
 use Rattle.writer.specs.Placing.{Measured, lengthIs, refusedWith, measure, place}
 use Rattle.writer.proofs.Theorems.{measure-and-place}

@@ -49,7 +49,7 @@ module _ (page into : List ℕ) (h : recordSize ≤ length into) where
   listed-reads = from-read (suc (length page)) 0
 
 -- a run of numbers leaves the open page that the run of answers leaves
-same-state : (page : List ℕ) (s : OpenPage) (rs : List Read) → run (numberStep page) s rs .state ≡ run fileStep s rs .state
+pub same-state : (page : List ℕ) (s : OpenPage) (rs : List Read) → run (numberStep page) s rs .state ≡ run fileStep s rs .state
 unfolding run
 same-state page s [] = refl
 same-state page s (r ∷ rs) = same-state page (fileStep s r .state) rs
@@ -76,7 +76,7 @@ module _ (page buffer answers : List ℕ) (room : length page < length answers) 
       go (positionAfter n) e =
           let w : Within (c .answer) = close-within (adds noIndex (recordsOf page) buffer .state .buffer) (adds noIndex (recordsOf page) buffer .state .position) in
           rw e (omega (arith, subst Within e w))
-      go (refusal k n) e = rw (whole-page noIndex tt (recordsOf page) buffer .unclosed e .0) (omega arith)
+      go (refusal k n) e = rw (whole-page noIndex tt (recordsOf page) buffer .listed .unclosed e .0) (omega arith)
 
   -- how many answers there are, and what closing gave, are told by the number
   pub filed-count : pageFile page buffer answers .code / 4294967296 ≡ length (reads page)
@@ -91,7 +91,7 @@ module _ (page buffer answers : List ℕ) (room : length page < length answers) 
       let w = fileNumbers page buffer in
       let n = run-length (numberStep page) (openPage buffer 0) (reads page) in
       let kept : length (pageFile page buffer answers .answers) ≡ length answers = ap (λ (f : Filing). length (f .answers)) filed-page ∙ put-length answers 0 (w .answers) (omega (arith, n, reads-most page, room)) in
-      let closes = whole-page noIndex tt (recordsOf page) buffer .closes h in
+      let closes = whole-page noIndex tt (recordsOf page) buffer .listed .closes h in
       let to : filedCode (c .answer) ≡ adds noIndex (recordsOf page) buffer .state .position + 2 = ap filedCode closes in
       let left : length (pageFile page buffer answers .bytes) ≡ length (c .buffer) = ap (λ (f : Filing). length (f .bytes)) filed-page in
       (omega (arith, filed-count, reads-most page, kept, room), omega (arith, filed-code, to, closing-within noIndex tt (recordsOf page) buffer closes, left))

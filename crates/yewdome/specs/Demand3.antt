@@ -15,17 +15,18 @@ use Rattle.party.specs.Party.{Same}
 use Rattle.page_reader.specs.Pages.{pageMost}
 use Rattle.page_reader.specs.Reads.{Read, reads}
 use Rattle.page_writer.specs.Beside.{Beside, noIndex, anIndex}
-use Rattle.page_writer.specs.Adding.{endLine}
+use Rattle.page_writer.specs.Adding.{endLine, Filed}
 use Rattle.page_writer.specs.Fold.{Step, Run, run, acceptedOf}
 use Rattle.page_writer.specs.WholePage.{OpenPage, Field, kept, new, pageOf, readNew, Overwrites}
 use Rattle.page_writer.specs.Indexed.{Indexed}
+use Rattle.page_writer.specs.Demand3.{adds as partyAdds, acceptedAdds, ListedPage}
 use Rattle.flat.specs.Flat.{recordSize, unflatten}
-use Rattle.yewdome.specs.Interface.{Called, readInto, pageLookUp, pageRead, pageAdd, pageAddIndex, pageClose}
+use Rattle.yewdome.specs.Interface.{Called, positionRoom, recordReply, codeOr, readInto, pageLookUp, pageRead, filedCode, pageAdd, pageAddIndex, pageClose}
 
 -- ---- adding and closing
 -- a number below 65,536 is a position; every other is a refusal, 41 and 42 included, and gives none
 abbrev pub isPosition : ℕ → Bool
-isPosition code = ltb code 65536
+isPosition code = ltb code positionRoom
 
 -- the last position that a call gave
 abbrev pub lastGiven : ℕ → ℕ → ℕ
@@ -57,7 +58,7 @@ page b lents buffer = take (closing b lents buffer .code) (closing b lents buffe
 -- ---- reading
 -- how many bytes a read moved past
 abbrev pub movedBy : Called → ℕ
-movedBy c = c .code % 65536
+movedBy c = c .code % positionRoom
 
 -- a read at a position gives a field's record: a number below 65,536, so no refusal and not the end, and bytes that are the same record; of
 -- new bytes, what document 01 says of them
@@ -69,7 +70,7 @@ Gives c at into (new bytes) = c ≡ readInto (readNew bytes (at + movedBy c)) at
 -- read k answers field k, and the read after them gives the end and moves to the page's length
 unfoldable pub Reads : List ℕ → ℕ → List Field → Type 0
 Reads page at [] =
-    (into : List ℕ) → recordSize ≤ length into → (at ≤ length page) × (pageRead page at into ≡ record { code = 65536 + (length page - at); bytes = into })
+    (into : List ℕ) → recordSize ≤ length into → (at ≤ length page) × (pageRead page at into ≡ record { code = positionRoom + (length page - at); bytes = into })
 Reads page at (f ∷ fs) =
     (into : List ℕ) → recordSize ≤ length into → let c = pageRead page at into in Gives c at into f × Reads page (at + movedBy c) fs
 
@@ -90,7 +91,20 @@ ExportedBeside noIndex page list = Unit {0}
 ExportedBeside (anIndex numbers) page list = ExportedIndex numbers page list
 
 -- ---- demand 3
+-- what adds of lent records answer, by what adds of the records that they hold answer: 42 and 41 of bytes that are none, else the same
+unfoldable pub answersOf : List (List ℕ) → List Filed → List ℕ
+answersOf [] answers = []
+answersOf (lent ∷ lents) [] = []
+answersOf (lent ∷ lents) (a ∷ answers) = codeOr (recordReply lent) (filedCode a) ∷ answersOf lents answers
+
 pub record ExportedPage (b : Beside) (lents : List (List ℕ)) (buffer : List ℕ) : Type 0 where
+  -- the run is that of the records that are lent: it leaves the same page, position and index, accepts the same adds, and answers what they
+  -- answer; so all of `WholePage b (map unflatten lents) buffer` (page_writer/specs/Demand3.antt) is said of it
+  pub state : adds b lents buffer .state ≡ partyAdds b (map unflatten lents) buffer .state
+  pub accepted-adds : records b lents buffer ≡ acceptedAdds b (map unflatten lents) buffer
+  pub answers : adds b lents buffer .answers ≡ answersOf lents (partyAdds b (map unflatten lents) buffer .answers)
+  -- of it, the page with the records of the accepted adds: open, closed, and its other bytes
+  pub listed : ListedPage (adds b lents buffer .state) (records b lents buffer) buffer
   -- reading the closed page from the start gives the records of the accepted adds and no others, in number and order, each the same record,
   -- and then the end
   pub reads : isPosition (closing b lents buffer .code) ≡ true → Reads (page b lents buffer) 0 (map kept (records b lents buffer))

@@ -8,17 +8,17 @@ use Rattle.errors.specs.Refusals.{Reply, accepted, refused, must, _then_}
 use Rattle.party.specs.declared.Party.{Party}
 use Rattle.party.specs.Limits.{optionAt}
 use Rattle.party.specs.Party.{said}
-use Rattle.reader.specs.Reading.{Reading}
+use Rattle.reader.specs.Reading.{Reading, roomReply}
 use Rattle.reader.specs.Options.{read}
-use Rattle.choices.specs.declared.Choice.{Choice}
-use Rattle.choices.specs.declared.Choice.the-variants.{Field50InstructingParty, Field50OrderingCustomerFGH, Field50OrderingCustomerAFK, Field50OrderingCustomerNCF, Field50Creditor, Field59, Field59Debtor}
-use Rattle.choices.specs.Choices.{parse, parseWithVariant}
+use Rattle.reader.specs.declared.choices.Choice.{Choice}
+use Rattle.reader.specs.declared.choices.Choice.the-variants.{Field50InstructingParty, Field50OrderingCustomerFGH, Field50OrderingCustomerAFK, Field50OrderingCustomerNCF, Field50Creditor, Field59, Field59Debtor}
+use Rattle.reader.specs.Choices.{parse, parseWithVariant}
 use Rattle.profile.specs.Profile.{readProfiled, parseProfiled, parseWithVariantProfiled}
 use Rattle.writer.specs.Writing.{put}
 use Rattle.writer.specs.Placing.{Measured, lengthIs, refusedWith, Placing, measure, place}
-use Rattle.page_reader.specs.Pages.{ReadOutcome, aRecord, theEnd, aRefusal, PageRead, bodiless, outcomeOf, readAt, readBytes, bodyPlace}
+use Rattle.page_reader.specs.Pages.{ReadOutcome, aRecord, theEnd, aRefusal, PageRead, outcomeOf, readAt, bodyPlace, readLent, readBytes}
 use Rattle.page_reader.specs.Reads.{Read, readHere, reads}
-use Rattle.page_reader.specs.Index.{Looked, found, notFound, lookUp}
+use Rattle.page_reader.specs.Index.{Looked, found, notFound, lookLent}
 use Rattle.page_writer.specs.Beside.{Beside}
 use Rattle.page_writer.specs.Adding.{Filed, positionAfter, refusal, Call, add, addIndex, close}
 use Rattle.page_writer.specs.Fold.{Step, Run, run}
@@ -26,7 +26,7 @@ use Rattle.page_writer.specs.WholePage.{OpenPage}
 use Rattle.kept.specs.declared.Causes.{Causes}
 use Rattle.kept.specs.Kept.{Kept, keptRead, keptParse, keptParseWithVariant}
 use Rattle.kept.specs.Fields.{causesBy}
-use Rattle.flat.specs.Flat.{recordSize, stored, unflatten}
+use Rattle.flat.specs.Flat.{unflatten}
 use Rattle.yewdome.specs.Filing.{fileStep, openPage}
 
 -- what a call gives: its number, and the lent bytes after it
@@ -34,16 +34,31 @@ pub record Called : Type 0 where
   pub code : ℕ
   pub bytes : List ℕ
 
--- a refusal's number × 65,536, and its line, which is below 65,536; 0 where accepted
+-- a position, a line of a body and how many bytes a read moved past are below this
+abbrev pub positionRoom : ℕ
+positionRoom = 65536
+
+-- beside these bytes, and the bit of the end, stand the causes of a field
+abbrev pub causesUnit : ℕ
+causesUnit = 2 * positionRoom
+
+-- and beside all of it a refusal, a place or a count: two numbers of 32 bits in one
+abbrev pub packUnit : ℕ
+packUnit = 4294967296
+
+abbrev pub packed : ℕ → ℕ → ℕ
+packed high low = high * packUnit + low
+
+-- a refusal's number × 65,536, and its line; 0 where accepted
 abbrev pub codeOf : Reply → ℕ
 codeOf accepted = 0
-codeOf (refused k n) = k * 65536 + n
+codeOf (refused k n) = k * positionRoom + n
 
 -- ---- a lent record
--- the interface's own numbers, which document 01 has not and which are tested before its own: 42 where a lent record has under 241 bytes,
--- 41 where there is no such option or choice
+-- the interface's own numbers, which document 01 has not and which are tested before its own: 42 where a lent record has under 241 bytes
+-- (`roomReply`), 41 where there is no such option or choice
 abbrev pub lentReply : ℕ → Bool → Reply
-lentReply len known = must (leb recordSize len) 42 0 then must known 41 0
+lentReply len known = roomReply len then must known 41 0
 
 -- a record lent to be measured, placed or added: its first byte is the option's place, 0 to 10
 abbrev pub recordReply : List ℕ → Reply
@@ -123,39 +138,29 @@ partyPlace bytes buffer = asked (recordReply bytes) (placedCall (place (said (un
 -- a read of a page as a number: a refusal's × 4,294,967,296, or 65,536 at the end, and how many bytes it moved past
 abbrev pub readCode : ReadOutcome → ℕ → ℕ
 readCode (aRecord p) moved = moved
-readCode theEnd moved = 65536 + moved
-readCode (aRefusal k n) moved = codeOf (refused k n) * 4294967296 + moved
+readCode theEnd moved = positionRoom + moved
+readCode (aRefusal k n) moved = packed (codeOf (refused k n)) moved
 
 -- a read at a position, in these terms
 abbrev pub readInto : PageRead → ℕ → List ℕ → Called
 readInto r at bytes = record { code = readCode (r .outcome) (r .next - at); bytes = readBytes (r .outcome) bytes }
 
--- a read that passes the tests of the lent record; one that does not moves past no byte
-abbrev pub askedRead : Reply → PageRead → ℕ → PageRead
-askedRead accepted r at = r
-askedRead (refused k n) r at = bodiless (aRefusal k n) at
-
 -- `yewdome_page_read`
 abbrev pub pageRead : List ℕ → ℕ → List ℕ → Called
-pageRead page at bytes = readInto (askedRead (lentReply (length bytes) true) (readAt page at) at) at bytes
+pageRead page at bytes = readInto (readLent page at bytes) at bytes
 
 -- a lookup, in these terms: the read at the field's position, or a refusal, which moves past no byte
 abbrev pub lookedInto : Looked → List ℕ → Called
 lookedInto (found r) bytes = readInto (r .gave) (r .at) bytes
-lookedInto (notFound k n) bytes = record { code = codeOf (refused k n) * 4294967296; bytes = bytes }
-
--- one that passes the tests of the lent record
-abbrev pub askedLook : Reply → Looked → Looked
-askedLook accepted x = x
-askedLook (refused k n) x = notFound k n
+lookedInto (notFound k n) bytes = record { code = codeOf (refused k n) * packUnit; bytes = bytes }
 
 -- `yewdome_page_look_up` (document 02, Three)
 abbrev pub pageLookUp : List ℕ → List ℕ → ℕ → List ℕ → Called
-pageLookUp page index k bytes = lookedInto (askedLook (lentReply (length bytes) true) (lookUp page index k)) bytes
+pageLookUp page index k bytes = lookedInto (lookLent page index k bytes) bytes
 
 -- `yewdome_page_body`: the body's place in the page × 4,294,967,296, and its length
 abbrev pub pageBody : List ℕ → ℕ → ℕ
-pageBody page at = bodyPlace page at .start * 4294967296 + bodyPlace page at .len
+pageBody page at = packed (bodyPlace page at .start) (bodyPlace page at .len)
 
 -- adding and closing answer the position after, or the refusal
 abbrev pub filedCode : Filed → ℕ
@@ -211,7 +216,7 @@ keptVariantCode choice body letter = keptCode (leb choice 6) (keptParseWithVaria
 
 -- a read of a page, or the filing of its record, as a number: a record has its field's causes × 131,072 beside the bytes moved past
 abbrev pub causedCode : ReadOutcome → ℕ → Causes → ℕ
-causedCode (aRecord p) moved c = causesCode c * 131072 + moved
+causedCode (aRecord p) moved c = causesCode c * causesUnit + moved
 causedCode theEnd moved c = readCode theEnd moved
 causedCode (aRefusal k n) moved c = readCode (aRefusal k n) moved
 
@@ -270,7 +275,7 @@ pub record Filing : Type 0 where
 abbrev pub filing : Reply → Run OpenPage ℕ → List ℕ → List ℕ → Filing
 filing accepted w buffer answers =
     let c = pageClose (w .state .buffer) (w .state .position) in
-    record { code = length (w .answers) * 4294967296 + c .code; bytes = c .bytes; answers = put answers 0 (w .answers) }
+    record { code = packed (length (w .answers)) (c .code); bytes = c .bytes; answers = put answers 0 (w .answers) }
 filing (refused k n) w buffer answers = record { code = codeOf (refused k n); bytes = buffer; answers = answers }
 
 -- `yewdome_page_file`: the records that a page's reads give, filed on a new page in a buffer

@@ -20,14 +20,14 @@ use Rattle.page_writer.specs.Demand3.{closing}
 use Rattle.kept.specs.Kept.{endsLf}
 use Rattle.kept.specs.Fields.{cameAt, causesBy, isKeptAt}
 use Rattle.yewdome.specs.Filing.{recordsOf, fileStep}
-use Rattle.yewdome.specs.Interface.{causesCode, numberStep, fileNumbers}
+use Rattle.yewdome.specs.Interface.{positionRoom, causesUnit, causesCode, numberStep, fileNumbers}
 
 -- ---- a step
 -- a step that files the record of the read at a position: it puts the written field and its LF on the new page, its answer tells the field's
 -- causes, and these are 0 exactly when that field is the field as it came
 pub record FiledStep (page : List ℕ) (s : OpenPage) (at : ℕ) (p : Party) : Type 0 where
   pub puts : numberStep page s (readHere page at) .state .buffer ≡ put (s .buffer) (s .position) (withLf (writtenField (said p)))
-  pub tells : numberStep page s (readHere page at) .answer / 131072 ≡ causesCode (causesBy page at (aRecord p))
+  pub tells : numberStep page s (readHere page at) .answer / causesUnit ≡ causesCode (causesBy page at (aRecord p))
   pub exact : Decides (eqb (causesCode (causesBy page at (aRecord p))) 0) (writtenField (said p) ≡ cameAt page at)
 
 -- wherever a step answers a record
@@ -89,8 +89,8 @@ KeptSpace page buffer = areKept page (fromOpening (reads page)) ≡ true → end
 -- numbers that filing answers tell that every field was filed, as it came: each is below 65,536, but for the last, which is the end's
 unfoldable pub arePlain : List ℕ → Bool
 arePlain [] = false
-arePlain (n ∷ []) = eqb (n / 65536) 1
-arePlain (n ∷ m ∷ ns) = ltb n 65536 && arePlain (m ∷ ns)
+arePlain (n ∷ []) = eqb (n / positionRoom) 1
+arePlain (n ∷ m ∷ ns) = ltb n positionRoom && arePlain (m ∷ ns)
 
 -- those of the reads from the first opening on
 abbrev pub answersFrom : List ℕ → List ℕ → List ℕ

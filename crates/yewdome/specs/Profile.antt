@@ -16,8 +16,8 @@ use Rattle.party.specs.Party.{said}
 use Rattle.field_utils.specs.Lines.{lines}
 use Rattle.reader.specs.Reading.{Reading}
 use Rattle.reader.specs.Options.{read}
-use Rattle.choices.specs.declared.Choice.{Choice}
-use Rattle.choices.specs.Choices.{refusing, parse, parseWithVariant}
+use Rattle.reader.specs.declared.choices.Choice.{Choice}
+use Rattle.reader.specs.Choices.{refusing, parse, parseWithVariant}
 use Rattle.profile.specs.Profile.{holdsBic, readProfiled, parseProfiled, parseWithVariantProfiled}
 use Rattle.writer.specs.Writing.{writtenField}
 use Rattle.page_writer.specs.Beside.{Beside}

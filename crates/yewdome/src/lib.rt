@@ -1,9 +1,6 @@
 // Party fields and pages of them for programs in other languages, on numbers and lent bytes. A record is 241 bytes, as crate flat lays it
 // out. The number that a call gives is the refusal's number × 65,536 and its line, or below 65,536 where it accepts; the reads and
 // the filing of a page give more beside it. A refusal changes no byte and no number that is lent.
-use choices::Choice;
-use choices::parse_into;
-use choices::parse_with_variant_into;
 use errors::Outcome;
 use errors::ParseError;
 use flat::RECORD_SIZE;
@@ -23,6 +20,9 @@ use page_writer::add_record;
 use page_writer::close;
 use party::option_at;
 use reader::Answer;
+use reader::choices::Choice;
+use reader::choices::parse_into;
+use reader::choices::parse_with_variant_into;
 use reader::read_into;
 use writer::Measured;
 use writer::measure_record;
@@ -43,13 +43,25 @@ ghost use Rattle.yewdome.specs.Filing.{openPage};
 ghost use Rattle.yewdome.specs.Interface.{codeOf, lentReply, recordReply, given, partyRead, choiceAt, partyParse, partyParseWithVariant, profileRead, profileParse, profileParseWithVariant, measuredCode, partyMeasure, partyPlace, pageRead, cause as causeOf, causesCode, keptCode, keptReadCode, keptParseCode, keptVariantCode, pageKept, pageLookUp, pageBody, filedCode, pageAdd, pageAddIndex, pageClose, pageAnswers, pageFile};
 ghost use Rattle.yewdome.specs.Code.{Named, Measurable, Within, stepBy, WasRead, WasFiled, toldStep, Walks};
 
+// A position, a line of a body and how many bytes a read moved past are below this.
+const POSITION_ROOM: u32 = 65536;
+
+// A read's end: this and the bytes moved past. An answer below it is a record's, without causes.
+const READ_END: u64 = 65536;
+
+// Beside these stand the causes of a field.
+const CAUSES_UNIT: u64 = 131072;
+
+// Two numbers of 32 bits in one.
+const PACK_UNIT: u64 = 4294967296;
+
 // The interface's own numbers, × 65,536: 41 no such option or choice, 42 a lent record of under 241 bytes, 43 too few numbers lent for
 // answers. Document 01 has none of them.
-const NONE_SUCH: u32 = 41 * 65536;
+const NONE_SUCH: u32 = 41 * POSITION_ROOM;
 
-const SHORT_RECORD: u32 = 42 * 65536;
+const SHORT_RECORD: u32 = 42 * POSITION_ROOM;
 
-const SHORT_ANSWERS: u32 = 43 * 65536;
+const SHORT_ANSWERS: u32 = 43 * POSITION_ROOM;
 
 // The interface's own refusal, before document 01's, of a lent record by its length and of an option or choice that is known or not; 0
 // where there is none.
@@ -104,7 +116,7 @@ fn code(e: ParseError) -> u32
     ensures { λ r. ⌜ r ≡ codeOf (toldError e) ⌝ }
 {
     let refusal = e.refusal();
-    (refusal.number as u32) * 65536 + (refusal.line as u32)
+    (refusal.number as u32) * POSITION_ROOM + (refusal.line as u32)
 }
 
 // Stores the record that a reader gave, where the option or choice that it was asked for is known.
@@ -255,17 +267,13 @@ pub extern "C" fn yewdome_party_place(record: &[u8], buf: &mut [u8]) -> u32
 pub extern "C" fn yewdome_page_read(page: &[u8], at: usize, record: &mut [u8]) -> u64
     ensures { λ r. ⌜ (record { code = r; bytes = now («record» .exit) }) ≡ pageRead (now (page .entry)) at (now («record» .entry)) ⌝ }
 {
-    let refusal = lent(record.len(), true);
-    if refusal != 0 {
-        return (refusal as u64) * 4294967296;
-    }
     let got = read_at_into(page, at, record);
     let moved = (got.next - at) as u64;
     let outcome = got.outcome;
     match outcome {
         ReadOutcome::Record => moved,
-        ReadOutcome::End => 65536 + moved,
-        ReadOutcome::Refused(e) => (code(e) as u64) * 4294967296 + moved,
+        ReadOutcome::End => READ_END + moved,
+        ReadOutcome::Refused(e) => (code(e) as u64) * PACK_UNIT + moved,
     }
 }
 
@@ -280,17 +288,13 @@ pub extern "C" fn yewdome_page_look_up(
 ) -> u64
     ensures { λ r. ⌜ (record { code = r; bytes = now («record» .exit) }) ≡ pageLookUp (now (page .entry)) (now (index .entry)) k (now («record» .entry)) ⌝ }
 {
-    let refusal = lent(record.len(), true);
-    if refusal != 0 {
-        return (refusal as u64) * 4294967296;
-    }
     let outcome = look_up_into(page, index, k, record);
     match outcome {
         LookOutcome::Record { at, next } => (next - at) as u64,
         LookOutcome::Refused { error, at, next } => {
-            (code(error) as u64) * 4294967296 + ((next - at) as u64)
+            (code(error) as u64) * PACK_UNIT + ((next - at) as u64)
         }
-        LookOutcome::NotFound(e) => (code(e) as u64) * 4294967296,
+        LookOutcome::NotFound(e) => (code(e) as u64) * PACK_UNIT,
     }
 }
 
@@ -301,7 +305,7 @@ pub extern "C" fn yewdome_page_body(page: &[u8], at: usize) -> u64
     ensures { λ r. ⌜ r ≡ pageBody (now (page .entry)) at ⌝ }
 {
     let place = body_place(page, at);
-    (place.start as u64) * 4294967296 + (place.len as u64)
+    (place.start as u64) * PACK_UNIT + (place.len as u64)
 }
 
 // The position that adding or closing gave, or the refusal.
@@ -431,10 +435,10 @@ pub extern "C" fn yewdome_page_kept(page: &[u8], at: usize) -> u64
 {
     let mut record = [0; RECORD_SIZE];
     let answer = yewdome_page_read(page, at, &mut record);
-    if 65536 <= answer {
+    if READ_END <= answer {
         return answer;
     }
-    (record_causes(page, at, &record) as u64) * 131072 + answer
+    (record_causes(page, at, &record) as u64) * CAUSES_UNIT + answer
 }
 
 // The causes in one that was filed besides, by the bytes that the read moved past and those that were written. Where more follows the field
@@ -463,21 +467,21 @@ fn step(page: &[u8], at: usize, files: bool, buf: &mut [u8], position: usize) ->
 {
     let mut record = [0; RECORD_SIZE];
     let answer = yewdome_page_read(page, at, &mut record);
-    if 65536 <= answer {
+    if READ_END <= answer {
         return Stepped { answer, position };
     }
     if files {
         let added = yewdome_page_add(&record, buf, position);
-        if added < 65536 {
+        if added < POSITION_ROOM {
             let to = added as usize;
             let causes = filed_causes(page, at, &record, answer as usize, to - position);
             return Stepped {
-                answer: (causes as u64) * 131072 + answer,
+                answer: (causes as u64) * CAUSES_UNIT + answer,
                 position: to,
             };
         }
         return Stepped {
-            answer: (added as u64) * 4294967296 + answer,
+            answer: (added as u64) * PACK_UNIT + answer,
             position,
         };
     }
@@ -505,10 +509,10 @@ fn walk(page: &[u8], files: bool, buf: &mut [u8], answers: &mut [u64]) -> Walked
         position = stepped.position;
         answers[count] = answer;
         count += 1;
-        if answer / 65536 == 1 {
+        if answer / READ_END == 1 {
             break;
         }
-        let moved = (answer % 65536) as usize;
+        let moved = (answer % READ_END) as usize;
         if moved == 0 {
             break;
         }
@@ -541,5 +545,5 @@ pub extern "C" fn yewdome_page_file(page: &[u8], buf: &mut [u8], answers: &mut [
     }
     let walked = walk(page, true, buf, answers);
     let code = yewdome_page_close(buf, walked.position);
-    (walked.count as u64) * 4294967296 + (code as u64)
+    (walked.count as u64) * PACK_UNIT + (code as u64)
 }

@@ -1,12 +1,13 @@
 //! Both asked, and their answers compared, with every byte that was lent.
 
-use crate::expected::{self, Expected};
 use crate::flat::{self, Flat};
 use crate::generate::Family;
 use crate::tally::Tally;
+use party_answers::expected::{self, Expected};
 use party_answers::format::escaped;
 use party_answers::model::{Answer, Call, Case, Choice, Opt, Reader};
 use party_answers::random::Random;
+use party_answers::reference;
 use party_answers::rules::{self, LONGEST_BODY};
 use party_compare::ours;
 use std::hint::black_box;
@@ -121,7 +122,7 @@ impl Checker {
 
     /// A case that both are asked. Gives the record's bytes where there is one.
     fn case(&mut self, case: &Case) -> Result<Option<Flat>, String> {
-        let Expected { answer, rule, in_turn } = expected::answer(case)?;
+        let Expected { answer, rule, in_turn } = expected::answer(case, reference::answer(case)?)?;
         self.tally.answer(case.reader, case.call, &answer, rule);
         let flat = self.read(case.reader, case.call, case.body.as_bytes(), &answer)?;
         if let (Answer::Read { written, .. }, Some(flat)) = (&answer, &flat) {

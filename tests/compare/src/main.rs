@@ -4,7 +4,6 @@
 //! docs/DIFFERENCES.md gives, with the smallest body found that shows it.
 
 mod check;
-mod expected;
 mod flat;
 mod generate;
 mod smallest;

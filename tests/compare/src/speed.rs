@@ -12,7 +12,7 @@
 //! With the name of a row as argument it makes a thousand of our calls of that row and times nothing,
 //! for `valgrind --tool=callgrind` to count.
 
-use party_answers::differences::without_empty_line;
+use party_answers::expected::without_empty_line;
 use party_answers::model::{Answer, Case, Choice, Opt};
 use party_answers::reference;
 use party_compare::ours::{

@@ -1,10 +1,10 @@
 //! Both answers to a case, and the differences met.
 
 use crate::cells::{Cell, Way, reachable};
-use crate::differences::{self, Class};
+use crate::differences::Class;
 use crate::format;
 use crate::model::{Answer, Case, Reader};
-use crate::{reference, rules};
+use crate::{expected, reference, rules};
 use std::collections::BTreeMap;
 
 /// A case with the Rust's answer and that of the rules.
@@ -29,8 +29,8 @@ pub struct Comparison {
 }
 
 impl Comparison {
-    /// Asks both; an error where a message is not mapped, a difference is of no known class, or
-    /// the answer of the rules is one that was held to be out of reach.
+    /// Asks both; an error where a message is not mapped, the answer of the rules is neither the
+    /// Rust's nor the one that its class of difference gives, or it was held to be out of reach.
     pub fn ask(&mut self, case: Case) -> Result<Asked, String> {
         self.asked += 1;
         let failed = |what: &str| format!("{what}: {}", format::question(&case));
@@ -39,11 +39,11 @@ impl Comparison {
         if !self.is_reachable(&case, &ours) {
             return Err(failed("an answer held to be out of reach"));
         }
-        let mut class = None;
-        if rust != ours {
-            let found = differences::class(&case, &rust, &ours);
-            class = Some(found.ok_or_else(|| failed("a difference of no known class"))?);
+        let due = expected::answer(&case, rust.clone()).map_err(|error| failed(&error))?;
+        if due.answer != ours {
+            return Err(failed("a difference of no known class"));
         }
+        let class = due.rule;
         let asked = Asked { case, rust, ours, class };
         self.note(&asked);
         Ok(asked)

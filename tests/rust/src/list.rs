@@ -3,6 +3,7 @@
 use crate::choose;
 use crate::compare::{Asked, Comparison};
 use crate::coverage::Coverage;
+use crate::expected;
 use crate::families;
 use crate::format;
 use crate::model::Case;
@@ -61,8 +62,8 @@ impl List {
         Coverage::of(&self.asked())
     }
 
-    /// Every case with the Rust's answer.
-    pub fn answers(&self, seed: u64) -> String {
+    /// Every case with our answer and the Rust's.
+    pub fn answers(&self, seed: u64) -> Result<String, String> {
         let count: usize = self.parts.iter().map(|part| part.cases.len()).sum();
         let mut text = include_str!("answers-head.txt")
             .replace("{count}", &count.to_string())
@@ -73,9 +74,12 @@ impl List {
                 if let Some(name) = name {
                     text.push_str(&format!("# {name}\n"));
                 }
-                text.push_str(&format::row(&asked.case, &asked.rust));
+                let writing = expected::writing(&asked.case, &asked.rust, &asked.ours);
+                let writing = writing
+                    .map_err(|error| format!("{error}: {}", format::question(&asked.case)))?;
+                text.push_str(&format::row(asked, writing.as_ref()));
             }
         }
-        text
+        Ok(text)
     }
 }

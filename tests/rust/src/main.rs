@@ -4,13 +4,15 @@
 //! compares them with what is there; with `--count N` it makes a list of N cases.
 
 use party_answers::compare::Comparison;
-use party_answers::{facts, format, list, reference, statements, sweep};
+use party_answers::{facts, format, list, pages, reference, statements, sweep};
 use std::fs;
 use std::path::Path;
 use std::process::ExitCode;
 
 const SEED: u64 = 5059;
 const COUNT: usize = 6000;
+/// What is printed once all is replayed.
+const LAST: &str = include_str!("answers-last.txt");
 
 fn main() -> ExitCode {
     let arguments: Vec<String> = std::env::args().skip(1).collect();
@@ -52,7 +54,7 @@ fn make(count: usize) -> Result<Vec<File>, String> {
         return Err(format!("cells in reach without a case:\n{}", empty.join("\n")));
     }
     Ok(vec![
-        ("crates/replay/stdin", list.answers(SEED)),
+        ("crates/replay/stdin", list.answers(SEED)? + &pages::calls()? + LAST),
         ("tests/COVERAGE.md", coverage.text(&list.asked())),
     ])
 }

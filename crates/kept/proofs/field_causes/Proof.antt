@@ -1,9 +1,9 @@
 -- `kept::field_causes` meets its contract: the causes in the body that the read hands back, and what stands after it. Assumes nothing.
 use mathlib.Core.Path.{_≡_, sym, _∙_, ap, subst}
-use mathlib.Core.Bool.{false}
+use mathlib.Core.Bool.{false, _&&_}
 use Prim.Native.Nat.{ℕ, _+_, _-_}
 use native.Mathlib.Omega.{arith}
-use lib.Dec.{eqb}
+use lib.Dec.{ltb, eqb}
 use lib.ListN.{take, drop, getD}
 use denote.Ref.{now}
 use borrow.Author.Needs.{needs}
@@ -32,7 +32,7 @@ returns c =
     let k = c .before .before in
     let b = k .before .before in
     let a = b .before .before .args in
-    let closing = k .is-cr-at .ensures ∙ ap (λ (p : BodyPlace). eqb (getD (now (a .page)) (p .start + p .len) 0) 13) (b .body-place .ensures) in
+    let closing = k .is-cr-after .ensures ∙ ap (λ (p : BodyPlace). ltb 0 (p .start) && eqb (getD (now (a .page)) (p .start + p .len) 0) 13) (b .body-place .ensures) in
     c .causes-of .ensures ∙ (λ i. causesOf (a .option) (a .present) (body-is b i) false (closing i))
 
 pub field-causes-spec : {M : Type 1} → statement M

@@ -1,5 +1,6 @@
 -- `page_writer::add_indexed_record` meets its contract, by what adding answers. Assumes nothing.
 use mathlib.Core.Path.{_≡_, sym, _∙_, ap}
+use mathlib.Core.Bool.{true}
 use mathlib.Core.List.{List, [], _∷_}
 use Prim.Native.Nat.{ℕ, _+_, _-_}
 use native.Mathlib.Omega.{arith}
@@ -17,7 +18,7 @@ use Rattle.writer.specs.Writing.{writtenField}
 use Rattle.page_reader.specs.Index.{Entry, indexMost, entriesOf}
 use Rattle.page_writer.specs.declared.Filed.{Filed}
 use Rattle.page_writer.specs.Beside.{anIndex, noted}
-use Rattle.page_writer.specs.Adding.{withLf, addReply, freeBeside, add, toldCall}
+use Rattle.page_writer.specs.Adding.{withLf, tallyOf, addReply, add, toldCall}
 use Rattle.page_writer.specs.Code.{heldCall, Notes}
 use Rattle.page_writer.proofs.Addings.{add-by, reply-space, reply-free, add-record, put-accepted, put-refused, index-by, entry-is}
 use Rattle.page_writer.proofs.add_indexed_record.Statement.{statement}
@@ -46,7 +47,7 @@ module _ (k : tie.After-file-held) where
   d = now (start .args .index)
 
   abbrev reply : Reply
-  reply = addReply buffer at (freeBeside (anIndex d)) s
+  reply = addReply buffer at (anIndex d) s
 
   counted : e .entry-count .result ≡ length (entriesOf d)
   counted = e .entry-count .ensures .0
@@ -70,9 +71,9 @@ module _ (t : tie.After-next) where
 
   notes : Notes (d f) (e f .entry-count .result) (at f) next
   notes =
-      let r = add-record (buffer f) (at f) (freeBeside (anIndex (d f))) (s f) (passed .0) in
-      let free = ltb-true (length (entriesOf (d f))) indexMost (reply-free (length (buffer f)) (at f) (freeBeside (anIndex (d f))) (s f) r) in
-      let space = reply-space (length (buffer f)) (at f) (freeBeside (anIndex (d f))) (s f) r in
+      let r = add-record (buffer f) (at f) (anIndex (d f)) (s f) (passed .0) in
+      let free = ltb-true (length (entriesOf (d f))) indexMost (reply-free (length (buffer f)) true (tallyOf (at f) (anIndex (d f))) (s f) r) in
+      let space = reply-space (length (buffer f)) true (tallyOf (at f) (anIndex (d f))) (s f) r in
       let n = length-append (writtenField (s f)) (10 ∷ []) in
       record {
         size = e f .entry-count .ensures .1;

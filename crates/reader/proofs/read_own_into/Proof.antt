@@ -6,7 +6,7 @@ use denote.Ref.{now}
 use Rattle.errors.specs.declared.Outcome.{Outcome}
 use Rattle.errors.specs.Refusals.{accepted, told}
 use Rattle.party.specs.Party.{partyIn}
-use Rattle.reader.specs.Reading.{Reading, giving, Into, readInto}
+use Rattle.reader.specs.Reading.{Reading, giving, Into, leaves}
 use Rattle.reader.specs.Options.{readOwn}
 use borrow.Author.Needs.{needs}
 use Rattle.reader.proofs.read_own_into.Statement.{statement}
@@ -14,11 +14,11 @@ use Rattle.reader.proofs.read_own_into.Tie as tie
 
 -- what was found, by what was said of it
 into : (o : tie.After-read-own) {x : Outcome} → o .read-own .result .outcome ≡ x → let a = o .before .before .before .args in
-    readInto (giving (told x) (partyIn (now (a .body)) (o .read-own .result .parts))) (now (a .«record»)) ≡ readInto (readOwn (a .option) (now (a .body))) (now (a .«record»))
+    leaves (giving (told x) (partyIn (now (a .body)) (o .read-own .result .parts))) (now (a .«record»)) ≡ leaves (readOwn (a .option) (now (a .body))) (now (a .«record»))
 into o e =
     let a = o .before .before .before .args in
-    ap (λ (x : Outcome). readInto (giving (told x) (partyIn (now (a .body)) (o .read-own .result .parts))) (now (a .«record»))) (sym e)
-    ∙ ap (λ (r : Reading). readInto r (now (a .«record»))) (o .read-own .ensures)
+    ap (λ (x : Outcome). leaves (giving (told x) (partyIn (now (a .body)) (o .read-own .result .parts))) (now (a .«record»))) (sym e)
+    ∙ ap (λ (r : Reading). leaves r (now (a .«record»))) (o .read-own .ensures)
 
 returns : tie.Need-returns
 returns c = into (c .before .before .before) (c .before .outcome .given .1)

@@ -12,7 +12,7 @@ use Rattle.party.specs.declared.Numbering.{Numbering}
 use Rattle.swift_utils.specs.Classes.{hasBits}
 use Rattle.swift_utils.proofs.Classes.{class-digit}
 use Rattle.swift_utils.proofs.Table.{classes-at}
-use Rattle.field_utils.proofs.Tests.{numbered-room}
+use Rattle.field_utils.proofs.NameLines.{numbered-room}
 use Rattle.writer.proofs.Records.{inTurn, turn-kept, turn-written}
 use Rattle.writer.proofs.is_in_turn.Statement.{statement}
 use Rattle.writer.proofs.is_in_turn.Tie as tie

@@ -2,7 +2,7 @@
 use mathlib.Core.Path.{refl, sym}
 use borrow.Author.Needs.{needs}
 use lib.ListN.{List·getD-eq-default}
-use Rattle.choices.specs.declared.Choice.the-variants.{Field50InstructingParty}
+use Rattle.reader.specs.declared.choices.Choice.the-variants.{Field50InstructingParty}
 use Rattle.yewdome.specs.Interface.{choices}
 use Rattle.yewdome.proofs.choice_at.Statement.{statement}
 use Rattle.yewdome.proofs.choice_at.Tie as tie

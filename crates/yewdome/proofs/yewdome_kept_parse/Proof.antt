@@ -2,7 +2,7 @@
 use mathlib.Core.Path.{_∙_, sym, ap, subst}
 use borrow.Author.Needs.{needs}
 use lib.Dec.{leb}
-use Rattle.choices.specs.declared.Choice.{Choice}
+use Rattle.reader.specs.declared.choices.Choice.{Choice}
 use Rattle.kept.specs.Kept.{Kept, keptParse}
 use Rattle.yewdome.specs.Interface.{keptCode}
 use Rattle.yewdome.specs.Code.{Named}

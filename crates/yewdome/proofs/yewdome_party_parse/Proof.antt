@@ -4,8 +4,8 @@ use borrow.Author.Needs.{needs}
 use lib.Dec.{leb}
 use lib.ListN.{length}
 use Rattle.reader.specs.Reading.{Reading, toldInto, readInto}
-use Rattle.choices.specs.declared.Choice.{Choice}
-use Rattle.choices.specs.Choices.{parse}
+use Rattle.reader.specs.declared.choices.Choice.{Choice}
+use Rattle.reader.specs.Choices.{parse}
 use Rattle.yewdome.specs.Interface.{lentReply, storing, choiceAt}
 use Rattle.yewdome.proofs.Answers.{refuses, passes, reads, reads-named, parse-line}
 use Rattle.yewdome.proofs.yewdome_party_parse.Statement.{statement}

@@ -3,7 +3,7 @@ use mathlib.Core.Path.{_∙_, sym, ap, subst}
 use borrow.Author.Needs.{needs}
 use lib.Dec.{leb}
 use Rattle.reader.specs.Reading.{Reading}
-use Rattle.choices.specs.declared.Choice.{Choice}
+use Rattle.reader.specs.declared.choices.Choice.{Choice}
 use Rattle.profile.specs.Profile.{parseWithVariantProfiled}
 use Rattle.yewdome.specs.Interface.{given}
 use Rattle.yewdome.specs.Code.{Named}

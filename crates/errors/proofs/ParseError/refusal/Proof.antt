@@ -77,10 +77,15 @@ returns-23 c = c .at23 .ensures ∙ sym (ap refusalOf (c .before .enum-told16 .g
 returns-24 : tie.Need-returns-24
 returns-24 c = c .at24 .ensures ∙ sym (ap refusalOf (c .before .before .self8 .given .1))
 
+returns-25 : tie.Need-returns-25
+returns-25 c = c .at25 .ensures ∙ sym (ap refusalOf (c .before .enum-told17 .given .1))
+
 pub refusal-spec : {M : Type 1} → statement M
 refusal-spec =
     tie.close
     (tie.spec
+    (λ c. search needs)
+    (λ c κs. search needs)
     (λ c. search needs)
     (λ c κs. search needs)
     (λ c. search needs)
@@ -152,4 +157,5 @@ refusal-spec =
     returns-21
     returns-22
     returns-23
-    returns-24)
+    returns-24
+    returns-25)

@@ -1,3 +1,0 @@
-pub mod Detection
-pub mod Choices
-pub mod Code
