@@ -104,7 +104,7 @@ identifier-absent o n [] e = refl
 identifier-absent o n (b ∷ l) e = rw (e, parsePartyIdentifier)
 
 pub identifier-given : (o : PartyOption) (n : ℕ) (l : List ℕ) → starts 47 l ≡ true
-    → parsePartyIdentifier o n l ≡ given (drop 1 l) (identifierReply (limitsOf o .longest) n (drop 1 l))
+    → parsePartyIdentifier o n l ≡ given (drop 1 l) (identifierReply (limitsOf o .«account_max») n (drop 1 l))
 unfolding parsePartyIdentifier starts
 identifier-given o n [] e = absurd (false≢true e)
 identifier-given o n (b ∷ l) e = rw (e, parsePartyIdentifier)

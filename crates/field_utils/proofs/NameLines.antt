@@ -21,7 +21,7 @@ use Rattle.swift_utils.specs.Bytes.{all, letter, digit, alphanumeric, signs, le
 use Rattle.swift_utils.specs.Checks.{parseSwiftChars}
 use Rattle.swift_utils.proofs.Checks.{chars}
 use Rattle.field_utils.specs.Identifier.{isNumbered}
-use Rattle.field_utils.specs.Names.{skipOf, parseNumber, parseLine, parseLines, parseCount, parseNameAndAddress, NamesRead, kept, digitOf, namesOr, readNames, keptFrom}
+use Rattle.field_utils.specs.Names.{skipOf, parseNumber, parseLine, parseLines, parseCount, parseNameAndAddress, NamesRead, kept, digitOf, namesOr, readNames, droppedPrefix}
 use Rattle.field_utils.specs.Code.{parseShape, parseRest, givenNames}
 use Rattle.field_utils.proofs.Tests.{both-left, both-right}
 
@@ -61,7 +61,7 @@ text-legal Numbered n k l e = number-legal l (must-held (isNumbered l) 5 n e)
 text-legal InTurn n k l e = number-legal l (must-held (isNumbered l) 5 n (then-first _ _ e))
 
 -- what is not kept of a line stands before its text
-pub kept-least : (f : Numbering) → keptFrom f ≤ skipOf f
+pub kept-least : (f : Numbering) → droppedPrefix f ≤ skipOf f
 kept-least Unnumbered = omega arith
 kept-least Numbered = omega arith
 kept-least InTurn = omega arith
@@ -74,7 +74,7 @@ module _ (f : Numbering) (longest n k : ℕ) (l : List ℕ) where
   pub shape-length : {t : Bool} → parseNumber f n k l ≡ accepted → leb (length (drop (skipOf f) l)) longest ≡ t → parseShape f longest n k l ≡ must t 4 n
   shape-length e g = rw (e, g)
 
-  pub kept-room : parseShape f longest n k l ≡ accepted → keptFrom f ≤ length l
+  pub kept-room : parseShape f longest n k l ≡ accepted → droppedPrefix f ≤ length l
   kept-room e = omega (arith, number-room f n k l (then-first _ _ e), kept-least f)
 
   by-shape : {r : Reply} → parseShape f longest n k l ≡ r → parseLine f longest n k l ≡ (r then parseSwiftChars n (drop (skipOf f) l))
@@ -127,11 +127,11 @@ given (refused k n) ns ds = refl
 
 -- names, by what their lines say; m is what the code holds of the option
 module _ (o : PartyOption) {m : Limits} (e : m ≡ limitsOf o) (n : ℕ) (ls : List (List ℕ)) where
-  names-refused : {r j : ℕ} → parseLines (m .numbering) (m .name) n 1 ls ≡ refused r j → parseNameAndAddress o n ls ≡ refused r j
+  names-refused : {r j : ℕ} → parseLines (m .numbering) (m .«name_max») n 1 ls ≡ refused r j → parseNameAndAddress o n ls ≡ refused r j
   unfolding parseNameAndAddress
   names-refused h = rw (← e, h)
 
-  names-counted : parseLines (m .numbering) (m .name) n 1 ls ≡ accepted → parseNameAndAddress o n ls ≡ parseCount (m .names) (length ls)
+  names-counted : parseLines (m .numbering) (m .«name_max») n 1 ls ≡ accepted → parseNameAndAddress o n ls ≡ parseCount (m .«max_names») (length ls)
   unfolding parseNameAndAddress
   names-counted h = rw (← e, h)
 
@@ -139,15 +139,15 @@ module _ (o : PartyOption) {m : Limits} (e : m ≡ limitsOf o) (n : ℕ) (ls : L
   abbrev by : Reply → NamesRead
   by r = namesOr r (map (kept (limitsOf o .numbering)) ls) (map (digitOf (limitsOf o .numbering)) ls)
 
-  pub read-refused : {r j : ℕ} → parseLines (m .numbering) (m .name) n 1 ls ≡ refused r j → readNames o n ls ≡ (record { reply = refused r j; count = 0; texts = fourTexts []; digits = four 0 [] })
+  pub read-refused : {r j : ℕ} → parseLines (m .numbering) (m .«name_max») n 1 ls ≡ refused r j → readNames o n ls ≡ (record { reply = refused r j; count = 0; texts = fourTexts []; digits = four 0 [] })
   unfolding readNames
   read-refused h = ap by (names-refused h)
 
-  pub read-counted : {count : ℕ} {texts : List Text} {digits : List ℕ} → parseLines (m .numbering) (m .name) n 1 ls ≡ accepted → count ≡ length ls
+  pub read-counted : {count : ℕ} {texts : List Text} {digits : List ℕ} → parseLines (m .numbering) (m .«name_max») n 1 ls ≡ accepted → count ≡ length ls
       → texts ≡ fourTexts (map (kept (m .numbering)) ls) → digits ≡ four 0 (map (digitOf (m .numbering)) ls)
-      → readNames o n ls ≡ givenNames (parseCount (m .names) count) count texts digits
+      → readNames o n ls ≡ givenNames (parseCount (m .«max_names») count) count texts digits
   unfolding readNames
   read-counted h c t d =
       ap by (names-counted h)
-      ∙ given (parseCount (m .names) (length ls)) (map (kept (limitsOf o .numbering)) ls) (map (digitOf (limitsOf o .numbering)) ls)
+      ∙ given (parseCount (m .«max_names») (length ls)) (map (kept (limitsOf o .numbering)) ls) (map (digitOf (limitsOf o .numbering)) ls)
       ∙ rw (length-map ls (kept (limitsOf o .numbering)), ← e, ← t, ← d, ← c)

@@ -14,7 +14,7 @@ use Rattle.party.specs.declared.Part.{Part}
 use Rattle.party.specs.Limits.{limitsOf}
 use Rattle.party.specs.Text.{textOf, partIn, textsIn, four, fourTexts}
 use Rattle.party.specs.declared.Numbering.{Numbering}
-use Rattle.field_utils.specs.Names.{parseLine, parseLines, parseCount, readNames, keptFrom, kept, digitOf}
+use Rattle.field_utils.specs.Names.{parseLine, parseLines, parseCount, readNames, droppedPrefix, kept, digitOf}
 use Rattle.field_utils.specs.Code.{givenNames}
 use Rattle.field_utils.proofs.NameLines.{lines-refused, lines-passed, lines-none, read-counted}
 
@@ -99,10 +99,10 @@ module _ {body : List ℕ} {f : Numbering} {longest start skip n : ℕ} {ls t : 
     passed-past h = more (past-of (textOf []) (textFrom skip) (p .done) l (p .count) (p .texts-are) h) (past-of 0 (digitOf f) (p .done) l (p .count) (p .digits-are) h)
 
 -- all lines; m is what the code holds of the option
-pub passed-all : (o : PartyOption) {body : List ℕ} {m : Limits} {start skip n : ℕ} {ls : List (List ℕ)} {parts : List Part} {digits : List ℕ} → m ≡ limitsOf o → skip ≡ keptFrom (m .numbering)
-    → Passed body (m .numbering) (m .name) start skip ls n parts digits [] → readNames o (suc start) ls ≡ givenNames (parseCount (m .names) n) n (textsIn body parts) digits
+pub passed-all : (o : PartyOption) {body : List ℕ} {m : Limits} {start skip n : ℕ} {ls : List (List ℕ)} {parts : List Part} {digits : List ℕ} → m ≡ limitsOf o → skip ≡ droppedPrefix (m .numbering)
+    → Passed body (m .numbering) (m .«name_max») start skip ls n parts digits [] → readNames o (suc start) ls ≡ givenNames (parseCount (m .«max_names») n) n (textsIn body parts) digits
 passed-all o {body} {m} {start} {skip} {n} {ls} e k p =
     let all : p .done ≡ ls = sym (p .all ∙ append-nil (p .done)) in
     let texts : map (textFrom skip) ls ≡ map textOf (map (kept (m .numbering)) ls) = ap (λ (j : ℕ). map (textFrom j) ls) k ∙ sym (map-map textOf (kept (m .numbering)) ls) in
-    read-counted o e (suc start) ls (p .says ∙ lines-none (m .numbering) (m .name) (suc (start + n)) (suc n)) (p .count ∙ ap length all)
+    read-counted o e (suc start) ls (p .says ∙ lines-none (m .numbering) (m .«name_max») (suc (start + n)) (suc n)) (p .count ∙ ap length all)
     (p .texts-are ∙ ap (four (textOf [])) (ap (map (textFrom skip)) all ∙ texts)) (p .digits-are ∙ ap (λ (d : List (List ℕ)). four 0 (map (digitOf (m .numbering)) d)) all)

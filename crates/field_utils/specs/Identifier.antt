@@ -41,7 +41,7 @@ pub data Identifier : Type 0 where
 -- a line without leading `/` has none; the longest text is the option's, 34 in 50A and 59F
 unfoldable pub parsePartyIdentifier : PartyOption → ℕ → List ℕ → Identifier
 parsePartyIdentifier o n [] = absent
-parsePartyIdentifier o n (b ∷ l) = elim (eqb b 47) [ true ↦ given l (identifierReply (limitsOf o .longest) n l) | false ↦ absent ]
+parsePartyIdentifier o n (b ∷ l) = elim (eqb b 47) [ true ↦ given l (identifierReply (limitsOf o .«account_max») n l) | false ↦ absent ]
 
 -- an answer for a line in document 01's terms
 abbrev pub toldIdentifier : List ℕ → PartyIdentifier → Identifier

@@ -45,17 +45,17 @@ parseCount most count = must (between 1 most count) 7 0
 
 -- names: the lines from body line n on, tested in order and counted last
 unfoldable pub parseNameAndAddress : PartyOption → ℕ → List (List ℕ) → Reply
-parseNameAndAddress o n ls = parseLines (limitsOf o .numbering) (limitsOf o .name) n 1 ls then parseCount (limitsOf o .names) (length ls)
+parseNameAndAddress o n ls = parseLines (limitsOf o .numbering) (limitsOf o .«name_max») n 1 ls then parseCount (limitsOf o .«max_names») (length ls)
 
 -- how many of a line's first bytes are not kept in its text: 50F's digit and slash are not, 59F's are
-abbrev pub keptFrom : Numbering → ℕ
-keptFrom Unnumbered = 0
-keptFrom Numbered = 2
-keptFrom InTurn = 0
+abbrev pub droppedPrefix : Numbering → ℕ
+droppedPrefix Unnumbered = 0
+droppedPrefix Numbered = 2
+droppedPrefix InTurn = 0
 
 -- what is kept of a line of names
 abbrev pub kept : Numbering → List ℕ → List ℕ
-kept f l = drop (keptFrom f) l
+kept f l = drop (droppedPrefix f) l
 
 -- the digit that is held beside what is kept of a line: 50F's, as it came (document 02, Seven); 0 where there is none
 abbrev pub digitOf : Numbering → List ℕ → ℕ

@@ -3,8 +3,8 @@ use errors::Outcome;
 use errors::ParseError;
 use lines::Line;
 use lines::Lines;
-use lines::behind;
 use lines::find;
+use lines::suffix;
 use party::NO_PART;
 use party::Numbering;
 use party::Part;
@@ -35,7 +35,7 @@ ghost use Rattle.swift_utils.specs.Bytes.{among, all, legal};
 ghost use Rattle.swift_utils.specs.Classes.{classTable};
 ghost use Rattle.field_utils.specs.Lines.{starts, upto, lines as linesOf};
 ghost use Rattle.field_utils.specs.Identifier.{isNumbered, toldIdentifier, parsePartyIdentifier, identifierReply};
-ghost use Rattle.field_utils.specs.Names.{skipOf, keptFrom, digitOf, parseNumber, parseCount, readNames, toldNames};
+ghost use Rattle.field_utils.specs.Names.{skipOf, droppedPrefix, digitOf, parseNumber, parseCount, readNames, toldNames};
 ghost use Rattle.field_utils.specs.Cursor.{linePlaces, namePlaces};
 ghost use Rattle.field_utils.specs.Code.{parseShape, parseRest, givenNames, partsOr, noNames, Tested};
 
@@ -92,7 +92,7 @@ pub fn parse_party_identifier(input: &[u8], line: usize, option: PartyOption) ->
         return PartyIdentifier::Absent;
     }
     let limits = limits_of(option);
-    let outcome = parse_remaining(&input[1..], limits.longest, line);
+    let outcome = parse_remaining(&input[1..], limits.account_max, line);
     match outcome {
         Outcome::Accepted => PartyIdentifier::Present,
         Outcome::Refused(e) => PartyIdentifier::Refused(e),
@@ -239,8 +239,8 @@ fn parse_line(
 }
 
 // How many bytes of a line of names are not kept in its text.
-pub fn kept_from(numbering: Numbering) -> usize
-    ensures { λ r. ⌜ r ≡ keptFrom numbering ⌝ }
+pub fn dropped_prefix(numbering: Numbering) -> usize
+    ensures { λ r. ⌜ r ≡ droppedPrefix numbering ⌝ }
 {
     match numbering {
         Numbering::Unnumbered => 0,
@@ -315,13 +315,13 @@ fn pass_bytes(input: &[u8], known: bool) -> usize
 // counted last. One test of all bytes comes first, and no byte is tested singly where it passes. The Rust writes this loop out in 50, 50F, 50K, 50H and 59F.
 pub fn parse_name_and_address(body: &[u8], from: Lines, start_idx: u8, option: PartyOption) -> Names
     ensures { λ r. ⌜ toldNames (now (body .entry)) r ≡ readNames option (suc «start_idx») (linesOf (drop (from .at) (now (body .entry)))) ⌝ }
-    ensures places { λ r. ⌜ r .parts ≡ namePlaces (told (r .outcome)) (keptFrom (limitsOf option .numbering)) (linePlaces (now (body .entry)) (from .at)) ⌝ }
+    ensures places { λ r. ⌜ r .parts ≡ namePlaces (told (r .outcome)) (droppedPrefix (limitsOf option .numbering)) (linePlaces (now (body .entry)) (from .at)) ⌝ }
 {
     let limits = limits_of(option);
     let numbering = limits.numbering;
-    let kept = kept_from(numbering);
+    let kept = dropped_prefix(numbering);
     let classes = class_table();
-    let known = all_in(behind(body, from.at), &classes, LEGAL);
+    let known = all_in(suffix(body, from.at), &classes, LEGAL);
     let mut parts = [NO_PART; 4];
     let mut digits = [0u8; 4];
     let mut cursor = from;
@@ -334,7 +334,7 @@ pub fn parse_name_and_address(body: &[u8], from: Lines, start_idx: u8, option: P
         let turn = count + 1;
         let line = start_idx as usize + turn;
         let input = &body[start..end];
-        let outcome = parse_line(input, line, turn, numbering, limits.name, &classes);
+        let outcome = parse_line(input, line, turn, numbering, limits.name_max, &classes);
         if let Outcome::Refused(e) = outcome {
             return refuse_names(e);
         }
@@ -355,5 +355,5 @@ pub fn parse_name_and_address(body: &[u8], from: Lines, start_idx: u8, option: P
         count = turn;
         cursor = rest;
     };
-    counted(illegal, count, limits.names, parts, digits)
+    counted(illegal, count, limits.max_names, parts, digits)
 }

@@ -18,7 +18,7 @@ ghost use Rattle.field_utils.specs.Trim.{white, trimmed, trimmedEnd};
 const NEAR: usize = 128;
 
 // The bytes of a slice from a place on, none where it is past the end.
-pub fn behind(s: &[u8], skip: usize) -> &[u8]
+pub fn suffix(s: &[u8], skip: usize) -> &[u8]
     ensures { λ r. ⌜ now r ≡ drop skip (now (s .entry)) ⌝ }
 {
     if skip <= s.len() { &s[skip..] } else { &s[..0] }

@@ -13,7 +13,7 @@ ghost use mathlib.Core.Path.{_≡_};
 ghost use Prim.Native.Nat.{_≤_, _<_};
 ghost use lib.ListN.{length};
 ghost use Rattle.page_reader.specs.Pages.{pageMost};
-ghost use Rattle.page_writer.specs.Beside.{noIndex};
+ghost use Rattle.page_writer.specs.IndexState.{noIndex};
 ghost use Rattle.page_writer.specs.Demand3.{closing};
 ghost use Rattle.yewdome.specs.Filing.{recordsOf};
 

@@ -15,7 +15,7 @@ use Rattle.party.specs.Decides.{Decides}
 use Rattle.party.specs.Limits.{limitsOf}
 use Rattle.party.proofs.Laws.{holds, fails}
 use Rattle.party.specs.Text.{Used}
-use Rattle.party.specs.Party.{Said, said}
+use Rattle.party.specs.Party.{Content, content}
 use Rattle.swift_utils.specs.Bytes.{among}
 use Rattle.field_utils.specs.Lines.{lines}
 use Rattle.field_utils.specs.Trim.{trimmed}
@@ -31,7 +31,7 @@ use Rattle.writer.specs.Sender.{readLines, Leads}
 use Rattle.writer.proofs.Relined.{weight, lines-rest}
 use Rattle.writer.proofs.Weights.{lines-weight}
 use Rattle.writer.proofs.Sizes.{weight-append, joined-length}
-use Rattle.writer.proofs.Sayings.{saidWith, saying}
+use Rattle.writer.proofs.Contents.{contentWith, foundContent}
 use Rattle.writer.proofs.Facts.{Facts}
 use Rattle.writer.proofs.Necessary.{letters-free}
 use Rattle.writer.proofs.Back.{Accepted, accepted-is, bic-least, text-least}
@@ -63,7 +63,7 @@ read-lines Field59F body e = refl
 
 -- ---- how many lines are written where there is a BIC
 module _ (count : ℕ) (u v : Used) (us : List Used) (ds : List ℕ) where
-  bic-lines : (o : PartyOption) (present : Bool) → Facts (saidWith o present count u v us ds) → (limitsOf o .bic ≡ 0 → ⊥) → length (writtenLines (saidWith o present count u v us ds)) ≡ bicLine present
+  bic-lines : (o : PartyOption) (present : Bool) → Facts (contentWith o present count u v us ds) → (limitsOf o .«bic_count» ≡ 0 → ⊥) → length (writtenLines (contentWith o present count u v us ds)) ≡ bicLine present
   unfolding writtenLines nameLines
   bic-lines Field50NoOption present h n = absurd (n refl)
   bic-lines Field50A true h n = refl
@@ -91,7 +91,7 @@ length-none [] e = refl
 length-none (l ∷ ls) e = absurd (omega arith)
 
 -- without a BIC, all are written
-all-written : (o : PartyOption) (body : List ℕ) (ws : List (List ℕ)) → limitsOf o .bic ≡ 0 → 0 < length ws → (l : Leads o ws (readLines (limitsOf o .layout) body)) → l .rest ≡ []
+all-written : (o : PartyOption) (body : List ℕ) (ws : List (List ℕ)) → limitsOf o .«bic_count» ≡ 0 → 0 < length ws → (l : Leads o ws (readLines (limitsOf o .layout) body)) → l .rest ≡ []
 all-written Field50NoOption body ws z n l = l .all (λ e. omega (arith, e))
 all-written Field50A body ws z n l = absurd (omega (arith, z))
 all-written Field50F body ws z n l = l .all (λ e. omega (arith, e))
@@ -111,9 +111,9 @@ record Parts (body : List ℕ) (ws : List (List ℕ)) (after : Bool) : Type 0 wh
   later : after ≡ ltb 0 (length rest)
 
 parts : (o : PartyOption) (body : List ℕ) → read o body .reply ≡ accepted
-    → let p = read o body .party in Parts body (writtenLines (said p)) (isAfterBic (p .option) (p .present) body)
-unfolding said
-parts o body e = subst (λ (s : Said). Parts body (writtenLines s) (isAfterBic (s .option) (s .present) body)) (sym (a .says)) found
+    → let p = read o body .party in Parts body (writtenLines (content p)) (isAfterBic (p .option) (p .present) body)
+unfolding content
+parts o body e = subst (λ (s : Content). Parts body (writtenLines s) (isAfterBic (s .option) (s .present) body)) (sym (a .says)) found
   where
     a : Accepted o body
     a = accepted-is o body e
@@ -122,7 +122,7 @@ parts o body e = subst (λ (s : Said). Parts body (writtenLines s) (isAfterBic (
     f = foundBy (limitsOf o .layout) o body
 
     ws : List (List ℕ)
-    ws = writtenLines (saying o f)
+    ws = writtenLines (foundContent o f)
 
     rest : List (List ℕ)
     rest = a .good .lines .rest
@@ -130,17 +130,17 @@ parts o body e = subst (λ (s : Said). Parts body (writtenLines s) (isAfterBic (
     are : lines body ≡ ws ++ rest
     are = sym (read-lines o body (a .good .reply)) ∙ a .good .lines .are
 
-    later : (t : Bool) → eqb (limitsOf o .bic) 0 ≡ t → isAfterBic o (f .present) body ≡ ltb 0 (length rest)
+    later : (t : Bool) → eqb (limitsOf o .«bic_count») 0 ≡ t → isAfterBic o (f .present) body ≡ ltb 0 (length rest)
     later true z =
-        let n = eqb-true (limitsOf o .bic) 0 z in
+        let n = eqb-true (limitsOf o .«bic_count») 0 z in
         after-none o (f .present) body n ∙ ap (λ (ls : List (List ℕ)). ltb 0 (length ls)) (sym (all-written o body ws n (a .good .some) (a .good .lines)))
     later false z =
-        let n = eqb-false (limitsOf o .bic) 0 z in
+        let n = eqb-false (limitsOf o .«bic_count») 0 z in
         let k : length (lines body) ≡ bicLine (f .present) + length rest = ap length are ∙ length-append ws rest ∙ ap (λ (m : ℕ). m + length rest) (bic-lines _ _ _ _ _ o (f .present) (a .good .facts) n) in
         after-by o (f .present) body n ∙ ap (ltb (bicLine (f .present))) k ∙ some-rest (bicLine (f .present)) (length rest)
 
-    found : Parts body (writtenLines (saying o f)) (isAfterBic o (f .present) body)
-    found = record { rest = rest; are = are; some = a .good .some; later = later (eqb (limitsOf o .bic) 0) refl }
+    found : Parts body (writtenLines (foundContent o f)) (isAfterBic o (f .present) body)
+    found = record { rest = rest; are = are; some = a .good .some; later = later (eqb (limitsOf o .«bic_count») 0) refl }
 
 -- ---- the written lines, joined, beside the text that was read
 -- no cause stands in a text
@@ -180,10 +180,10 @@ compared text ws after p = go (hasCrLf text) (endsLf text) after refl refl (p .l
 
 -- of a reading of a text
 abbrev pub Reads : List ℕ → Reading → Type 0
-Reads text r = r .reply ≡ accepted → Compared text (writtenBody (said (r .party))) (isPlain text (isAfterBic (r .party .option) (r .party .present) text))
+Reads text r = r .reply ≡ accepted → Compared text (writtenBody (content (r .party))) (isPlain text (isAfterBic (r .party .option) (r .party .present) text))
 
 pub option-reads : (text : List ℕ) (o : PartyOption) → Reads text (read o text)
-unfolding said writtenBody
+unfolding content writtenBody
 option-reads text o e = compared text _ _ (parts o text e)
 
 refused-reads : (text : List ℕ) (k : ℕ) → 1 ≤ k → Reads text (refusing k 0)
@@ -241,8 +241,8 @@ exact r text body reads t e =
     let blanks = ltb (length text) (length body) in
     let plain = isPlain text (isAfterBic o (r .party .present) text) in
     rw e
-    (subst (λ (b : Bool). Decides b (writtenBody (said (r .party)) ≡ body)) (sym (none-is o (r .party .present) text blanks false ∙ and-true (plain && not blanks)))
-    (decided text (writtenBody (said (r .party))) body plain blanks (reads e) t))
+    (subst (λ (b : Bool). Decides b (writtenBody (content (r .party)) ≡ body)) (sym (none-is o (r .party .present) text blanks false ∙ and-true (plain && not blanks)))
+    (decided text (writtenBody (content (r .party))) body plain blanks (reads e) t))
 
 -- a choice reads what it tries
 parse-reads : (body : List ℕ) (choice : Choice) → Reads (triedText choice body) (parse choice body)

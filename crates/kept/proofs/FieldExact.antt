@@ -11,7 +11,7 @@ use borrow.Author.Tests.{eqb-true, ltb-true, ltb-false, lt-ltb}
 use Rattle.party.specs.declared.PartyOption.{PartyOption}
 use Rattle.party.specs.declared.Party.{Party}
 use Rattle.party.specs.Decides.{Decides}
-use Rattle.party.specs.Party.{Said, said}
+use Rattle.party.specs.Party.{Content, content}
 use Rattle.field_utils.specs.Lines.{withoutCr}
 use Rattle.field_utils.specs.Tags.{tagOf}
 use Rattle.writer.specs.Writing.{writtenBody, writtenField}
@@ -123,17 +123,17 @@ module _ (page : List ℕ) (at : ℕ) (p : Party) (q : readAt page at .outcome �
 
   -- the record's option is the tag's
   option-is : p .option ≡ g .option
-  unfolding said
-  option-is = ap (λ (x : Party). x .option) (sym (g .party)) ∙ ap (λ (x : Said). x .option) (accepted-is (g .option) (g .body) (g .accepts) .says)
+  unfolding content
+  option-is = ap (λ (x : Party). x .option) (sym (g .party)) ∙ ap (λ (x : Content). x .option) (accepted-is (g .option) (g .body) (g .accepts) .says)
 
-  body-compared : Compared (g .body) (writtenBody (said p)) plain
+  body-compared : Compared (g .body) (writtenBody (content p)) plain
   body-compared =
-      subst (λ (x : Party). Compared (g .body) (writtenBody (said x)) (isPlain (g .body) (isAfterBic (x .option) (x .present) (g .body)))) (g .party) (option-reads (g .body) (g .option) (g .accepts))
+      subst (λ (x : Party). Compared (g .body) (writtenBody (content x)) (isPlain (g .body) (isAfterBic (x .option) (x .present) (g .body)))) (g .party) (option-reads (g .body) (g .option) (g .accepts))
 
-  field-compared : Compared (fieldAt page at) (writtenField (said p)) plain
-  unfolding writtenField said
+  field-compared : Compared (fieldAt page at) (writtenField (content p)) plain
+  unfolding writtenField content
   field-compared =
-      subst (λ (t : List ℕ). Compared t (writtenField (said p)) plain) (ap (λ (o : PartyOption). tagOf o ++ g .body) option-is ∙ sym (g .splits)) (front (tagOf (p .option)) body-compared)
+      subst (λ (t : List ℕ). Compared t (writtenField (content p)) plain) (ap (λ (o : PartyOption). tagOf o ++ g .body) option-is ∙ sym (g .splits)) (front (tagOf (p .option)) body-compared)
 
   -- its causes
   none-told : isNone (causesBy page at (aRecord p)) ≡ (plain && not (isClosingCr page at))
@@ -144,16 +144,16 @@ module _ (page : List ℕ) (at : ℕ) (p : Party) (q : readAt page at .outcome �
   left : Left (fieldAt page at) (cameAt page at) (isClosingCr page at)
   left = subst (Left (fieldAt page at) (cameAt page at)) (sym closing) (field-left page at (g .within))
 
-  pub field-decided : Decides (isNone (causesBy page at (aRecord p))) (writtenField (said p) ≡ cameAt page at)
+  pub field-decided : Decides (isNone (causesBy page at (aRecord p))) (writtenField (content p) ≡ cameAt page at)
   field-decided =
-      subst (λ (b : Bool). Decides b (writtenField (said p) ≡ cameAt page at)) (sym none-told)
-      (decided (fieldAt page at) (writtenField (said p)) (cameAt page at) plain (isClosingCr page at) field-compared left)
+      subst (λ (b : Bool). Decides b (writtenField (content p) ≡ cameAt page at)) (sym none-told)
+      (decided (fieldAt page at) (writtenField (content p)) (cameAt page at) plain (isClosingCr page at) field-compared left)
 
   -- where it has one, the written field is shorter
-  pub field-less : isNone (causesBy page at (aRecord p)) ≡ false → length (writtenField (said p)) < length (cameAt page at)
-  field-less e = lesser (fieldAt page at) (writtenField (said p)) (cameAt page at) plain (isClosingCr page at) field-compared left (sym none-told ∙ e)
+  pub field-less : isNone (causesBy page at (aRecord p)) ≡ false → length (writtenField (content p)) < length (cameAt page at)
+  field-less e = lesser (fieldAt page at) (writtenField (content p)) (cameAt page at) plain (isClosingCr page at) field-compared left (sym none-told ∙ e)
 
 -- the written field is the field as it came exactly when it is kept
 pub field-exact : (page : List ℕ) (at : ℕ) → FieldExact page at
 field-exact page at p q =
-    subst (λ (x : ReadOutcome). Decides (isRecord x && isNone (causesBy page at x)) (writtenField (said p) ≡ cameAt page at)) (sym q) (field-decided page at p q)
+    subst (λ (x : ReadOutcome). Decides (isRecord x && isNone (causesBy page at x)) (writtenField (content p) ≡ cameAt page at)) (sym q) (field-decided page at p q)

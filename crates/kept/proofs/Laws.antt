@@ -58,11 +58,11 @@ ends-by (b ∷ a ∷ s) h =
 
 -- ---- lines after the BIC's
 module _ (o : PartyOption) (present : Bool) (text : List ℕ) where
-  pub after-none : limitsOf o .bic ≡ 0 → isAfterBic o present text ≡ false
-  after-none e = rw (le-ltb 0 (limitsOf o .bic) (omega (arith, e)))
+  pub after-none : limitsOf o .«bic_count» ≡ 0 → isAfterBic o present text ≡ false
+  after-none e = rw (le-ltb 0 (limitsOf o .«bic_count») (omega (arith, e)))
 
-  pub after-by : (limitsOf o .bic ≡ 0 → ⊥) → isAfterBic o present text ≡ ltb (bicLine present) (length (lines text))
-  after-by h = rw (lt-ltb 0 (limitsOf o .bic) (omega (arith, h)))
+  pub after-by : (limitsOf o .«bic_count» ≡ 0 → ⊥) → isAfterBic o present text ≡ ltb (bicLine present) (length (lines text))
+  after-by h = rw (lt-ltb 0 (limitsOf o .«bic_count») (omega (arith, h)))
 
 -- ---- what is told of a reading
 module _ (r : Reading) (text body : List ℕ) where

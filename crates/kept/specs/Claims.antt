@@ -7,7 +7,7 @@ use Rattle.errors.specs.Refusals.{accepted}
 use Rattle.party.specs.declared.PartyOption.{PartyOption}
 use Rattle.party.specs.declared.Party.{Party}
 use Rattle.party.specs.Decides.{Decides}
-use Rattle.party.specs.Party.{said}
+use Rattle.party.specs.Party.{content}
 use Rattle.reader.specs.Reading.{Reading}
 use Rattle.reader.specs.Options.{read}
 use Rattle.reader.specs.declared.choices.Choice.{Choice}
@@ -19,7 +19,7 @@ use Rattle.kept.specs.Fields.{cameAt, isKeptAt}
 
 -- a reading of a body, and what is told of it: where it accepts, the written body of its record is the body exactly when that is kept
 abbrev pub IsExact : List ℕ → Reading → Kept → Type 0
-IsExact body r k = r .reply ≡ accepted → Decides (isKeptBy k) (writtenBody (said (r .party)) ≡ body)
+IsExact body r k = r .reply ≡ accepted → Decides (isKeptBy k) (writtenBody (content (r .party)) ≡ body)
 
 -- every reader: by an option, by a choice that detects, by a choice and a letter; the network profile changes no record of theirs
 pub record KeptExact (body : List ℕ) : Type 0 where
@@ -29,4 +29,4 @@ pub record KeptExact (body : List ℕ) : Type 0 where
 
 -- a field of a page, at a position where a read gives a record: the record's written field is the field as it came exactly when it is kept
 abbrev pub FieldExact : List ℕ → ℕ → Type 0
-FieldExact page at = (p : Party) → readAt page at .outcome ≡ aRecord p → Decides (isKeptAt page at) (writtenField (said p) ≡ cameAt page at)
+FieldExact page at = (p : Party) → readAt page at .outcome ≡ aRecord p → Decides (isKeptAt page at) (writtenField (content p) ≡ cameAt page at)

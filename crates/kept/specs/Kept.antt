@@ -37,7 +37,7 @@ bicLine false = 1
 
 -- a line after the BIC's, which is ignored (field50.rs, field59.rs)
 abbrev pub isAfterBic : PartyOption → Bool → List ℕ → Bool
-isAfterBic o present text = ltb 0 (limitsOf o .bic) && ltb (bicLine present) (length (lines text))
+isAfterBic o present text = ltb 0 (limitsOf o .«bic_count») && ltb (bicLine present) (length (lines text))
 
 -- the causes in a text that an option read, with or without an account or identifier; whether blanks were trimmed before it was read, and
 -- whether a CR was left off before the LF that closes it on a page, is said beside it

@@ -79,7 +79,7 @@ fn is_after_bic(option: PartyOption, present: bool, text: &[u8]) -> bool
     ensures { λ r. ⌜ r ≡ isAfterBic option present (now (text .entry)) ⌝ }
 {
     let limits = limits_of(option);
-    if limits.bic == 0 {
+    if limits.bic_count == 0 {
         return false;
     }
     bic_line(present) < count_lines(text)

@@ -6,7 +6,7 @@ use native.Mathlib.Omega.{arith}
 use lib.ListN.{length}
 use Rattle.errors.specs.Refusals.{Reply, accepted, refused}
 use Rattle.party.specs.declared.Party.{Party}
-use Rattle.flat.specs.Flat.{recordSize, unflatten}
+use Rattle.record_bytes.specs.RecordBytes.{recordSize, decoded}
 use Rattle.reader.specs.Options.{read}
 use Rattle.reader.proofs.Loading.{Loads, Whole, read-back, stored-loads}
 use Rattle.page_reader.specs.declared.ReadInto.{ReadInto}
@@ -14,7 +14,7 @@ use Rattle.page_reader.specs.declared.ReadOutcome.{ReadOutcome as Outcom
 use Rattle.page_reader.specs.declared.ReadOutcome.the-variants.{Record, End, Refused}
 use Rattle.page_reader.specs.declared.index.LookOutcome.{LookOutcome}
 use Rattle.page_reader.specs.declared.index.LookOutcome.the-variants.{Record as FoundRecord, Refused as FoundRefused, NotFound}
-use Rattle.page_reader.specs.Pages.{ReadOutcome, aRecord, theEnd, aRefusal, PageRead, outcomeOf, readAt, readLent, readBytes, partyBeside, kindOf, Outline, outline, toldKind, toldInto}
+use Rattle.page_reader.specs.Pages.{ReadOutcome, aRecord, theEnd, aRefusal, PageRead, outcomeOf, readAt, readLent, readBytes, partyBeside, kindOf, Outline, outline, toldKind, toldReadInto}
 use Rattle.page_reader.specs.Reads.{Read}
 use Rattle.page_reader.specs.Index.{Looked, found, notFound, lookUp, lookLent, partyLooked, foundAt, lookOutline, toldLooked}
 use Rattle.page_reader.specs.Code.{partyGiven, partyFound}
@@ -41,7 +41,7 @@ same-outline h = cc
 -- bytes that are as many as a record's hold the record beside the outcome
 module _ (d e : List ℕ) (size : recordSize ≤ length d) where
   beside : (o : ReadOutcome) (c : OutcomeAt) → OutcomeLoads o → toldKind c ≡ kindOf o → e ≡ readBytes o d → partyGiven c e ≡ partyBeside o
-  beside (aRecord p) Record l h b = ap unflatten b ∙ stored-loads p d l size
+  beside (aRecord p) Record l h b = ap decoded b ∙ stored-loads p d l size
   beside (aRecord p) End l h b = absurd (let z : _≡_ {A = ℕ} 0 1 = cc in omega arith)
   beside (aRecord p) (Refused x) l h b = absurd (let z : _≡_ {A = ℕ} 0 1 = cc in omega arith)
   beside theEnd Record l h b = absurd (let z : _≡_ {A = ℕ} 0 1 = cc in omega arith)
@@ -53,7 +53,7 @@ module _ (d e : List ℕ) (size : recordSize ≤ length d) where
 
   -- a read
   pub read-value : (page : List ℕ) (at : ℕ) (r : ReadInto) (p : Party) → Tells r (readLent page at d) d e → p ≡ partyGiven (r .outcome) e
-      → (toldInto r ≡ outline (readAt page at)) × (p ≡ partyBeside (readAt page at .outcome))
+      → (toldReadInto r ≡ outline (readAt page at)) × (p ≡ partyBeside (readAt page at .outcome))
   read-value page at r p t q =
       let x = readAt page at in
       let h = subst (λ (y : PageRead). Tells r y d e) (lent-whole page at d size) t in

@@ -17,16 +17,16 @@ use Rattle.party.specs.declared.Party.{Party}
 use Rattle.party.specs.Limits.{options}
 use Rattle.field_utils.specs.Lines.{upto, starts, isEmpty}
 use Rattle.field_utils.proofs.Places.{upto-length}
-use Rattle.reader.specs.Reading.{Into, storing, readInto as readerInto, toldInto as readerTold}
+use Rattle.reader.specs.Reading.{Into, storing, readInto, toldInto}
 use Rattle.reader.specs.Options.{read}
-use Rattle.flat.specs.Flat.{recordSize}
+use Rattle.record_bytes.specs.RecordBytes.{recordSize}
 use Rattle.reader.proofs.Into.{into-whole, replied}
 use Rattle.page_reader.specs.declared.ReadInto.{ReadInto}
 use Rattle.page_reader.specs.declared.ReadOutcome.{ReadOutcome as OutcomeAt}
 use Rattle.page_reader.specs.declared.ReadOutcome.the-variants.{Record, End, Refused}
 use Rattle.page_reader.specs.declared.ReadCase.{ReadCase}
 use Rattle.page_reader.specs.declared.ReadCase.the-variants.{TooLong, NoStart, AtLength, Opening, Ending, Stray}
-use Rattle.page_reader.specs.Pages.{pageMost, lineAt, opens, hasLf, endsAt, runs, Tagged, untagged, tagged, tagIn, theEnd, aRefusal, PageRead, bodiless, outcomeOf, readTagged, readField, readable, lineCase, restCase, readCase, readBy, readAt, readLent, readBytes, Kind, kindOf, Outline, outline, toldKind, toldInto}
+use Rattle.page_reader.specs.Pages.{pageMost, lineAt, opens, hasLf, endsAt, runs, Tagged, untagged, tagged, tagIn, theEnd, aRefusal, PageRead, bodiless, outcomeOf, readTagged, readField, readable, lineCase, restCase, readCase, readBy, readAt, readLent, readBytes, Kind, kindOf, Outline, outline, toldKind, toldReadInto}
 use Rattle.page_reader.proofs.EndLines.{not-both}
 use Rattle.page_reader.proofs.Runs.{followed, runs-end, runs-lf, runs-more}
 
@@ -185,14 +185,14 @@ module _ (page : List ℕ) (at : ℕ) where
 
 -- ---- what an answer of the code says of a read into lent bytes, which were d and are e
 abbrev pub Tells : ReadInto → PageRead → List ℕ → List ℕ → Type 0
-Tells r x d e = (toldInto r ≡ outline x) × (e ≡ readBytes (x .outcome) d)
+Tells r x d e = (toldReadInto r ≡ outline x) × (e ≡ readBytes (x .outcome) d)
 
 pub tells-refusal : {r : ReadInto} {w : ParseError} {next : ℕ} (d : List ℕ) → r ≡ record { outcome = Refused w; next = next }
     → Tells r (bodiless (aRefusal (refusalOf w .number) (refusalOf w .line)) next) d d
-tells-refusal d q = (ap toldInto q, refl)
+tells-refusal d q = (ap toldReadInto q, refl)
 
 pub tells-end : {r : ReadInto} {next : ℕ} (d : List ℕ) → r ≡ record { outcome = End; next = next } → Tells r (bodiless theEnd next) d d
-tells-end d q = (ap toldInto q, refl)
+tells-end d q = (ap toldReadInto q, refl)
 
 -- from a case to the read at a position
 module _ (page : List ℕ) (at : ℕ) {x : ReadCase} (e : readCase page at ≡ x) where
@@ -234,7 +234,7 @@ stored-bytes : (q : Reply) (p : Party) (d : List ℕ) → storing q p d .bytes �
 stored-bytes accepted p d = refl
 stored-bytes (refused k n) p d = refl
 
-pub answer-tells : (o : PartyOption) (body : List ℕ) (next : ℕ) (a : Outcome) {w : Outcome} (d : List ℕ) {e : List ℕ} → recordSize ≤ length d → readerTold a e ≡ readerInto (read o body) d → a ≡ w
+pub answer-tells : (o : PartyOption) (body : List ℕ) (next : ℕ) (a : Outcome) {w : Outcome} (d : List ℕ) {e : List ℕ} → recordSize ≤ length d → toldInto a e ≡ readInto (read o body) d → a ≡ w
     → Tells (record { outcome = went w; next = next }) (readTagged (tagged o body) next) d e
 answer-tells o body next a {w} d size into q =
     let r = read o body in

@@ -12,7 +12,7 @@ use Rattle.errors.specs.declared.ParseError.{ParseError}
 use Rattle.errors.specs.Refusals.{Reply, accepted, refused, must}
 use Rattle.party.specs.declared.PartyOption.{PartyOption}
 use Rattle.party.specs.Limits.{placeOf}
-use Rattle.flat.specs.Flat.{recordSize}
+use Rattle.record_bytes.specs.RecordBytes.{recordSize}
 use Rattle.page_reader.specs.declared.ReadOutcome.the-variants.{Record, Refused}
 use Rattle.page_reader.specs.declared.index.LookOutcome.the-variants.{Record as FoundRecord, Refused as FoundRefused}
 use Rattle.page_reader.specs.declared.index.LookOutcome.{LookOutcome}

@@ -10,7 +10,7 @@ use lib.ListN.{length}
 use borrow.Author.Tests.{eqb-false, leb-true, leb-false}
 use Rattle.field_utils.proofs.Tests.{either-right}
 use Rattle.page_reader.specs.Pages.{pageMost, PageRead, readAt}
-use Rattle.page_reader.specs.Reads.{Read, readHere, isEnd, isLast, readsFrom, reads}
+use Rattle.page_reader.specs.Reads.{Read, readHere, isTheEnd, isLast, readsFrom, reads}
 use Rattle.page_reader.proofs.Cases.{by-case, case-long}
 use Rattle.page_reader.proofs.Moves.{stays-or-moves}
 
@@ -21,7 +21,7 @@ module _ (page : List ℕ) (at : ℕ) where
   -- a read that is not the last moves past a byte
   pub read-moves : isLast r at ≡ false → (at < r .next) × (r .next ≤ length page)
   read-moves e =
-      let n = eqb-false (r .next) at (either-right (isEnd (r .outcome)) (eqb (r .next) at) e) in
+      let n = eqb-false (r .next) at (either-right (isTheEnd (r .outcome)) (eqb (r .next) at) e) in
       ⊎-elim (λ q. absurd (n q)) (λ m. (m .past, m .within)) (stays-or-moves page at)
 
   -- the last read, and any other

@@ -12,7 +12,7 @@ use Rattle.party.specs.declared.Party.{Party}
 use Rattle.party.specs.Limits.{limitsOf, options}
 use Rattle.party.specs.Party.{blank}
 use Rattle.field_utils.specs.Lines.{isEmpty}
-use Rattle.flat.specs.Flat.{unflatten}
+use Rattle.record_bytes.specs.RecordBytes.{decoded}
 use Rattle.page_reader.specs.declared.ReadOutcome.{ReadOutcome}
 use Rattle.page_reader.specs.declared.ReadOutcome.the-variants.{Record, End, Refused}
 use Rattle.page_reader.specs.declared.Tag.{Tag}
@@ -63,12 +63,12 @@ Finds page index k (Missing e) = lookUp page index k ≡ notFound (refusalOf e .
 
 -- the record that bytes hold where a read gives one, else the blank one
 abbrev pub partyGiven : ReadOutcome → List ℕ → Party
-partyGiven Record bytes = unflatten bytes
+partyGiven Record bytes = decoded bytes
 partyGiven End bytes = blank
 partyGiven (Refused e) bytes = blank
 
 -- the same of a lookup
 abbrev pub partyFound : LookOutcome → List ℕ → Party
-partyFound (FoundRecord at next) bytes = unflatten bytes
+partyFound (FoundRecord at next) bytes = decoded bytes
 partyFound (FoundRefused e at next) bytes = blank
 partyFound (NotFound e) bytes = blank

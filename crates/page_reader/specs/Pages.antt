@@ -13,7 +13,7 @@ use Rattle.party.specs.Party.{blank}
 use Rattle.swift_utils.specs.Bytes.{among}
 use Rattle.field_utils.specs.Lines.{upto, starts, isEmpty, withoutCr}
 use Rattle.field_utils.specs.Tags.{tagOf}
-use Rattle.flat.specs.Flat.{stored}
+use Rattle.record_bytes.specs.RecordBytes.{stored}
 use Rattle.reader.specs.Reading.{roomReply}
 use Rattle.reader.specs.Options.{read}
 use Rattle.page_reader.specs.declared.PageRead.{PageRead as ReadAt}
@@ -239,8 +239,8 @@ toldKind End = theEndGiven
 toldKind (Refused e) = aRefusalGiven (refusalOf e .number) (refusalOf e .line)
 
 -- its answer to a read into lent bytes, and to one by value, which has the record beside it
-abbrev pub toldInto : ReadInto → Outline
-toldInto r = record { kind = toldKind (r .outcome); next = r .next }
+abbrev pub toldReadInto : ReadInto → Outline
+toldReadInto r = record { kind = toldKind (r .outcome); next = r .next }
 
 abbrev pub toldRead : ReadAt → Outline
 toldRead r = record { kind = toldKind (r .outcome); next = r .next }

@@ -17,14 +17,14 @@ abbrev pub readHere : List ℕ → ℕ → Read
 readHere page at = record { at = at; gave = readAt page at }
 
 -- a read that gives the end
-abbrev pub isEnd : ReadOutcome → Bool
-isEnd (aRecord p) = false
-isEnd theEnd = true
-isEnd (aRefusal k n) = false
+abbrev pub isTheEnd : ReadOutcome → Bool
+isTheEnd (aRecord p) = false
+isTheEnd theEnd = true
+isTheEnd (aRefusal k n) = false
 
 -- the last read: the end, or one that does not move on
 abbrev pub isLast : PageRead → ℕ → Bool
-isLast r at = isEnd (r .outcome) || eqb (r .next) at
+isLast r at = isTheEnd (r .outcome) || eqb (r .next) at
 
 -- at most n reads from a position on, each at the next position that the last gave, up to the last
 unfoldable pub readsFrom : ℕ → List ℕ → ℕ → List Read

@@ -9,14 +9,14 @@ use crate::read_case;
 use crate::text_in;
 use errors::Outcome;
 use errors::ParseError;
-use field_utils::lines::behind;
-use flat::RECORD_SIZE;
-use flat::load;
+use field_utils::lines::suffix;
 use party::Party;
 use party::PartyOption;
 use party::blank;
 use party::index_of;
 use reader::read_into;
+use record_bytes::RECORD_SIZE;
+use record_bytes::load;
 ghost use mathlib.Core.Path.{_≡_};
 ghost use Prim.Native.Nat.{_≤_};
 ghost use lib.ListN.{length};
@@ -154,7 +154,7 @@ pub fn look_up_into(
             at,
             to,
         } => {
-            let outcome = read_into(option, behind(text_in(page, at, to), skip), record);
+            let outcome = read_into(option, suffix(text_in(page, at, to), skip), record);
             let next = past(page, to);
             match outcome {
                 Outcome::Accepted => LookOutcome::Record { at, next },
@@ -198,7 +198,7 @@ pub fn look_up_body<'a>(page: &'a [u8], index: &[u32; INDEX_SIZE], k: usize) -> 
             skip,
             at,
             to,
-        } => behind(text_in(page, at, to), skip),
+        } => suffix(text_in(page, at, to), skip),
         Place::Missing(_) => &page[..0],
     }
 }

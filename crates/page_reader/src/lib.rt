@@ -1,11 +1,9 @@
 // Reading pages of fields, which are ours: no Rust file has them. A page, also one of others, is read at a position, field by field.
 use errors::Outcome;
 use errors::ParseError;
-use field_utils::lines::behind;
 use field_utils::lines::find_lf;
+use field_utils::lines::suffix;
 use field_utils::lines::without_cr;
-use flat::RECORD_SIZE;
-use flat::load;
 use party::OPTION_COUNT;
 use party::Party;
 use party::PartyOption;
@@ -13,15 +11,17 @@ use party::blank;
 use party::limits_of;
 use party::option_at;
 use reader::read_into;
+use record_bytes::RECORD_SIZE;
+use record_bytes::load;
 ghost use mathlib.Core.Path.{_≡_};
 ghost use mathlib.Core.Bool.{false, true};
 ghost use Prim.Native.Nat.{_+_, _≤_};
 ghost use lib.ListN.{length, drop};
 ghost use Rattle.party.specs.Limits.{options};
-ghost use Rattle.flat.specs.Flat.{recordSize};
+ghost use Rattle.record_bytes.specs.RecordBytes.{recordSize};
 ghost use Rattle.page_reader.specs.declared.Tag.the-variants.{Known};
 ghost use Rattle.page_reader.specs.declared.ReadOutcome.the-variants.{End, Refused};
-ghost use Rattle.page_reader.specs.Pages.{lineAt, opens, endsAt, runs, past as pastLf, tagIn, readField, readable, textIn, readCase, readAt, noBody, bodyIn, bodyPlace, readLent, readBytes, partyBeside, outline, toldInto, toldRead};
+ghost use Rattle.page_reader.specs.Pages.{lineAt, opens, endsAt, runs, past as pastLf, tagIn, readField, readable, textIn, readCase, readAt, noBody, bodyIn, bodyPlace, readLent, readBytes, partyBeside, outline, toldReadInto, toldRead};
 ghost use Rattle.page_reader.specs.Code.{isOver, toldTag, hasTag, knownIn, partyGiven};
 
 pub mod index;
@@ -120,7 +120,7 @@ pub fn ends_at(page: &[u8], at: usize) -> bool
 }
 
 // Where the field at a position runs to.
-fn runs_to(page: &[u8], at: usize) -> usize
+fn field_end(page: &[u8], at: usize) -> usize
     requires { ⌜ at ≤ length (now page) ⌝ }
     ensures { λ r. ⌜ r ≡ at + runs (drop at (now (page .entry))) ⌝ }
 {
@@ -245,7 +245,7 @@ fn read_case(page: &[u8], at: usize) -> ReadCase
         let to = find_lf(page, at);
         return ReadCase::Ending { to };
     }
-    let to = runs_to(page, at);
+    let to = field_end(page, at);
     if opens_at(page, at) {
         return ReadCase::Opening { to };
     }
@@ -287,14 +287,14 @@ fn end(next: usize) -> ReadInto
 // A field's text by its tag: 15, or what the option's reader says of the body.
 fn read_field_into(text: &[u8], next: usize, record: &mut [u8]) -> ReadInto
     requires { ⌜ recordSize ≤ length (now «record») ⌝ }
-    ensures { λ r. ⌜ toldInto r ≡ outline (readField (now (text .entry)) next) ⌝ }
+    ensures { λ r. ⌜ toldReadInto r ≡ outline (readField (now (text .entry)) next) ⌝ }
     ensures bytes { λ r. ⌜ now («record» .exit) ≡ readBytes (readField (now (text .entry)) next .outcome) (now («record» .entry)) ⌝ }
 {
     let tag = parse_tag(text);
     let Tag::Known { option, skip } = tag else {
         return refuse(ParseError::UnknownTag, next);
     };
-    let outcome = read_into(option, behind(text, skip), record);
+    let outcome = read_into(option, suffix(text, skip), record);
     match outcome {
         Outcome::Accepted => ReadInto {
             outcome: ReadOutcome::Record,
@@ -307,7 +307,7 @@ fn read_field_into(text: &[u8], next: usize, record: &mut [u8]) -> ReadInto
 // Reads the page at a position: the record, the refusal or the end, with the next position. The record is stored at the start of lent bytes;
 // the end and a refusal change none. 42, before everything else, where they are under 241.
 pub fn read_at_into(page: &[u8], at: usize, record: &mut [u8]) -> ReadInto
-    ensures { λ r. ⌜ toldInto r ≡ outline (readLent (now (page .entry)) at (now («record» .entry))) ⌝ }
+    ensures { λ r. ⌜ toldReadInto r ≡ outline (readLent (now (page .entry)) at (now («record» .entry))) ⌝ }
     ensures bytes { λ r. ⌜ now («record» .exit) ≡ readBytes (readLent (now (page .entry)) at (now («record» .entry)) .outcome) (now («record» .entry)) ⌝ }
 {
     if record.len() < RECORD_SIZE {
@@ -364,7 +364,7 @@ fn body_in(text: &[u8], end: usize) -> BodyPlace
     let Tag::Known { option: _, skip } = tag else {
         return nowhere();
     };
-    let len = behind(text, skip).len();
+    let len = suffix(text, skip).len();
     BodyPlace {
         start: end - len,
         len,

@@ -11,9 +11,9 @@ use Rattle.errors.specs.Refusals.{Reply, accepted, refused, must, _then_}
 use Rattle.errors.proofs.Replies.{must-held, then-first, then-second}
 use Rattle.party.specs.declared.Party.{Party}
 use Rattle.party.specs.Limits.{placeOf}
-use Rattle.party.specs.Party.{IsParty, Said, said}
+use Rattle.party.specs.Party.{IsParty, Content, content}
 use Rattle.field_utils.specs.Tags.{tagOf}
-use Rattle.flat.specs.Flat.{recordSize}
+use Rattle.record_bytes.specs.RecordBytes.{recordSize}
 use Rattle.writer.specs.Writing.{writtenBody, writtenField, pieces, placed, fieldMost}
 use Rattle.writer.specs.Given.{isGiven}
 use Rattle.writer.specs.Placing.{Measured, lengthIs, refusedWith, Placing, measure, place}
@@ -24,15 +24,15 @@ use Rattle.writer.proofs.Capped.{bytesSay, option-stored, given-stored, field-s
 use Rattle.writer.proofs.Puts.{puts-byte, space, both, placed-fits}
 use Rattle.page_reader.specs.Pages.{pageMost}
 use Rattle.page_reader.specs.Index.{Entry}
-use Rattle.page_writer.specs.Beside.{Beside, noIndex, isIndexed, isFree, noting}
-use Rattle.page_writer.specs.Adding.{linesCarried, isCarried, writable, hasSpace, withLf, endLine, positionAfter, refusal, Call, putting, recordSpace, asked, Tally, recordReply, tallyOf, freeBeside, addReply, add, entryFor, addIndex, close}
+use Rattle.page_writer.specs.IndexState.{IndexState, noIndex, isIndexed, isFree, noting}
+use Rattle.page_writer.specs.Adding.{linesCarried, isCarried, writable, hasSpace, withLf, endLine, positionAfter, refusal, Call, putting, recordSpace, asked, Tally, recordReply, tallyOf, hasFreeEntry, addReply, add, entryFor, addIndex, close}
 use Rattle.page_writer.specs.Code.{lineReply, fieldCall}
 
 pub position≢refusal : {m k n : ℕ} → positionAfter m ≡ refusal k n → ⊥
 position≢refusal e = let z : _≡_ {A = ℕ} 0 1 = cc in omega arith
 
 -- ---- adding
-module _ (buffer : List ℕ) (at : ℕ) (b : Beside) (s : Said) where
+module _ (buffer : List ℕ) (at : ℕ) (b : IndexState) (s : Content) where
   pub add-by : add buffer at b s ≡ putting (addReply buffer at b s) buffer at (withLf (writtenField s))
   unfolding add
   add-by = refl
@@ -43,12 +43,12 @@ module _ (buffer : List ℕ) (at : ℕ) (b : Beside) (s : Said) where
 
   -- by what a page asks of the record
   pub add-asked : {r : Reply} → writable buffer at ≡ true → asked s ≡ r
-      → add buffer at b s ≡ putting (r then lineReply (length buffer) at (writtenField s) 2 (freeBeside b)) buffer at (withLf (writtenField s))
+      → add buffer at b s ≡ putting (r then lineReply (length buffer) at (writtenField s) 2 (hasFreeEntry b)) buffer at (withLf (writtenField s))
   unfolding add addReply recordReply
   add-asked w e = rw (w, e)
 
 -- an accepted one
-module _ (len : ℕ) (indexed : Bool) (t : Tally) (s : Said) (e : recordReply len indexed t s ≡ accepted) where
+module _ (len : ℕ) (indexed : Bool) (t : Tally) (s : Content) (e : recordReply len indexed t s ≡ accepted) where
   passed : asked s ≡ accepted
   unfolding recordReply
   passed = then-first _ _ e
@@ -67,7 +67,7 @@ module _ (len : ℕ) (indexed : Bool) (t : Tally) (s : Said) (e : recordReply le
   pub reply-free : isFree indexed (t .entries) ≡ true
   reply-free = must-held (isFree indexed (t .entries)) 31 0 (then-second (must (recordSpace len (t .position) s) 24 0) _ spaced)
 
-pub add-record : (buffer : List ℕ) (at : ℕ) (b : Beside) (s : Said) → addReply buffer at b s ≡ accepted → recordReply (length buffer) (isIndexed b) (tallyOf at b) s ≡ accepted
+pub add-record : (buffer : List ℕ) (at : ℕ) (b : IndexState) (s : Content) → addReply buffer at b s ≡ accepted → recordReply (length buffer) (isIndexed b) (tallyOf at b) s ≡ accepted
 unfolding addReply
 add-record buffer at b s e = then-second (must (writable buffer at) 21 0) _ e
 
@@ -88,13 +88,13 @@ module _ (r : Reply) (buffer : List ℕ) (at : ℕ) (text : List ℕ) {e : List 
       go (refused i j) q = let a : refusal k n ≡ refusal i j = ap (λ (c : Call). c .answer) q in cc
 
 -- the index after it
-module _ (buffer : List ℕ) (at : ℕ) (b : Beside) (s : Said) {r : Reply} where
+module _ (buffer : List ℕ) (at : ℕ) (b : IndexState) (s : Content) {r : Reply} where
   pub index-by : addReply buffer at b s ≡ r → addIndex buffer at b s ≡ noting r (entryFor at s) b
   unfolding addIndex
   index-by e = ap (λ (x : Reply). noting x (entryFor at s) b) e
 
 -- where there is none, none
-pub index-none : (buffer : List ℕ) (at : ℕ) (s : Said) → addIndex buffer at noIndex s ≡ noIndex
+pub index-none : (buffer : List ℕ) (at : ℕ) (s : Content) → addIndex buffer at noIndex s ≡ noIndex
 index-none buffer at s = go (addReply buffer at noIndex s) refl
   where
     go : (r : Reply) → addReply buffer at noIndex s ≡ r → addIndex buffer at noIndex s ≡ noIndex
@@ -102,25 +102,25 @@ index-none buffer at s = go (addReply buffer at noIndex s) refl
     go (refused k n) e = index-by buffer at noIndex s e
 
 -- the entry of a field from a position to the one after its LF
-pub entry-is : (p : Party) (at : ℕ) {next : ℕ} → next ≡ at + length (withLf (writtenField (said p)))
-    → _≡_ {A = Entry} (record { tag = placeOf (p .option); position = at; len = next - at - 1 }) (entryFor at (said p))
-unfolding said
+pub entry-is : (p : Party) (at : ℕ) {next : ℕ} → next ≡ at + length (withLf (writtenField (content p)))
+    → _≡_ {A = Entry} (record { tag = placeOf (p .option); position = at; len = next - at - 1 }) (entryFor at (content p))
+unfolding content
 entry-is p at {next} e =
-    let f = writtenField (said p) in
+    let f = writtenField (content p) in
     let n : next - at - 1 ≡ length f = omega (arith, e, length-append f (10 ∷ [])) in
     ap {B = Entry} (λ (k : ℕ). record { tag = placeOf (p .option); position = at; len = k }) n
 
 -- ---- a record that was stored as bytes is added as it is
 module _ (p : Party) (h : IsParty p) (d : List ℕ) (l : recordSize ≤ length d) (buffer : List ℕ) (at : ℕ) where
-  reply-stored : (b : Beside) → addReply buffer at b (bytesSay p h d l) ≡ addReply buffer at b (said p)
+  reply-stored : (b : IndexState) → addReply buffer at b (bytesSay p h d l) ≡ addReply buffer at b (content p)
   unfolding addReply recordReply asked isCarried
   reply-stored b = rw (given-stored p h d l, body-stored p h d l, field-stored p h d l)
 
-  pub add-stored : (b : Beside) → add buffer at b (bytesSay p h d l) ≡ add buffer at b (said p)
+  pub add-stored : (b : IndexState) → add buffer at b (bytesSay p h d l) ≡ add buffer at b (content p)
   unfolding add
   add-stored b = rw (reply-stored b, field-stored p h d l)
 
-  pub index-stored : (b : Beside) → addIndex buffer at b (bytesSay p h d l) ≡ addIndex buffer at b (said p)
+  pub index-stored : (b : IndexState) → addIndex buffer at b (bytesSay p h d l) ≡ addIndex buffer at b (content p)
   unfolding addIndex
   index-stored b = rw (reply-stored b, field-stored p h d l, option-stored p h d l)
 
@@ -135,25 +135,25 @@ module _ (buffer : List ℕ) (at : ℕ) where
   close-by w = rw w
 
 -- ---- what a page asks of a record
-pub asked-unmeasured : (s : Said) {k l : ℕ} → measure s ≡ refusedWith k l → asked s ≡ refused k l
+pub asked-unmeasured : (s : Content) {k l : ℕ} → measure s ≡ refusedWith k l → asked s ≡ refused k l
 unfolding asked
 asked-unmeasured s {k} {l} m =
     let e = unmeasured s m in
     let same : refusedWith 22 0 ≡ refusedWith k l = measure-22 s e ∙ m in
     rw e cc
 
-pub asked-by : (s : Said) {t : Bool} → isGiven s ≡ true → isCarried s ≡ t → asked s ≡ must t 23 0
+pub asked-by : (s : Content) {t : Bool} → isGiven s ≡ true → isCarried s ≡ t → asked s ≡ must t 23 0
 unfolding asked
 asked-by s g c = rw (g, c)
 
 -- ---- the parts of a field that is written out
-pub tag-within : (p : Party) → length (tagOf (p .option)) ≤ length (writtenField (said p))
-unfolding writtenField said
-tag-within p = omega (arith, length-append (tagOf (p .option)) (writtenBody (said p)))
+pub tag-within : (p : Party) → length (tagOf (p .option)) ≤ length (writtenField (content p))
+unfolding writtenField content
+tag-within p = omega (arith, length-append (tagOf (p .option)) (writtenBody (content p)))
 
-field-body : (p : Party) {field : List ℕ} → field ≡ writtenField (said p) → drop (length (tagOf (p .option))) field ≡ writtenBody (said p)
-unfolding writtenField said
-field-body p e = ap (drop (length (tagOf (p .option)))) e ∙ drop-append-seam (tagOf (p .option)) (writtenBody (said p))
+field-body : (p : Party) {field : List ℕ} → field ≡ writtenField (content p) → drop (length (tagOf (p .option))) field ≡ writtenBody (content p)
+unfolding writtenField content
+field-body p e = ap (drop (length (tagOf (p .option)))) e ∙ drop-append-seam (tagOf (p .option)) (writtenBody (content p))
 
 -- a field that is filed, by whether it is carried
 pub field-by : (buffer : List ℕ) (at : ℕ) (field : List ℕ) (start : ℕ) (free : Bool) {t : Bool} → linesCarried (pieces (drop start field)) ≡ t
@@ -161,33 +161,33 @@ pub field-by : (buffer : List ℕ) (at : ℕ) (field : List ℕ) (start : ℕ) (
 field-by buffer at field start free e = ap (λ (t : Bool). putting (must t 23 0 then lineReply (length buffer) at field 2 free) buffer at (withLf field)) e
 
 -- a record's, as it is added
-pub field-is : (p : Party) (buffer : List ℕ) (at : ℕ) (b : Beside) {field : List ℕ} {start : ℕ} → isGiven (said p) ≡ true → writable buffer at ≡ true
-    → field ≡ writtenField (said p) → start ≡ length (tagOf (p .option)) → fieldCall buffer at field start (freeBeside b) ≡ add buffer at b (said p)
+pub field-is : (p : Party) (buffer : List ℕ) (at : ℕ) (b : IndexState) {field : List ℕ} {start : ℕ} → isGiven (content p) ≡ true → writable buffer at ≡ true
+    → field ≡ writtenField (content p) → start ≡ length (tagOf (p .option)) → fieldCall buffer at field start (hasFreeEntry b) ≡ add buffer at b (content p)
 unfolding isCarried
 field-is p buffer at b g w f s =
-    (λ j. fieldCall buffer at (f j) (s j) (freeBeside b))
-    ∙ field-by buffer at (writtenField (said p)) (length (tagOf (p .option))) (freeBeside b) (ap (λ (l : List ℕ). linesCarried (pieces l)) (field-body p refl))
-    ∙ sym (add-asked buffer at b (said p) w (asked-by (said p) g refl))
+    (λ j. fieldCall buffer at (f j) (s j) (hasFreeEntry b))
+    ∙ field-by buffer at (writtenField (content p)) (length (tagOf (p .option))) (hasFreeEntry b) (ap (λ (l : List ℕ). linesCarried (pieces l)) (field-body p refl))
+    ∙ sym (add-asked buffer at b (content p) w (asked-by (content p) g refl))
 
 -- ---- a record placed in a room for it
 -- the record is given, and the first n bytes of the room are its field
 pub record Held (p : Party) (room : List ℕ) (n : ℕ) : Type 0 where
-  pub given : isGiven (said p) ≡ true
+  pub given : isGiven (content p) ≡ true
   pub size : length room ≡ fieldMost
-  pub len : n ≡ length (writtenField (said p))
-  pub text : take n room ≡ writtenField (said p)
+  pub len : n ≡ length (writtenField (content p))
+  pub text : take n room ≡ writtenField (content p)
 
 module _ (p : Party) (d : List ℕ) (z : length d ≡ fieldMost) {e : List ℕ} where
   -- what is answered there is what measuring answers
-  pub room-measured : {m : Measured} → (record { answer = m; buffer = e }) ≡ place (said p) d → measure (said p) ≡ m
+  pub room-measured : {m : Measured} → (record { answer = m; buffer = e }) ≡ place (content p) d → measure (content p) ≡ m
   room-measured q = sym (measure-and-place p d .agrees (omega (arith, z))) ∙ ap (λ (x : Placing). x .answer) (sym q)
 
-  pub room-held : {n : ℕ} → (record { answer = lengthIs n; buffer = e }) ≡ place (said p) d → Held p e n
+  pub room-held : {n : ℕ} → (record { answer = lengthIs n; buffer = e }) ≡ place (content p) d → Held p e n
   room-held {n} q =
-      let f = writtenField (said p) in
+      let f = writtenField (content p) in
       let m = room-measured q in
       let s = measure-and-place p d .measured m in
-      let g = measured (said p) m .0 in
+      let g = measured (content p) m .0 in
       let most = written-most p (given-exact p .yes g) in
       let b : e ≡ f ++ drop n d = ap (λ (x : Placing). x .buffer) (q ∙ s .enough (omega (arith, s .exact))) in
       record {

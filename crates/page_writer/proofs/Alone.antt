@@ -12,7 +12,7 @@ use Rattle.party.specs.declared.Layout.{Layout}
 use Rattle.party.specs.declared.Layout.the-variants.{BicOnly, TextOnly, ByLines}
 use Rattle.party.specs.declared.Party.{Party}
 use Rattle.party.specs.Decides.{Decides}
-use Rattle.party.specs.Party.{Said, said, Same}
+use Rattle.party.specs.Party.{Content, content, Same}
 use Rattle.field_utils.specs.Lines.{lines, withoutCr}
 use Rattle.field_utils.specs.Tags.{tagOf}
 use Rattle.field_utils.proofs.Places.{withoutCr-short}
@@ -23,7 +23,7 @@ use Rattle.writer.specs.ReadBack.{endsCr}
 use Rattle.writer.proofs.Relined.{weight, cr-kept, cr-shorter}
 use Rattle.writer.proofs.Weights.{lines-weight}
 use Rattle.writer.proofs.Sizes.{joined-length}
-use Rattle.writer.proofs.Sayings.{saying}
+use Rattle.writer.proofs.Contents.{foundContent}
 use Rattle.writer.specs.Sender.{readLines}
 use Rattle.writer.proofs.Necessary.{light}
 use Rattle.writer.proofs.Back.{accepted-is}
@@ -83,7 +83,7 @@ module _ (p : Party) (g : Given p) where
   o = p .option
 
   abbrev body : List ℕ
-  body = writtenBody (said p)
+  body = writtenBody (content p)
 
   -- what reading a body says of the record
   abbrev Read : List ℕ → Type 0
@@ -92,10 +92,10 @@ module _ (p : Party) (g : Given p) where
   pub alone-most : length (pageOf (kept p ∷ []) endLine) ≤ pageMost
   unfolding pageOf
   alone-most =
-      omega (arith, length-append (withLf (writtenField (said p))) endLine, length-append (writtenField (said p)) (10 ∷ []), written-most p g)
+      omega (arith, length-append (withLf (writtenField (content p))) endLine, length-append (writtenField (content p)) (10 ∷ []), written-most p g)
 
   alone-cut : Alone p → Read (cutBody body)
-  unfolding ReadsAs pageOf writtenField said front-lined
+  unfolding ReadsAs pageOf writtenField content front-lined
   alone-cut a =
       let d = tagged-lined o body in
       let x = pieces-of body in
@@ -109,7 +109,7 @@ module _ (p : Party) (g : Given p) where
       ∙ field-read p (cutBody body) n in
       record-accepted (read o (cutBody body) .reply) (read o (cutBody body) .party) p (subst (λ (w : PageRead). Gives w (kept p)) r (a .0))
 
-  alone : isCarried (said p) ≡ true → Alone p
+  alone : isCarried (content p) ≡ true → Alone p
   alone e = reads (ending []) refl (kept p ∷ []) alone-most (kept-sound p g e, tt)
 
   -- a body that is cut does not read back
@@ -118,11 +118,11 @@ module _ (p : Party) (g : Given p) where
   cut-not a k =
       let r = alone-cut a in
       let b = accepted-is o (cutBody body) (r .0) in
-      let same : saying o (foundBy (limitsOf o .layout) o (cutBody body)) ≡ said p = sym (b .says) ∙ r .1 in
-      short-not (limitsOf o .layout) (writtenLines (said p)) (cutBody body) k
-      (subst (λ (s : Said). weight (writtenLines s) ≤ weight (readLines (limitsOf o .layout) (cutBody body))) same (light (b .good)))
+      let same : foundContent o (foundBy (limitsOf o .layout) o (cutBody body)) ≡ content p = sym (b .says) ∙ r .1 in
+      short-not (limitsOf o .layout) (writtenLines (content p)) (cutBody body) k
+      (subst (λ (s : Content). weight (writtenLines s) ≤ weight (readLines (limitsOf o .layout) (cutBody body))) same (light (b .good)))
 
-  alone-not : isCarried (said p) ≡ false → Alone p → ⊥
+  alone-not : isCarried (content p) ≡ false → Alone p → ⊥
   alone-not e a = go (laterBoundary (pieces body)) (endsCr body) refl refl
     where
       go : (t c : Bool) → laterBoundary (pieces body) ≡ t → endsCr body ≡ c → ⊥
@@ -130,8 +130,8 @@ module _ (p : Party) (g : Given p) where
       go false true m n = cut-not a (omega (arith, ap length (cut-same body m), cr-shorter body n))
       go false false m n =
           let r : Read body = subst Read (cut-same body m ∙ cr-kept body n) (alone-cut a) in
-          reading-back p g .no (not-back (said p) e m n) (record { accepts = r .0; same = r .1 })
+          reading-back p g .no (not-back (content p) e m n) (record { accepts = r .0; same = r .1 })
 
   -- 23 exactly when the field alone on a page does not read back as the record
-  pub alone-exact : Decides (isCarried (said p)) (Alone p)
+  pub alone-exact : Decides (isCarried (content p)) (Alone p)
   alone-exact = record { yes = alone; no = alone-not }

@@ -13,7 +13,7 @@ use Rattle.party.specs.declared.PartyOption.{PartyOption}
 use Rattle.party.specs.declared.Party.{Party}
 use Rattle.party.specs.declared.Layout.{Layout}
 use Rattle.party.specs.declared.Layout.the-variants.{BicOnly, TextOnly, ByLines}
-use Rattle.party.specs.Party.{said}
+use Rattle.party.specs.Party.{content}
 use Rattle.party.specs.Limits.{limitsOf}
 use Rattle.party.proofs.Options.{by-option}
 use Rattle.swift_utils.specs.Bytes.{all, among}
@@ -132,17 +132,17 @@ any-boundary (l ∷ ls) e = λ i. boundary-cr l (either-left (endsCr l) (anyCr l
 
 -- ---- a field with CR LF, as one that is overwritten
 abbrev sent : Party → Field
-sent p = new (withCr (drop 1 (crlf (writtenField (said p)))))
+sent p = new (withCr (drop 1 (crlf (writtenField (content p)))))
 
 module _ (p : Party) where
   abbrev o : PartyOption
   o = p .option
 
   abbrev body : List ℕ
-  body = writtenBody (said p)
+  body = writtenBody (content p)
 
-  tag-crlf : crlf (writtenField (said p)) ≡ tagOf o ++ crlf body
-  unfolding writtenField said tagOf
+  tag-crlf : crlf (writtenField (content p)) ≡ tagOf o ++ crlf body
+  unfolding writtenField content tagOf
   tag-crlf = crlf-append (tagOf o) body ∙ ap (λ (x : List ℕ). x ++ crlf body) (crlf-line (tagOf o) (by-option (λ (q : PartyOption). Line (tagOf q)) refl refl refl refl refl refl refl refl refl refl refl o))
 
   colon : (x : List ℕ) → 58 ∷ withCr (drop 1 (tagOf o ++ x)) ≡ withCr (tagOf o ++ x)
@@ -172,23 +172,23 @@ module _ (p : Party) where
       lined = sent-lined;
       bounded =
           let q = pieces-of body in
-          let a : anyCr (q .first ∷ q .later) ≡ false = ap anyCr (sym (q .are)) ∙ carried-any (said p) (h .carried) in
-          any-boundary (q .later) (either-right (endsCr (q .first)) (anyCr (q .later)) a) ∙ later-none body (carried-bounded (said p) (h .carried));
+          let a : anyCr (q .first ∷ q .later) ≡ false = ap anyCr (sym (q .are)) ∙ carried-any (content p) (h .carried) in
+          any-boundary (q .later) (either-right (endsCr (q .first)) (anyCr (q .later)) a) ∙ later-none body (carried-bounded (content p) (h .carried));
       gives = new-gives _;
     }
 
     sent-read : read o (crlf body) ≡ read o body
-    unfolding writtenField said
+    unfolding writtenField content
     sent-read =
         let g = given-exact p .yes (h .given) in
         let n : length body ≤ fieldMost = omega (arith, written-most p g, length-append (tagOf o) body) in
-        read-crlf o body (reading-back p g .yes (carried-back (said p) (h .carried)) .accepts) (carried-earlier (said p) (h .carried)) (omega (arith, crlf-length body, n))
+        read-crlf o body (reading-back p g .yes (carried-back (content p) (h .carried)) .accepts) (carried-earlier (content p) (h .carried)) (omega (arith, crlf-length body, n))
 
     sent-gives : (r : PageRead) → Gives r (sent p) → Gives r (kept p)
     unfolding endsCr
     sent-gives r g =
-        let b = reading-back p (given-exact p .yes (h .given)) .yes (carried-back (said p) (h .carried)) in
-        let x : 58 ∷ withoutCr (withCr (drop 1 (crlf (writtenField (said p))))) ≡ tagOf o ++ crlf body = sym (cr-front (58 ∷ []) _ refl) ∙ ap withoutCr sent-text ∙ cr-added (tagOf o ++ crlf body) in
+        let b = reading-back p (given-exact p .yes (h .given)) .yes (carried-back (content p) (h .carried)) in
+        let x : 58 ∷ withoutCr (withCr (drop 1 (crlf (writtenField (content p))))) ≡ tagOf o ++ crlf body = sym (cr-front (58 ∷ []) _ refl) ∙ ap withoutCr sent-text ∙ cr-added (tagOf o ++ crlf body) in
         let q : r .outcome ≡ outcomeOf (read o body .reply) (read o body .party) =
         ap (λ (y : PageRead). y .outcome) (g ∙ ap (λ (t : List ℕ). readField t (r .next)) x ∙ field-read p (crlf body) (r .next)) ∙ ap (λ (y : Reading). outcomeOf (y .reply) (y .party)) sent-read in
         subst (λ (y : ReadOutcome). IsRecord y p) (sym q) (accepted-record _ _ p (b .accepts) (b .same))
@@ -198,7 +198,7 @@ sent-fields : (ps : List Party) → crlf (fieldsOf ps) ≡ pageOf (map sent ps) 
 unfolding pageOf crlf
 sent-fields [] = refl
 sent-fields (p ∷ ps) =
-    let w = writtenField (said p) in
+    let w = writtenField (content p) in
     crlf-append (withLf w) (fieldsOf ps)
     ∙ (λ i. (crlf-append w (10 ∷ []) ∙ sym (append-assoc (crlf w) (13 ∷ []) (10 ∷ [])) ∙ ap withLf (ap withCr (tag-crlf p) ∙ sym (sent-text p))) i ++ sent-fields ps i)
 

@@ -9,20 +9,20 @@ use lib.Dec.{eqb}
 use lib.ListN.{length, getD, length-append, length-map, List·getD-append, List·getD-map}
 use lib.Seq.{getD-append-seam}
 use Rattle.party.specs.declared.Party.{Party}
-use Rattle.party.specs.Party.{said}
+use Rattle.party.specs.Party.{content}
 use Rattle.field_utils.specs.Lines.{withoutCr}
 use Rattle.writer.specs.Writing.{writtenField}
 use Rattle.writer.proofs.Relined.{All}
 use Rattle.page_reader.specs.Pages.{pageMost, ReadOutcome, PageRead, bodiless, readField, readAt}
-use Rattle.page_reader.specs.Reads.{Read, readHere, isEnd, isLast, reads}
+use Rattle.page_reader.specs.Reads.{Read, readHere, isTheEnd, isLast, reads}
 use Rattle.page_reader.specs.Index.{Entry, indexSize, entriesOf, noEntry, Met, aField, fieldAt, metBefore, fieldsIn, found, entryOf, lookUp}
 use Rattle.page_reader.proofs.Cases.{field-next}
 use Rattle.page_reader.proofs.InTurn.{rest, rest-start, rest-last, rest-next}
 use Rattle.page_reader.proofs.Entries.{entries-length, look-none, look-past, look-found}
 use Rattle.page_writer.specs.Adding.{withLf, entryFor}
 use Rattle.page_writer.specs.WholePage.{kept, pageOf, Gives}
-use Rattle.page_writer.specs.Indexed.{Indexed, IndexedBeside}
-use Rattle.page_writer.specs.Beside.{Beside, noIndex, anIndex}
+use Rattle.page_writer.specs.Indexed.{Indexed, IndexHolds}
+use Rattle.page_writer.specs.IndexState.{IndexState, noIndex, anIndex}
 use Rattle.page_writer.proofs.Structure.{Tail, nothing, ending, whole, Structure, structure, all-later}
 use Rattle.page_writer.proofs.Records.{kept-met}
 use Rattle.page_writer.proofs.Noting.{entriesFrom, from-length, from-start, Noted}
@@ -65,7 +65,7 @@ module _ {tail : List ℕ} {last : ReadOutcome} {n : ℕ} (t : Tail tail last n)
     at = length (fieldsOf before)
 
     abbrev next : ℕ
-    next = at + length (withLf (writtenField (said p)))
+    next = at + length (withLf (writtenField (content p)))
 
     splits : map kept list ≡ map kept before ++ kept p ∷ map kept later
     splits = ap (map kept) e ∙ map-append kept before (p ∷ later)
@@ -73,26 +73,26 @@ module _ {tail : List ℕ} {last : ReadOutcome} {n : ℕ} (t : Tail tail last n)
     fits : Fit p
     fits = all-later Fit before (p ∷ later) (subst (All Fit) e fit) .0
 
-    read-is : readAt page at ≡ readField (withoutCr (writtenField (said p))) next
+    read-is : readAt page at ≡ readField (withoutCr (writtenField (content p))) next
     read-is = structured .field (map kept before) (kept p) (map kept later) splits
 
     gives-here : Gives (readAt page at) (kept p)
     gives-here = subst (λ (r : PageRead). Gives r (kept p)) (sym read-is) (fit-sound p fits .gives next)
 
     next-is : readAt page at .next ≡ next
-    next-is = ap (λ (r : PageRead). r .next) read-is ∙ field-next (withoutCr (writtenField (said p))) next
+    next-is = ap (λ (r : PageRead). r .next) read-is ∙ field-next (withoutCr (writtenField (content p))) next
 
     goes-on : isLast (readAt page at) at ≡ false
     goes-on =
-        let o : isEnd (readAt page at .outcome) ≡ false = ap isEnd (gives-here .1) in
-        let k : eqb (readAt page at .next) at ≡ false = ne-eqb (readAt page at .next) at (λ q. omega (arith, q, next-is, length-append (writtenField (said p)) (10 ∷ []))) in
+        let o : isTheEnd (readAt page at .outcome) ≡ false = ap isTheEnd (gives-here .1) in
+        let k : eqb (readAt page at .next) at ≡ false = ne-eqb (readAt page at .next) at (λ q. omega (arith, q, next-is, length-append (writtenField (content p)) (10 ∷ []))) in
         rw (o, k)
 
-    met-here : fieldAt page at ≡ aField (entryFor at (said p))
+    met-here : fieldAt page at ≡ aField (entryFor at (content p))
     met-here = structured .met (map kept before) (kept p) (map kept later) splits ∙ kept-met p (fits .carried) at
 
     next-at : next ≡ length (fieldsOf (before ++ p ∷ []))
-    next-at = omega (arith, ap length (fields-snoc before p), length-append (fieldsOf before) (withLf (writtenField (said p))))
+    next-at = omega (arith, ap length (fields-snoc before p), length-append (fieldsOf before) (withLf (writtenField (content p))))
 
     further : list ≡ (before ++ p ∷ []) ++ later
     further = e ∙ sym (append-assoc before (p ∷ []) later)
@@ -168,14 +168,14 @@ module _ {tail : List ℕ} {last : ReadOutcome} {n : ℕ} (t : Tail tail last n)
       gives = λ before p later e.
           let i = length before in
           let at = length (fieldsOf before) in
-          let rest = entriesFrom (at + length (withLf (writtenField (said p)))) later in
-          let x : getD (entriesFrom 0 list) i noEntry ≡ entryFor at (said p) =
+          let rest = entriesFrom (at + length (withLf (writtenField (content p)))) later in
+          let x : getD (entriesFrom 0 list) i noEntry ≡ entryFor at (content p) =
           ap (λ (l : List Party). getD (entriesFrom 0 l) i noEntry) e ∙ ap (λ (l : List Entry). getD l i noEntry) (from-start before p later)
-          ∙ ap (λ (j : ℕ). getD (entriesFrom 0 before ++ entryFor at (said p) ∷ rest) j noEntry) (sym (from-length 0 before)) ∙ getD-append-seam (entriesFrom 0 before) (entryFor at (said p)) rest noEntry in
-          (readHere page at, look i (entryFor at (said p)) (omega (arith, ap length e, length-append before (p ∷ later))) (entry-in i ∙ x) (met-here before p later e), gives-here before p later e);
+          ∙ ap (λ (j : ℕ). getD (entriesFrom 0 before ++ entryFor at (content p) ∷ rest) j noEntry) (sym (from-length 0 before)) ∙ getD-append-seam (entriesFrom 0 before) (entryFor at (content p)) rest noEntry in
+          (readHere page at, look i (entryFor at (content p)) (omega (arith, ap length e, length-append before (p ∷ later))) (entry-in i ∙ x) (met-here before p later e), gives-here before p later e);
     }
 
   -- of what stands beside the page
-  pub indexed-beside : (b : Beside) → Noted b list → IndexedBeside b page list
+  pub indexed-beside : (b : IndexState) → Noted b list → IndexHolds b page list
   indexed-beside noIndex h = tt
   indexed-beside (anIndex d) h = indexed d (h .0) (h .1)

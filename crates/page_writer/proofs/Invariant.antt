@@ -10,7 +10,7 @@ use lib.Seq.{drop-drop}
 use borrow.Author.Tests.{le-leb}
 use Rattle.errors.specs.Refusals.{Reply, accepted, refused, must, _then_}
 use Rattle.party.specs.declared.Party.{Party}
-use Rattle.party.specs.Party.{Said, said}
+use Rattle.party.specs.Party.{Content, content}
 use Rattle.field_utils.proofs.Tests.{both}
 use Rattle.writer.specs.Writing.{writtenField}
 use Rattle.writer.specs.Given.{isGiven}
@@ -19,8 +19,8 @@ use Rattle.writer.proofs.Puts.{put-length, put-take, put-drop}
 use Rattle.writer.proofs.Relined.{All}
 use Rattle.page_reader.specs.Pages.{pageMost, startsLine}
 use Rattle.page_reader.proofs.Starts.{starts-prefix}
-use Rattle.page_writer.specs.Beside.{Beside, isIndexed, isFree, noting}
-use Rattle.page_writer.specs.Adding.{isCarried, writable, withLf, Filed, positionAfter, putting, recordSpace, asked, recordReply, tallyOf, freeBeside, addReply, add, entryFor, addIndex}
+use Rattle.page_writer.specs.IndexState.{IndexState, isIndexed, isFree, noting}
+use Rattle.page_writer.specs.Adding.{isCarried, writable, withLf, Filed, positionAfter, putting, recordSpace, asked, recordReply, tallyOf, hasFreeEntry, addReply, add, entryFor, addIndex}
 use Rattle.page_writer.specs.Fold.{Step, run, acceptedOf}
 use Rattle.page_writer.specs.WholePage.{OpenPage, lastGiven, addStep, isAccepted, Model, modelBy, modelStep, kept, pageOf}
 use Rattle.page_writer.proofs.Addings.{reply-fit, reply-space, reply-free, add-record}
@@ -30,7 +30,7 @@ use Rattle.page_writer.proofs.Structure.{Sound, fields-start}
 use Rattle.page_writer.proofs.Records.{kept-sound}
 
 -- an add, by its reply
-pub add-is : (buffer : List ℕ) (at : ℕ) (b : Beside) (s : Said) {r : Reply} → writable buffer at ≡ true → recordReply (length buffer) (isIndexed b) (tallyOf at b) s ≡ r
+pub add-is : (buffer : List ℕ) (at : ℕ) (b : IndexState) (s : Content) {r : Reply} → writable buffer at ≡ true → recordReply (length buffer) (isIndexed b) (tallyOf at b) s ≡ r
     → add buffer at b s ≡ putting r buffer at (withLf (writtenField s))
 unfolding add addReply
 add-is buffer at b s w e =
@@ -39,10 +39,10 @@ add-is buffer at b s w e =
 -- as a step
 abbrev stepBy : Reply → OpenPage → Party → Step OpenPage Filed
 stepBy r s p =
-    let c = putting r (s .buffer) (s .position) (withLf (writtenField (said p))) in
-    record { state = record { buffer = c .buffer; position = lastGiven (c .answer) (s .position); index = noting r (entryFor (s .position) (said p)) (s .index) }; answer = c .answer }
+    let c = putting r (s .buffer) (s .position) (withLf (writtenField (content p))) in
+    record { state = record { buffer = c .buffer; position = lastGiven (c .answer) (s .position); index = noting r (entryFor (s .position) (content p)) (s .index) }; answer = c .answer }
 
-step-is : (s : OpenPage) (p : Party) {r : Reply} → addReply (s .buffer) (s .position) (s .index) (said p) ≡ r → addStep s p ≡ stepBy r s p
+step-is : (s : OpenPage) (p : Party) {r : Reply} → addReply (s .buffer) (s .position) (s .index) (content p) ≡ r → addStep s p ≡ stepBy r s p
 unfolding add addIndex
 step-is s p e = ap (λ (r : Reply). stepBy r s p) e
 
@@ -51,10 +51,10 @@ module _ (buffer : List ℕ) where
   abbrev Untouched : OpenPage → Type 0
   Untouched s = drop (s .position) (s .buffer) ≡ drop (s .position) buffer
 
-  put-untouched : (r : Reply) (s : OpenPage) (p : Party) → (r ≡ accepted → s .position + length (withLf (writtenField (said p))) ≤ length (s .buffer)) → Untouched s
+  put-untouched : (r : Reply) (s : OpenPage) (p : Party) → (r ≡ accepted → s .position + length (withLf (writtenField (content p))) ≤ length (s .buffer)) → Untouched s
       → Untouched (stepBy r s p .state)
   put-untouched accepted s p room h =
-      let text = withLf (writtenField (said p)) in
+      let text = withLf (writtenField (content p)) in
       put-drop (s .buffer) (s .position) text (room refl) ∙ sym (drop-drop (length text) (s .position) (s .buffer)) ∙ ap (drop (length text)) h
       ∙ drop-drop (length text) (s .position) buffer
   put-untouched (refused k n) s p room h = h
@@ -62,15 +62,15 @@ module _ (buffer : List ℕ) where
   pub adds-untouched : (s : OpenPage) → Untouched s → (ps : List Party) → Untouched (run addStep s ps .state)
   adds-untouched =
       run-keeps addStep Untouched
-      (λ s p h. let r = addReply (s .buffer) (s .position) (s .index) (said p) in
+      (λ s p h. let r = addReply (s .buffer) (s .position) (s .index) (content p) in
       subst (λ (c : Step OpenPage Filed). Untouched (c .state)) (sym (step-is s p refl))
-      (put-untouched r s p (λ e. omega (arith, reply-space (length (s .buffer)) (isIndexed (s .index)) (tallyOf (s .position) (s .index)) (said p) (add-record (s .buffer) (s .position) (s .index) (said p) e))) h))
+      (put-untouched r s p (λ e. omega (arith, reply-space (length (s .buffer)) (isIndexed (s .index)) (tallyOf (s .position) (s .index)) (content p) (add-record (s .buffer) (s .position) (s .index) (content p) e))) h))
 
 -- ---- the invariant
 -- a record that a page carries
 pub record Fit (p : Party) : Type 0 where
-  pub given : isGiven (said p) ≡ true
-  pub carried : isCarried (said p) ≡ true
+  pub given : isGiven (content p) ≡ true
+  pub carried : isCarried (content p) ≡ true
 
 -- the fields of records
 abbrev pub fieldsOf : List Party → List ℕ
@@ -101,10 +101,10 @@ fit-snoc : (ps : List Party) (p : Party) → All Fit ps → Fit p → All Fit (p
 fit-snoc [] p h k = (k, tt)
 fit-snoc (q ∷ ps) p h k = (h .0, fit-snoc ps p (h .1) k)
 
-pub fields-snoc : (ps : List Party) (p : Party) → fieldsOf (ps ++ p ∷ []) ≡ fieldsOf ps ++ withLf (writtenField (said p))
+pub fields-snoc : (ps : List Party) (p : Party) → fieldsOf (ps ++ p ∷ []) ≡ fieldsOf ps ++ withLf (writtenField (content p))
 unfolding pageOf
-fields-snoc [] p = append-nil (withLf (writtenField (said p)))
-fields-snoc (q ∷ ps) p = ap (_++_ (withLf (writtenField (said q)))) (fields-snoc ps p) ∙ sym (append-assoc (withLf (writtenField (said q))) (fieldsOf ps) (withLf (writtenField (said p))))
+fields-snoc [] p = append-nil (withLf (writtenField (content p)))
+fields-snoc (q ∷ ps) p = ap (_++_ (withLf (writtenField (content q)))) (fields-snoc ps p) ∙ sym (append-assoc (withLf (writtenField (content q))) (fieldsOf ps) (withLf (writtenField (content p))))
 
 module _ (len : ℕ) (indexed : Bool) (s : OpenPage) (m : Model) (h : Invariant len indexed s m) where
   within : s .position ≤ len
@@ -121,23 +121,23 @@ module _ (len : ℕ) (indexed : Bool) (s : OpenPage) (m : Model) (h : Invariant 
       both (leb (s .position) (length (s .buffer))) (startsLine (s .buffer) (s .position)) (le-leb (s .position) (length (s .buffer)) (omega (arith, within, h .size))) starts
 
   -- an entry is free in the run where one is in the model
-  free-is : freeBeside (s .index) ≡ isFree indexed (m .tally .entries)
+  free-is : hasFreeEntry (s .index) ≡ isFree indexed (m .tally .entries)
   free-is = noted-free (s .index) (m .list) (h .noted) ∙ (λ i. isFree (h .kind i) (sym (h .used) i))
 
   module _ (p : Party) where
     abbrev text : List ℕ
-    text = withLf (writtenField (said p))
+    text = withLf (writtenField (content p))
 
     -- an add keeps it, and answers what the model does
     abbrev Kept : Step OpenPage Filed → Step Model Filed → Type 0
     Kept a b = Invariant len indexed (a .state) (b .state) × (a .answer ≡ b .answer)
 
-    by-reply : (r : Reply) → recordReply len indexed (m .tally) (said p) ≡ r → Kept (stepBy r s p) (modelBy r m p)
+    by-reply : (r : Reply) → recordReply len indexed (m .tally) (content p) ≡ r → Kept (stepBy r s p) (modelBy r m p)
     by-reply (refused k n) e = (h, refl)
     by-reply accepted e =
-        let space : s .position + length text + 2 ≤ min len pageMost = let k = reply-space len indexed (m .tally) (said p) e in omega (arith, k, h .same) in
+        let space : s .position + length text + 2 ≤ min len pageMost = let k = reply-space len indexed (m .tally) (content p) e in omega (arith, k, h .same) in
         let room : s .position + length text ≤ length (s .buffer) = omega (arith, space, h .size) in
-        let f = reply-fit len indexed (m .tally) (said p) e in
+        let f = reply-fit len indexed (m .tally) (content p) e in
         let q = fields-snoc (m .list) p in (
           record {
             fields = put-take (s .buffer) (s .position) text room ∙ ap (λ (x : List ℕ). x ++ text) (h .fields) ∙ sym q;
@@ -147,21 +147,21 @@ module _ (len : ℕ) (indexed : Bool) (s : OpenPage) (m : Model) (h : Invariant 
             size = put-length (s .buffer) (s .position) text room ∙ h .size;
             fit = fit-snoc (m .list) p (h .fit) (record { given = f .0; carried = f .1 });
             room = λ n. omega (arith, space, h .same);
-            noted = subst (λ (k : ℕ). Noted (noting accepted (entryFor k (said p)) (s .index)) (m .list ++ p ∷ [])) (sym (h .ends))
-                (noted-more (s .index) (m .list) p (h .noted) (free-is ∙ reply-free len indexed (m .tally) (said p) e));
-            kind = noting-kind accepted (entryFor (s .position) (said p)) (s .index) ∙ h .kind;
+            noted = subst (λ (k : ℕ). Noted (noting accepted (entryFor k (content p)) (s .index)) (m .list ++ p ∷ [])) (sym (h .ends))
+                (noted-more (s .index) (m .list) p (h .noted) (free-is ∙ reply-free len indexed (m .tally) (content p) e));
+            kind = noting-kind accepted (entryFor (s .position) (content p)) (s .index) ∙ h .kind;
           },
           ap (λ (k : ℕ). positionAfter (k + length text)) (h .same),
         )
 
-    reply-is : addReply (s .buffer) (s .position) (s .index) (said p) ≡ recordReply len indexed (m .tally) (said p)
+    reply-is : addReply (s .buffer) (s .position) (s .index) (content p) ≡ recordReply len indexed (m .tally) (content p)
     unfolding addReply recordReply
     reply-is =
-        ap (λ (t : Bool). must t 21 0 then recordReply (length (s .buffer)) (isIndexed (s .index)) (tallyOf (s .position) (s .index)) (said p)) ready
-        ∙ (λ i. asked (said p) then must (recordSpace (h .size i) (h .same i) (said p)) 24 0 then must (free-is i) 31 0)
+        ap (λ (t : Bool). must t 21 0 then recordReply (length (s .buffer)) (isIndexed (s .index)) (tallyOf (s .position) (s .index)) (content p)) ready
+        ∙ (λ i. asked (content p) then must (recordSpace (h .size i) (h .same i) (content p)) 24 0 then must (free-is i) 31 0)
 
     add-keeps : Kept (addStep s p) (modelStep len indexed m p)
-    add-keeps = subst (λ (a : Step OpenPage Filed). Kept a (modelStep len indexed m p)) (sym (step-is s p reply-is)) (by-reply (recordReply len indexed (m .tally) (said p)) refl)
+    add-keeps = subst (λ (a : Step OpenPage Filed). Kept a (modelStep len indexed m p)) (sym (step-is s p reply-is)) (by-reply (recordReply len indexed (m .tally) (content p)) refl)
 
 -- it holds after a run, and the run answers what the model does
 pub ran : (len : ℕ) (indexed : Bool) (s : OpenPage) (m : Model) → Invariant len indexed s m → (ps : List Party) → let a = run addStep s ps in let b = run (modelStep len indexed) m ps in
@@ -174,7 +174,7 @@ ran len indexed s m h ps =
 pub listed : (len : ℕ) (indexed : Bool) (ps : List Party) (m : Model) → let r = run (modelStep len indexed) m ps in r .state .list ≡ m .list ++ acceptedOf ps (map isAccepted (r .answers))
 unfolding run acceptedOf
 listed len indexed [] m = sym (append-nil (m .list))
-listed len indexed (p ∷ ps) m = go (recordReply len indexed (m .tally) (said p)) (listed len indexed ps)
+listed len indexed (p ∷ ps) m = go (recordReply len indexed (m .tally) (content p)) (listed len indexed ps)
   where
     go : (r : Reply) → ((m : Model) → let a = run (modelStep len indexed) m ps in a .state .list ≡ m .list ++ acceptedOf ps (map isAccepted (a .answers)))
         → let c = modelBy r m p in let a = run (modelStep len indexed) (c .state) ps in a .state .list ≡ m .list ++ acceptedOf (p ∷ ps) (isAccepted (c .answer) ∷ map isAccepted (a .answers))

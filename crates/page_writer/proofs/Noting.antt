@@ -9,14 +9,14 @@ use lib.ListN.{length, take, drop, set, length-append}
 use borrow.Author.Tests.{ltb-true}
 use Rattle.errors.specs.Refusals.{Reply, accepted, refused}
 use Rattle.party.specs.declared.Party.{Party}
-use Rattle.party.specs.Party.{said}
+use Rattle.party.specs.Party.{content}
 use Rattle.writer.specs.Writing.{writtenField, put}
 use Rattle.writer.specs.Code.{Puts}
 use Rattle.writer.proofs.Puts.{put-length, puts-byte, same-length, both}
 use Rattle.page_reader.specs.Index.{Entry, indexMost, indexSize, entriesIn, entriesOf}
 use Rattle.page_reader.proofs.Entries.{entries-length}
-use Rattle.page_writer.specs.Beside.{Beside, noIndex, anIndex, isIndexed, isFree, noted, noting}
-use Rattle.page_writer.specs.Adding.{withLf, freeBeside, entryFor}
+use Rattle.page_writer.specs.IndexState.{IndexState, noIndex, anIndex, isIndexed, isFree, noted, noting}
+use Rattle.page_writer.specs.Adding.{withLf, hasFreeEntry, entryFor}
 use Rattle.page_writer.specs.WholePage.{kept, pageOf}
 
 -- ---- what is stored
@@ -86,49 +86,49 @@ module _ (e : Entry) where
 -- ---- the entries of a list's fields, which follow one another from a position on
 unfoldable pub entriesFrom : ℕ → List Party → List Entry
 entriesFrom at [] = []
-entriesFrom at (p ∷ ps) = entryFor at (said p) ∷ entriesFrom (at + length (withLf (writtenField (said p)))) ps
+entriesFrom at (p ∷ ps) = entryFor at (content p) ∷ entriesFrom (at + length (withLf (writtenField (content p)))) ps
 
 pub from-length : (at : ℕ) (ps : List Party) → length (entriesFrom at ps) ≡ length ps
 unfolding entriesFrom
 from-length at [] = refl
-from-length at (p ∷ ps) = ap suc (from-length (at + length (withLf (writtenField (said p)))) ps)
+from-length at (p ∷ ps) = ap suc (from-length (at + length (withLf (writtenField (content p)))) ps)
 
 from-append : (at : ℕ) (ps qs : List Party) → entriesFrom at (ps ++ qs) ≡ entriesFrom at ps ++ entriesFrom (at + length (pageOf (map kept ps) [])) qs
 unfolding entriesFrom pageOf
 from-append at [] qs = ap (λ (n : ℕ). entriesFrom n qs) (let z : at ≡ at + 0 = omega arith in z)
 from-append at (p ∷ ps) qs =
-    let t = withLf (writtenField (said p)) in
+    let t = withLf (writtenField (content p)) in
     let n : at + length t + length (pageOf (map kept ps) []) ≡ at + length (t ++ pageOf (map kept ps) []) = omega (arith, length-append t (pageOf (map kept ps) [])) in
-    ap (_∷_ (entryFor at (said p))) (from-append (at + length t) ps qs ∙ ap (λ (k : ℕ). entriesFrom (at + length t) ps ++ entriesFrom k qs) n)
+    ap (_∷_ (entryFor at (content p))) (from-append (at + length t) ps qs ∙ ap (λ (k : ℕ). entriesFrom (at + length t) ps ++ entriesFrom k qs) n)
 
 -- from the start
 pub from-start : (ps : List Party) (p : Party) (qs : List Party) → let at = length (pageOf (map kept ps) []) in
-    entriesFrom 0 (ps ++ p ∷ qs) ≡ entriesFrom 0 ps ++ entryFor at (said p) ∷ entriesFrom (at + length (withLf (writtenField (said p)))) qs
+    entriesFrom 0 (ps ++ p ∷ qs) ≡ entriesFrom 0 ps ++ entryFor at (content p) ∷ entriesFrom (at + length (withLf (writtenField (content p)))) qs
 unfolding entriesFrom
 from-start ps p qs =
     let n : 0 + length (pageOf (map kept ps) []) ≡ length (pageOf (map kept ps) []) = omega arith in
     from-append 0 ps (p ∷ qs) ∙ ap (λ (k : ℕ). entriesFrom 0 ps ++ entriesFrom k (p ∷ qs)) n
 
 -- what stands beside a page has the entries of a list's fields, if it is an index
-abbrev pub Noted : Beside → List Party → Type 0
+abbrev pub Noted : IndexState → List Party → Type 0
 Noted noIndex list = Unit {0}
 Noted (anIndex d) list = (length d ≡ indexSize) × (entriesOf d ≡ entriesFrom 0 list)
 
 -- so an entry is free by the length of the list
-pub noted-free : (b : Beside) (list : List Party) → Noted b list → freeBeside b ≡ isFree (isIndexed b) (length list)
+pub noted-free : (b : IndexState) (list : List Party) → Noted b list → hasFreeEntry b ≡ isFree (isIndexed b) (length list)
 noted-free noIndex list h = refl
 noted-free (anIndex d) list h = ap (isFree true) (ap length (h .1) ∙ from-length 0 list)
 
 -- one more
-pub noted-more : (b : Beside) (list : List Party) (p : Party) → Noted b list → freeBeside b ≡ true → Noted (noting accepted (entryFor (length (pageOf (map kept list) [])) (said p)) b) (list ++ p ∷ [])
+pub noted-more : (b : IndexState) (list : List Party) (p : Party) → Noted b list → hasFreeEntry b ≡ true → Noted (noting accepted (entryFor (length (pageOf (map kept list) [])) (content p)) b) (list ++ p ∷ [])
 unfolding entriesFrom
 noted-more noIndex list p h f = tt
 noted-more (anIndex d) list p h f =
-    let e = entryFor (length (pageOf (map kept list) [])) (said p) in
+    let e = entryFor (length (pageOf (map kept list) [])) (content p) in
     let free = ltb-true (length (entriesOf d)) indexMost f in
     (noted-length e d (h .0) free, noted-entries e d (h .0) free ∙ ap (λ (x : List Entry). x ++ e ∷ []) (h .1) ∙ sym (from-start list p []))
 
-pub noting-kind : (r : Reply) (e : Entry) (b : Beside) → isIndexed (noting r e b) ≡ isIndexed b
+pub noting-kind : (r : Reply) (e : Entry) (b : IndexState) → isIndexed (noting r e b) ≡ isIndexed b
 noting-kind accepted e noIndex = refl
 noting-kind accepted e (anIndex d) = refl
 noting-kind (refused k n) e b = refl

@@ -9,7 +9,7 @@ use borrow.Author.Tests.{not-true}
 use Rattle.errors.specs.Refusals.{Reply, accepted, refused}
 use Rattle.party.specs.declared.PartyOption.{PartyOption}
 use Rattle.party.specs.declared.Party.{Party}
-use Rattle.party.specs.Party.{Said, said, Same}
+use Rattle.party.specs.Party.{Content, content, Same}
 use Rattle.party.specs.Limits.{options}
 use Rattle.party.proofs.Options.{by-option}
 use Rattle.field_utils.specs.Lines.{starts, withoutCr}
@@ -116,7 +116,7 @@ any-body body =
     let p = pieces-of body in
     ap anyCr (p .are) ∙ any-cr (p .first) (p .later) ∙ ap (λ (ls : List (List ℕ)). earlierCr ls || endsCr (joined (p .first ∷ p .later))) (sym (p .are)) ∙ ap (λ (x : List ℕ). earlierCr (pieces body) || endsCr x) (sym (p .joins))
 
-module _ (s : Said) where
+module _ (s : Content) where
   abbrev body : List ℕ
   body = writtenBody s
 
@@ -171,24 +171,24 @@ unfolding readField
 field-read p body next = ap (λ (t : Tagged). readTagged t next) (tag-back (p .option) body)
 
 -- no CR is dropped of its text, which so keeps every byte
-pub kept-whole : (p : Party) → isCarried (said p) ≡ true → withoutCr (writtenField (said p)) ≡ writtenField (said p)
-unfolding writtenField said
-kept-whole p e = tag-less (p .option) (writtenBody (said p)) ∙ ap (_++_ (tagOf (p .option))) (cr-kept (writtenBody (said p)) (carried-end (said p) e))
+pub kept-whole : (p : Party) → isCarried (content p) ≡ true → withoutCr (writtenField (content p)) ≡ writtenField (content p)
+unfolding writtenField content
+kept-whole p e = tag-less (p .option) (writtenBody (content p)) ∙ ap (_++_ (tagOf (p .option))) (cr-kept (writtenBody (content p)) (carried-end (content p) e))
 
 -- so a read meets its entry
-pub kept-met : (p : Party) → isCarried (said p) ≡ true → (at : ℕ) → let x = withoutCr (writtenField (said p)) in taggedAs (tagIn options x) at (length x) ≡ aField (entryFor at (said p))
-unfolding writtenField said
+pub kept-met : (p : Party) → isCarried (content p) ≡ true → (at : ℕ) → let x = withoutCr (writtenField (content p)) in taggedAs (tagIn options x) at (length x) ≡ aField (entryFor at (content p))
+unfolding writtenField content
 kept-met p e at =
-    let f = writtenField (said p) in
-    ap (λ (x : List ℕ). taggedAs (tagIn options x) at (length x)) (kept-whole p e) ∙ ap (λ (t : Tagged). taggedAs t at (length f)) (tag-back (p .option) (writtenBody (said p)))
+    let f = writtenField (content p) in
+    ap (λ (x : List ℕ). taggedAs (tagIn options x) at (length x)) (kept-whole p e) ∙ ap (λ (t : Tagged). taggedAs t at (length f)) (tag-back (p .option) (writtenBody (content p)))
 
-pub kept-sound : (p : Party) → Given p → isCarried (said p) ≡ true → Sound (kept p)
-unfolding writtenField said front-lined
+pub kept-sound : (p : Party) → Given p → isCarried (content p) ≡ true → Sound (kept p)
+unfolding writtenField content front-lined
 kept-sound p g e =
     let o = p .option in
-    let b = reading-back p g .yes (carried-back (said p) e) in
+    let b = reading-back p g .yes (carried-back (content p) e) in
     record {
-      lined = tagged-lined o (writtenBody (said p));
-      bounded = later-none (writtenBody (said p)) (carried-bounded (said p) e);
-      gives = λ next. subst (λ (r : PageRead). Gives r (kept p)) (sym (ap (λ (t : List ℕ). readField t next) (kept-whole p e) ∙ field-read p (writtenBody (said p)) next)) (accepted-record _ _ p (b .accepts) (b .same));
+      lined = tagged-lined o (writtenBody (content p));
+      bounded = later-none (writtenBody (content p)) (carried-bounded (content p) e);
+      gives = λ next. subst (λ (r : PageRead). Gives r (kept p)) (sym (ap (λ (t : List ℕ). readField t next) (kept-whole p e) ∙ field-read p (writtenBody (content p)) next)) (accepted-record _ _ p (b .accepts) (b .same));
     }

@@ -11,18 +11,18 @@ use lib.Seq.{drop-drop}
 use borrow.Author.Tests.{le-leb, leb-true, leb-false}
 use Rattle.errors.specs.Refusals.{accepted, must, _then_}
 use Rattle.party.specs.declared.Party.{Party}
-use Rattle.party.specs.Party.{said}
+use Rattle.party.specs.Party.{content}
 use Rattle.writer.specs.Writing.{writtenField, put, identified59F}
 use Rattle.writer.specs.Given.{Given}
 use Rattle.writer.proofs.Relined.{All}
 use Rattle.writer.proofs.Theorems.{given-exact, necessary, written-most, written-less}
 use Rattle.writer.proofs.Puts.{put-length, put-take, put-drop}
 use Rattle.page_reader.specs.Pages.{pageMost, theEnd, aRefusal}
-use Rattle.page_writer.specs.Beside.{Beside, noIndex, anIndex, isIndexed}
-use Rattle.page_writer.specs.Adding.{isCarried, hasSpace, withLf, endLine, Filed, positionAfter, refusal, Call, putting, recordSpace, asked, recordReply, tallyOf, freeBeside}
+use Rattle.page_writer.specs.IndexState.{IndexState, noIndex, anIndex, isIndexed}
+use Rattle.page_writer.specs.Adding.{isCarried, hasSpace, withLf, endLine, Filed, positionAfter, refusal, Call, putting, recordSpace, asked, recordReply, tallyOf, hasFreeEntry}
 use Rattle.page_writer.specs.Fold.{Run, run, acceptedOf}
 use Rattle.page_writer.specs.WholePage.{OpenPage, addStep, closingOf, closedPage, isAccepted, Model, Field, kept, new, pageOf, ReadsAs, Alone, Overwrites}
-use Rattle.page_writer.specs.Indexed.{IsEmpty, IndexedBeside}
+use Rattle.page_writer.specs.Indexed.{IsEmpty, IndexHolds}
 use Rattle.page_writer.specs.Demand3.{adds, model, acceptedAdds, closing, identifiedIn, OpenReads, ClosedPage, ListedPage, WholePage}
 use Rattle.page_writer.specs.Delivered.{DeliveredPage}
 use Rattle.page_writer.proofs.Structure.{Sound, page-tail, nothing, ending, reads}
@@ -49,12 +49,12 @@ overwritten-sound (p ∷ ps) h (new bytes ∷ fs) o = (new-sound bytes (o .0), o
 fields-most : (ps : List Party) → All Fit ps → length (fieldsOf ps) ≤ 185 * length ps + 3 * identifiedIn ps
 unfolding pageOf identifiedIn
 fields-most [] h = omega arith
-fields-most (p ∷ ps) h = go (identified59F (said p)) refl (given-exact p .yes (h .0 .given)) (fields-most ps (h .1))
+fields-most (p ∷ ps) h = go (identified59F (content p)) refl (given-exact p .yes (h .0 .given)) (fields-most ps (h .1))
   where
-    n : length (fieldsOf (p ∷ ps)) ≡ length (writtenField (said p)) + 1 + length (fieldsOf ps)
-    n = omega (arith, length-append (withLf (writtenField (said p))) (fieldsOf ps), length-append (writtenField (said p)) (10 ∷ []))
+    n : length (fieldsOf (p ∷ ps)) ≡ length (writtenField (content p)) + 1 + length (fieldsOf ps)
+    n = omega (arith, length-append (withLf (writtenField (content p))) (fieldsOf ps), length-append (writtenField (content p)) (10 ∷ []))
 
-    go : (t : Bool) → identified59F (said p) ≡ t → Given p → length (fieldsOf ps) ≤ 185 * length ps + 3 * identifiedIn ps
+    go : (t : Bool) → identified59F (content p) ≡ t → Given p → length (fieldsOf ps) ≤ 185 * length ps + 3 * identifiedIn ps
         → length (fieldsOf (p ∷ ps)) ≤ 185 * length (p ∷ ps) + 3 * identifiedIn (p ∷ ps)
     go true e g m = rw (e, identifiedIn) (omega (arith, n, m, written-most p g))
     go false e g m = rw (e, identifiedIn) (omega (arith, n, m, written-less p g e))
@@ -62,19 +62,19 @@ fields-most (p ∷ ps) h = go (identified59F (said p)) refl (given-exact p .yes 
 identified-few : (ps : List Party) → identifiedIn ps ≤ length ps
 unfolding identifiedIn
 identified-few [] = omega arith
-identified-few (p ∷ ps) = go (identified59F (said p)) refl (identified-few ps)
+identified-few (p ∷ ps) = go (identified59F (content p)) refl (identified-few ps)
   where
-    go : (t : Bool) → identified59F (said p) ≡ t → identifiedIn ps ≤ length ps → identifiedIn (p ∷ ps) ≤ length (p ∷ ps)
+    go : (t : Bool) → identified59F (content p) ≡ t → identifiedIn ps ≤ length ps → identifiedIn (p ∷ ps) ≤ length (p ∷ ps)
     go true e m = rw (e, identifiedIn) (omega arith)
     go false e m = rw (e, identifiedIn) (omega arith)
 
 -- ---- after the adds from an empty page
-start-noted : (b : Beside) → IsEmpty b → Noted b []
+start-noted : (b : IndexState) → IsEmpty b → Noted b []
 unfolding entriesFrom
 start-noted noIndex e = tt
 start-noted (anIndex d) e = e
 
-module _ (b : Beside) (empty : IsEmpty b) (ps : List Party) (buffer : List ℕ) where
+module _ (b : IndexState) (empty : IsEmpty b) (ps : List Party) (buffer : List ℕ) where
   abbrev len : ℕ
   len = length buffer
 
@@ -132,7 +132,7 @@ module _ (b : Beside) (empty : IsEmpty b) (ps : List Party) (buffer : List ℕ) 
     bytes = prefix;
     reads = subst (λ (x : List ℕ). ReadsAs x 0 (map kept list) (aRefusal 17 0)) (sym prefix)
         (reads nothing refl (map kept list) open-most (fields-sound list all-fit));
-    indexed = subst (λ (x : List ℕ). IndexedBeside (s .index) x list) (sym prefix) (indexed-beside nothing list all-fit open-most (s .index) beside);
+    indexed = subst (λ (x : List ℕ). IndexHolds (s .index) x list) (sym prefix) (indexed-beside nothing list all-fit open-most (s .index) beside);
     after = untouched;
     size = holds .size;
   }
@@ -185,7 +185,7 @@ module _ (b : Beside) (empty : IsEmpty b) (ps : List Party) (buffer : List ℕ) 
         after = ap (λ (x : ℕ). drop x bytes) (d .position) ∙ ap (drop (s .position + length endLine)) (d .bytes) ∙ put-drop (s .buffer) (s .position) endLine k
             ∙ sym (drop-drop (length endLine) (s .position) (s .buffer)) ∙ ap (drop (length endLine)) untouched ∙ drop-drop (length endLine) (s .position) buffer
             ∙ ap (λ (x : ℕ). drop x buffer) (sym (d .position));
-        indexed = subst (λ (x : List ℕ). IndexedBeside (s .index) x list) (sym q) (indexed-beside (ending []) list all-fit within (s .index) beside);
+        indexed = subst (λ (x : List ℕ). IndexHolds (s .index) x list) (sym q) (indexed-beside (ending []) list all-fit within (s .index) beside);
         most = omega (arith, w, d .space);
         bound-all = omega (arith, w, d .position, ends-at, fields-most list all-fit, identified-few list);
         bound = λ z. omega (arith, w, d .position, ends-at, fields-most list all-fit, z);
@@ -220,29 +220,29 @@ module _ (b : Beside) (empty : IsEmpty b) (ps : List Party) (buffer : List ℕ) 
   }
 
 -- ---- a record that a reader can give, with space for it, in its turn
-module _ (b : Beside) (empty : IsEmpty b) (before : List Party) (p : Party) (buffer : List ℕ) where
+module _ (b : IndexState) (empty : IsEmpty b) (before : List Party) (p : Party) (buffer : List ℕ) where
   abbrev at : OpenPage
   at = adds b before buffer .state
 
   -- accepted with the position after, or refused with 23
   abbrev Exactly : Filed → Type 0
-  Exactly a = (Alone p × (a ≡ positionAfter (at .position + length (withLf (writtenField (said p)))))) ⊎ ((Alone p → ⊥) × (a ≡ refusal 23 0))
+  Exactly a = (Alone p × (a ≡ positionAfter (at .position + length (withLf (writtenField (content p)))))) ⊎ ((Alone p → ⊥) × (a ≡ refusal 23 0))
 
-  exact : Given p → recordSpace (length (at .buffer)) (at .position) (said p) ≡ true → freeBeside (at .index) ≡ true → Exactly (addStep at p .answer)
+  exact : Given p → recordSpace (length (at .buffer)) (at .position) (content p) ≡ true → hasFreeEntry (at .index) ≡ true → Exactly (addStep at p .answer)
   unfolding recordReply asked
-  exact g space free = go (isCarried (said p)) refl
+  exact g space free = go (isCarried (content p)) refl
     where
-      answer : {t : Bool} → isCarried (said p) ≡ t → addStep at p .answer ≡ putting (must t 23 0 then accepted) (at .buffer) (at .position) (withLf (writtenField (said p))) .answer
+      answer : {t : Bool} → isCarried (content p) ≡ t → addStep at p .answer ≡ putting (must t 23 0 then accepted) (at .buffer) (at .position) (withLf (writtenField (content p))) .answer
       answer {t} e =
-          let r : recordReply (length (at .buffer)) (isIndexed (at .index)) (tallyOf (at .position) (at .index)) (said p) ≡ (must t 23 0 then accepted) = rw (necessary p g, e, space, free) in
-          ap (λ (c : Call). c .answer) (add-is (at .buffer) (at .position) (at .index) (said p) (ready (length buffer) (isIndexed b) at _ (holds b empty before buffer)) r)
+          let r : recordReply (length (at .buffer)) (isIndexed (at .index)) (tallyOf (at .position) (at .index)) (content p) ≡ (must t 23 0 then accepted) = rw (necessary p g, e, space, free) in
+          ap (λ (c : Call). c .answer) (add-is (at .buffer) (at .position) (at .index) (content p) (ready (length buffer) (isIndexed b) at _ (holds b empty before buffer)) r)
 
-      go : (t : Bool) → isCarried (said p) ≡ t → Exactly (addStep at p .answer)
+      go : (t : Bool) → isCarried (content p) ≡ t → Exactly (addStep at p .answer)
       go true e = inl (alone-exact p g .yes e, answer e)
       go false e = inr (alone-exact p g .no e, answer e)
 
 -- it answers in the run what it answers in its turn
-turn-in : (b : Beside) (before : List Party) (p : Party) (later : List Party) (buffer : List ℕ) {ps : List Party} → ps ≡ before ++ p ∷ later
+turn-in : (b : IndexState) (before : List Party) (p : Party) (later : List Party) (buffer : List ℕ) {ps : List Party} → ps ≡ before ++ p ∷ later
     → let c = addStep (adds b before buffer .state) p in adds b ps buffer .answers ≡ adds b before buffer .answers ++ c .answer ∷ run addStep (c .state) later .answers
 unfolding run
 turn-in b before p later buffer e =
@@ -250,11 +250,11 @@ turn-in b before p later buffer e =
     ∙ ap (λ (r : Run OpenPage Filed). r .answers) (run-append addStep (record { buffer = buffer; position = 0; index = b }) before (p ∷ later))
 
 -- a closed page with CR LF and any end line
-pub delivered-page : (b : Beside) → IsEmpty b → (ps : List Party) (buffer e : List ℕ) → DeliveredPage b ps buffer e
+pub delivered-page : (b : IndexState) → IsEmpty b → (ps : List Party) (buffer e : List ℕ) → DeliveredPage b ps buffer e
 delivered-page b empty ps buffer e d m = delivered (acceptedAdds b ps buffer) (all-fit b empty ps buffer) e d m
 
 -- demand 3: for every list of adds, every buffer, and no index or any empty one
-pub whole-page : (b : Beside) → IsEmpty b → (ps : List Party) (buffer : List ℕ) → WholePage b ps buffer
+pub whole-page : (b : IndexState) → IsEmpty b → (ps : List Party) (buffer : List ℕ) → WholePage b ps buffer
 whole-page b empty ps buffer = record {
   listed = listed-page b empty ps buffer;
   in-turn = λ before p later e. turn-in b before p later buffer e;

@@ -5,7 +5,7 @@ use mathlib.Core.List.{List, [], _∷_, _++_}
 use lib.Dec.{leb}
 use lib.ListN.{length}
 use Rattle.errors.specs.Refusals.{Reply, accepted, refused, must, _then_, refusalOf}
-use Rattle.party.specs.Party.{Said}
+use Rattle.party.specs.Party.{Content}
 use Rattle.party.specs.Limits.{placeOf}
 use Rattle.swift_utils.specs.Bytes.{bytes}
 use Rattle.writer.specs.Writing.{writtenBody, writtenField, pieces, put}
@@ -13,7 +13,7 @@ use Rattle.writer.specs.Given.{isGiven}
 use Rattle.writer.specs.ReadBack.{endsCr, lastEmpty}
 use Rattle.page_reader.specs.Pages.{pageMost, isBoundary, startsLine}
 use Rattle.page_reader.specs.Index.{Entry}
-use Rattle.page_writer.specs.Beside.{Beside, isIndexed, entriesBeside, isFree, noting}
+use Rattle.page_writer.specs.IndexState.{IndexState, isIndexed, entriesKept, isFree, noting}
 use Rattle.page_writer.specs.declared.Filed.{Filed as FiledAt}
 use Rattle.page_writer.specs.declared.Filed.the-variants.{Position, Refused}
 
@@ -40,7 +40,7 @@ abbrev pub linesCarried : List (List ℕ) → Bool
 linesCarried ls = not (anyCr ls) && not (lastEmpty ls) && not (laterBoundary ls)
 
 -- a record that a page can carry, else 23 (document 02, One and Six): its written lines are such
-unfoldable pub isCarried : Said → Bool
+unfoldable pub isCarried : Content → Bool
 isCarried s = linesCarried (pieces (writtenBody s))
 
 -- a position to write at, else 21: within the buffer, and 0 or after an LF
@@ -75,11 +75,11 @@ putting accepted buffer at text = record { answer = positionAfter (at + length t
 putting (refused k n) buffer at text = record { answer = refusal k n; buffer = buffer }
 
 -- a record has space at a position of a page in a buffer of a length, else 24: position plus field plus its LF plus 2
-abbrev pub recordSpace : ℕ → ℕ → Said → Bool
+abbrev pub recordSpace : ℕ → ℕ → Content → Bool
 recordSpace len at s = hasSpace len (at + length (withLf (writtenField s)) + 2)
 
 -- what a page asks of a record, wherever it is added: 22, 23
-unfoldable pub asked : Said → Reply
+unfoldable pub asked : Content → Reply
 asked s = must (isGiven s) 22 0 then must (isCarried s) 23 0
 
 -- how much of a page is used: its position and, where an index is kept, how many of its entries
@@ -88,36 +88,36 @@ pub record Tally : Type 0 where
   pub entries : ℕ
 
 -- with one record more: its written field and LF, and its entry
-abbrev pub tallied : Tally → Said → Tally
+abbrev pub tallied : Tally → Content → Tally
 tallied t s = record { position = t .position + length (withLf (writtenField s)); entries = suc (t .entries) }
 
 -- a refusal that applies to a record at a tally, from the buffer's length and whether an index is kept, and nothing else: 22, 23, 24, 31
 -- (document 02, Three)
-unfoldable pub recordReply : ℕ → Bool → Tally → Said → Reply
+unfoldable pub recordReply : ℕ → Bool → Tally → Content → Reply
 recordReply len indexed t s = asked s then must (recordSpace len (t .position) s) 24 0 then must (isFree indexed (t .entries)) 31 0
 
 -- the tally of a page at a position, by what stands beside it
-abbrev pub tallyOf : ℕ → Beside → Tally
-tallyOf at b = record { position = at; entries = length (entriesBeside b) }
+abbrev pub tallyOf : ℕ → IndexState → Tally
+tallyOf at b = record { position = at; entries = length (entriesKept b) }
 
 -- an entry is free beside a page
-abbrev pub freeBeside : Beside → Bool
-freeBeside b = isFree (isIndexed b) (length (entriesBeside b))
+abbrev pub hasFreeEntry : IndexState → Bool
+hasFreeEntry b = isFree (isIndexed b) (length (entriesKept b))
 
 -- a refusal that applies to an add: 21 before these
-unfoldable pub addReply : List ℕ → ℕ → Beside → Said → Reply
+unfoldable pub addReply : List ℕ → ℕ → IndexState → Content → Reply
 addReply buffer at b s = must (writable buffer at) 21 0 then recordReply (length buffer) (isIndexed b) (tallyOf at b) s
 
 -- adding, with an index or without: 21, 22, 23, 24, 31; writes tag, body and LF
-unfoldable pub add : List ℕ → ℕ → Beside → Said → Call
+unfoldable pub add : List ℕ → ℕ → IndexState → Content → Call
 add buffer at b s = putting (addReply buffer at b s) buffer at (withLf (writtenField s))
 
 -- the entry of a record that is added at a position
-abbrev pub entryFor : ℕ → Said → Entry
+abbrev pub entryFor : ℕ → Content → Entry
 entryFor at s = record { tag = placeOf (s .option); position = at; len = length (writtenField s) }
 
 -- the index after it: the record's entry is noted
-unfoldable pub addIndex : List ℕ → ℕ → Beside → Said → Beside
+unfoldable pub addIndex : List ℕ → ℕ → IndexState → Content → IndexState
 addIndex buffer at b s = noting (addReply buffer at b s) (entryFor at s) b
 
 -- closing: 21, 24; writes `-` and LF

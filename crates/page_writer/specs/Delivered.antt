@@ -1,5 +1,5 @@
 -- A closed page as the line delivers it (document 02, One): CR LF for each LF, and an end line of either kind. proofs/Theorems.antt has
--- `delivered-page`, of an empty `b : Beside`, `ps : List Party` and `buffer e : List ℕ`: `DeliveredPage b ps buffer e`.
+-- `delivered-page`, of an empty `b : IndexState`, `ps : List Party` and `buffer e : List ℕ`: `DeliveredPage b ps buffer e`.
 use Prim.Native.Nat.{ℕ, _≤_}
 use mathlib.Core.Path.{_≡_}
 use mathlib.Core.Bool.{true, false}
@@ -9,7 +9,7 @@ use lib.ListN.{length}
 use Rattle.party.specs.declared.Party.{Party}
 use Rattle.field_utils.specs.Lines.{upto}
 use Rattle.page_reader.specs.Pages.{pageMost, endsAt, past, theEnd}
-use Rattle.page_writer.specs.Beside.{Beside}
+use Rattle.page_writer.specs.IndexState.{IndexState}
 use Rattle.page_writer.specs.WholePage.{kept, pageOf, ReadsAs}
 use Rattle.page_writer.specs.Demand3.{acceptedAdds}
 
@@ -24,10 +24,10 @@ pub record IsEndLine (e : List ℕ) : Type 0 where
   pub whole : past e (upto 10 e) ≡ length e
 
 -- the fields of the accepted adds with CR LF, and an end line
-abbrev pub sentPage : Beside → List Party → List ℕ → List ℕ → List ℕ
+abbrev pub sentPage : IndexState → List Party → List ℕ → List ℕ → List ℕ
 sentPage b ps buffer e = crlf (pageOf (map kept (acceptedAdds b ps buffer)) []) ++ e
 
 -- within 32,768 bytes, reading it gives the records of the accepted adds and no others, in number and order, each the same record, and then
 -- the end
-abbrev pub DeliveredPage : Beside → List Party → List ℕ → List ℕ → Type 0
+abbrev pub DeliveredPage : IndexState → List Party → List ℕ → List ℕ → Type 0
 DeliveredPage b ps buffer e = IsEndLine e → length (sentPage b ps buffer e) ≤ pageMost → ReadsAs (sentPage b ps buffer e) 0 (map kept (acceptedAdds b ps buffer)) theEnd

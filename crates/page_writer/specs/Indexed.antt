@@ -6,11 +6,11 @@ use lib.ListN.{length}
 use Rattle.party.specs.declared.Party.{Party}
 use Rattle.page_reader.specs.Reads.{Read, reads}
 use Rattle.page_reader.specs.Index.{indexMost, indexSize, entriesOf, fieldsMet, found, notFound, lookUp}
-use Rattle.page_writer.specs.Beside.{Beside, noIndex, anIndex}
+use Rattle.page_writer.specs.IndexState.{IndexState, noIndex, anIndex}
 use Rattle.page_writer.specs.WholePage.{kept, Gives}
 
 -- no index, or an empty one: 769 numbers, of which the first says that it has no entry, and the others are any
-abbrev pub IsEmpty : Beside → Type 0
+abbrev pub IsEmpty : IndexState → Type 0
 IsEmpty noIndex = Unit {0}
 IsEmpty (anIndex numbers) = (length numbers ≡ indexSize) × (entriesOf numbers ≡ [])
 
@@ -32,6 +32,6 @@ pub record Indexed (numbers page : List ℕ) (list : List Party) : Type 0 where
       → (r : Read) × (lookUp page numbers (suc (length before)) ≡ found r) × Gives (r .gave) (kept p)
 
 -- of what stands beside a page
-abbrev pub IndexedBeside : Beside → List ℕ → List Party → Type 0
-IndexedBeside noIndex page list = Unit {0}
-IndexedBeside (anIndex numbers) page list = Indexed numbers page list
+abbrev pub IndexHolds : IndexState → List ℕ → List Party → Type 0
+IndexHolds noIndex page list = Unit {0}
+IndexHolds (anIndex numbers) page list = Indexed numbers page list

@@ -1,4 +1,4 @@
-pub mod Beside
+pub mod IndexState
 pub mod Adding
 pub mod Fold
 pub mod WholePage

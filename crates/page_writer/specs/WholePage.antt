@@ -6,10 +6,10 @@ use mathlib.Core.List.{List, [], _∷_, _++_}
 use lib.ListN.{length, take, drop}
 use Rattle.errors.specs.Refusals.{Reply, accepted, refused}
 use Rattle.party.specs.declared.Party.{Party}
-use Rattle.party.specs.Party.{said, Same}
+use Rattle.party.specs.Party.{content, Same}
 use Rattle.writer.specs.Writing.{writtenField, pieces}
 use Rattle.page_reader.specs.Pages.{opens, lessCr, endsPage, ReadOutcome, aRecord, theEnd, PageRead, bodiless, readField, readAt}
-use Rattle.page_writer.specs.Beside.{Beside}
+use Rattle.page_writer.specs.IndexState.{IndexState}
 use Rattle.page_writer.specs.Adding.{anyLine, withLf, endLine, Filed, positionAfter, refusal, Call, Tally, tallied, recordReply, add, addIndex, close}
 use Rattle.page_writer.specs.Fold.{Step}
 
@@ -18,7 +18,7 @@ use Rattle.page_writer.specs.Fold.{Step}
 pub record OpenPage : Type 0 where
   pub buffer : List ℕ
   pub position : ℕ
-  pub index : Beside
+  pub index : IndexState
 
 -- a refused call gives no position
 abbrev pub lastGiven : Filed → ℕ → ℕ
@@ -28,8 +28,8 @@ lastGiven (refusal k n) at = at
 -- an add, as a step
 abbrev pub addStep : OpenPage → Party → Step OpenPage Filed
 addStep s p =
-    let c = add (s .buffer) (s .position) (s .index) (said p) in
-    let b = addIndex (s .buffer) (s .position) (s .index) (said p) in
+    let c = add (s .buffer) (s .position) (s .index) (content p) in
+    let b = addIndex (s .buffer) (s .position) (s .index) (content p) in
     record { state = record { buffer = c .buffer; position = lastGiven (c .answer) (s .position); index = b }; answer = c .answer }
 
 -- the closing of an open page, in its buffer and at its position
@@ -53,13 +53,13 @@ pub record Model : Type 0 where
 -- a refusal moves neither; any other add puts its record last in the list, and answers the position past its written field and LF
 abbrev pub modelBy : Reply → Model → Party → Step Model Filed
 modelBy accepted m p =
-    let t = tallied (m .tally) (said p) in
+    let t = tallied (m .tally) (content p) in
     record { state = record { list = m .list ++ p ∷ []; tally = t }; answer = positionAfter (t .position) }
 modelBy (refused k n) m p = record { state = m; answer = refusal k n }
 
 -- from the records, the buffer's length and whether an index is kept alone
 abbrev pub modelStep : ℕ → Bool → Model → Party → Step Model Filed
-modelStep len indexed m p = modelBy (recordReply len indexed (m .tally) (said p)) m p
+modelStep len indexed m p = modelBy (recordReply len indexed (m .tally) (content p)) m p
 
 -- a field of a page: a record's, as it was added, or new bytes between the opening colon and the closing LF
 pub data Field : Type 0 where
@@ -68,7 +68,7 @@ pub data Field : Type 0 where
 
 -- a field's text: tag and body, or a colon and the new bytes
 abbrev pub textOf : Field → List ℕ
-textOf (kept p) = writtenField (said p)
+textOf (kept p) = writtenField (content p)
 textOf (new bytes) = 58 ∷ bytes
 
 -- fields, each with its LF, and a tail: nothing on an open page, the end on a closed one, or the end and more

@@ -1,9 +1,6 @@
 // Writing pages of fields, which are ours: no Rust file has them. Records are added to a page at a position, and it is closed.
 use errors::ParseError;
 use field_utils::lines::find_lf;
-use flat::RECORD_SIZE;
-use flat::option_of;
-use flat::store;
 use page_reader::PAGE_MOST;
 use page_reader::ends_at;
 use page_reader::index::INDEX_MOST;
@@ -13,6 +10,9 @@ use page_reader::opens_at;
 use party::Party;
 use party::PartyOption;
 use party::index_of;
+use record_bytes::RECORD_SIZE;
+use record_bytes::option_of;
+use record_bytes::store;
 use writer::FIELD_MOST;
 use writer::Measured;
 use writer::place_record;
@@ -22,16 +22,16 @@ ghost use mathlib.Core.Path.{_≡_};
 ghost use mathlib.Core.Bool.{false, true};
 ghost use Prim.Native.Nat.{_+_, _-_, _≤_, _<_, min};
 ghost use lib.ListN.{length, take, drop};
-ghost use Rattle.party.specs.Party.{said};
+ghost use Rattle.party.specs.Party.{content};
 ghost use Rattle.party.specs.Limits.{placeOf};
-ghost use Rattle.flat.specs.Flat.{unflatten};
+ghost use Rattle.record_bytes.specs.RecordBytes.{decoded};
 ghost use Rattle.writer.specs.Writing.{pieces, fieldMost};
 ghost use Rattle.writer.specs.Code.{Puts};
 ghost use Rattle.writer.specs.ReadBack.{endsCr};
 ghost use Rattle.page_reader.specs.Pages.{pageMost};
-ghost use Rattle.page_writer.specs.Beside.{noIndex, anIndex, noted};
+ghost use Rattle.page_writer.specs.IndexState.{noIndex, anIndex, noted};
 ghost use Rattle.page_writer.specs.Adding.{linesCarried, writable, hasSpace, withLf, add as addTo, addIndex, close as closeAt, toldCall};
-ghost use Rattle.page_writer.specs.Code.{lineCall, fieldCall, Fits, heldCall, Holds, Notes};
+ghost use Rattle.page_writer.specs.Code.{lineCall, fieldCall, Fits, renderedCall, Holds, Notes};
 
 // Adding and closing answer the position after, or a refusal.
 pub enum Filed {
@@ -133,24 +133,24 @@ fn file_line(buf: &mut [u8], at: usize, text: &[u8], spare: usize, free: bool) -
     Filed::Position(end)
 }
 
-// What an add holds of a record: its field in a room, by its length and where its body starts; or the refusal: 21, 22.
-enum Held {
+// What an add renders of a record: its field in a room, by its length and where its body starts; or the refusal: 21, 22.
+enum Rendered {
     Field { len: usize, start: usize },
     Refused(ParseError),
 }
 
 // Places in a room the field of a lent record that is to be added at a position, to see the lines as they would stand.
-fn hold(record: &[u8], buf: &[u8], at: usize, room: &mut [u8]) -> Held
+fn render(record: &[u8], buf: &[u8], at: usize, room: &mut [u8]) -> Rendered
     requires { ⌜ length (now room) ≡ fieldMost ⌝ }
-    ensures { λ r. ⌜ Holds (now (buf .entry)) at (said (unflatten (now («record» .entry)))) r (now (room .exit)) ⌝ }
+    ensures { λ r. ⌜ Holds (now (buf .entry)) at (content (decoded (now («record» .entry)))) r (now (room .exit)) ⌝ }
 {
     if !is_writable(buf, at) {
-        return Held::Refused(ParseError::Position);
+        return Rendered::Refused(ParseError::Position);
     }
     let start = tag_length(option_of(record));
     match place_record(record, room) {
-        Measured::Length(len) => Held::Field { len, start },
-        Measured::Refused(e) => Held::Refused(e),
+        Measured::Length(len) => Rendered::Field { len, start },
+        Measured::Refused(e) => Rendered::Refused(e),
     }
 }
 
@@ -165,29 +165,29 @@ fn file_field(buf: &mut [u8], at: usize, field: &[u8], start: usize, free: bool)
     file_line(buf, at, field, 2, free)
 }
 
-// Files what is held of a record at a position.
-fn file_held(buf: &mut [u8], at: usize, held: Held, room: &[u8], free: bool) -> Filed
-    requires { ⌜ Fits held (now room) ⌝ }
-    ensures { λ r. ⌜ toldCall r (now (buf .exit)) ≡ heldCall (now (buf .entry)) at held (now (room .entry)) free ⌝ }
+// Files what is rendered of a record at a position.
+fn file_rendered(buf: &mut [u8], at: usize, rendered: Rendered, room: &[u8], free: bool) -> Filed
+    requires { ⌜ Fits rendered (now room) ⌝ }
+    ensures { λ r. ⌜ toldCall r (now (buf .exit)) ≡ renderedCall (now (buf .entry)) at rendered (now (room .entry)) free ⌝ }
 {
-    match held {
-        Held::Field { len, start } => file_field(buf, at, &room[..len], start, free),
-        Held::Refused(e) => Filed::Refused(e),
+    match rendered {
+        Rendered::Field { len, start } => file_field(buf, at, &room[..len], start, free),
+        Rendered::Refused(e) => Filed::Refused(e),
     }
 }
 
-// Adds a lent record, as crate flat lays it out, to a page without an index at a position: 21, 22, 23, 24.
+// Adds a lent record, as crate record_bytes lays it out, to a page without an index at a position: 21, 22, 23, 24.
 pub fn add_record(record: &[u8], buf: &mut [u8], at: usize) -> Filed
-    ensures { λ r. ⌜ toldCall r (now (buf .exit)) ≡ addTo (now (buf .entry)) at noIndex (said (unflatten (now («record» .entry)))) ⌝ }
+    ensures { λ r. ⌜ toldCall r (now (buf .exit)) ≡ addTo (now (buf .entry)) at noIndex (content (decoded (now («record» .entry)))) ⌝ }
 {
     let mut room = [0u8; FIELD_MOST];
-    let held = hold(record, buf, at, &mut room);
-    file_held(buf, at, held, &room, true)
+    let rendered = render(record, buf, at, &mut room);
+    file_rendered(buf, at, rendered, &room, true)
 }
 
 // Adds a record, through its bytes.
 pub fn add(p: Party, buf: &mut [u8], at: usize) -> Filed
-    ensures { λ r. ⌜ toldCall r (now (buf .exit)) ≡ addTo (now (buf .entry)) at noIndex (said p) ⌝ }
+    ensures { λ r. ⌜ toldCall r (now (buf .exit)) ≡ addTo (now (buf .entry)) at noIndex (content p) ⌝ }
 {
     let mut record = [0u8; RECORD_SIZE];
     store(p, &mut record);
@@ -213,13 +213,13 @@ pub fn add_indexed_record(
     at: usize,
     index: &mut [u32; INDEX_SIZE],
 ) -> Filed
-    ensures { λ r. ⌜ toldCall r (now (buf .exit)) ≡ addTo (now (buf .entry)) at (anIndex (now (index .entry))) (said (unflatten (now («record» .entry)))) ⌝ }
-    ensures index { λ r. ⌜ anIndex (now (index .exit)) ≡ addIndex (now (buf .entry)) at (anIndex (now (index .entry))) (said (unflatten (now («record» .entry)))) ⌝ }
+    ensures { λ r. ⌜ toldCall r (now (buf .exit)) ≡ addTo (now (buf .entry)) at (anIndex (now (index .entry))) (content (decoded (now («record» .entry)))) ⌝ }
+    ensures index { λ r. ⌜ anIndex (now (index .exit)) ≡ addIndex (now (buf .entry)) at (anIndex (now (index .entry))) (content (decoded (now («record» .entry)))) ⌝ }
 {
     let mut room = [0u8; FIELD_MOST];
     let count = entry_count(index);
-    let held = hold(record, buf, at, &mut room);
-    match file_held(buf, at, held, &room, count < INDEX_MOST) {
+    let rendered = render(record, buf, at, &mut room);
+    match file_rendered(buf, at, rendered, &room, count < INDEX_MOST) {
         Filed::Position(next) => {
             note(index, count, option_of(record), at, next);
             Filed::Position(next)
@@ -230,8 +230,8 @@ pub fn add_indexed_record(
 
 // Adds a record to a page with an index, through its bytes.
 pub fn add_indexed(p: Party, buf: &mut [u8], at: usize, index: &mut [u32; INDEX_SIZE]) -> Filed
-    ensures { λ r. ⌜ toldCall r (now (buf .exit)) ≡ addTo (now (buf .entry)) at (anIndex (now (index .entry))) (said p) ⌝ }
-    ensures index { λ r. ⌜ anIndex (now (index .exit)) ≡ addIndex (now (buf .entry)) at (anIndex (now (index .entry))) (said p) ⌝ }
+    ensures { λ r. ⌜ toldCall r (now (buf .exit)) ≡ addTo (now (buf .entry)) at (anIndex (now (index .entry))) (content p) ⌝ }
+    ensures index { λ r. ⌜ anIndex (now (index .exit)) ≡ addIndex (now (buf .entry)) at (anIndex (now (index .entry))) (content p) ⌝ }
 {
     let mut record = [0u8; RECORD_SIZE];
     store(p, &mut record);

@@ -1,5 +1,5 @@
 pub mod Values
 pub mod Laws
 pub mod Options
-pub mod Said
+pub mod Content
 pub mod Theorems

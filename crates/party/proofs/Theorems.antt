@@ -10,7 +10,7 @@ use Rattle.party.specs.declared.PartyOption.the-variants.{Field50K}
 use Rattle.party.specs.declared.Text.{Text}
 use Rattle.party.specs.declared.Party.{Party}
 use Rattle.party.specs.Text.{padded, textOf, used, textMost}
-use Rattle.party.specs.Party.{Said, said, Same}
+use Rattle.party.specs.Party.{Content, content, Same}
 
 -- the text of at most 38 bytes holds those, with their length
 pub used-text : (l : List ℕ) → length l ≤ textMost → used (textOf l) ≡ record { len = length l; bytes = l }
@@ -30,7 +30,7 @@ oneName fourth = record {
 }
 
 pub unused-name : Same (oneName (record { bytes = replicate textMost 255; len = 99 })) (oneName (textOf []))
-unfolding said textOf padded
+unfolding content textOf padded
 unused-name = refl
 
 -- 50K records that differ in the presence alone are not the same, nor are those without an account that differ in its text alone
@@ -47,9 +47,9 @@ module _ (bic : Text) (count : ℕ) (names : List Text) where
   }
 
   pub presence-counts : (account : Text) → Same (field50K true account) (field50K false account) → ⊥
-  unfolding said
-  presence-counts account e = true≢false (ap (λ (s : Said). s .present) e)
+  unfolding content
+  presence-counts account e = true≢false (ap (λ (s : Content). s .present) e)
 
   pub account-counts : (a b : Text) → (used a ≡ used b → ⊥) → Same (field50K false a) (field50K false b) → ⊥
-  unfolding said
-  account-counts a b differ e = differ (head-eq-of-cons-eq (ap (λ (s : Said). s .account) e))
+  unfolding content
+  account-counts a b differ e = differ (head-eq-of-cons-eq (ap (λ (s : Content). s .account) e))

@@ -15,17 +15,17 @@ use Rattle.party.specs.declared.Numbering.the-variants.{Unnumbered, Numb
 -- or the identifier's after its slashes (50F and 50L: all of it), whether a slash is written before it; how many BICs and names there
 -- are; the length of a name's text, and how the lines of names are numbered.
 abbrev pub limitsOf : PartyOption → Limits
-limitsOf Field50NoOption = record { field = 50; letter = 0; least = 1; most = 4; layout = ByLines; first = NoAccount; shortest = 0; longest = 0; slash = false; bic = 0; names = 4; name = 35; numbering = Unnumbered }
-limitsOf Field50A = record { field = 50; letter = 65; least = 1; most = 0; layout = ByLines; first = Identified; shortest = 0; longest = 34; slash = true; bic = 1; names = 0; name = 0; numbering = Unnumbered }
-limitsOf Field50F = record { field = 50; letter = 70; least = 2; most = 0; layout = ByLines; first = WholeLine; shortest = 1; longest = 35; slash = false; bic = 0; names = 4; name = 33; numbering = Numbered }
-limitsOf Field50K = record { field = 50; letter = 75; least = 1; most = 0; layout = ByLines; first = Account; shortest = 0; longest = 34; slash = true; bic = 0; names = 4; name = 35; numbering = Unnumbered }
-limitsOf Field50C = record { field = 50; letter = 67; least = 0; most = 0; layout = BicOnly; first = NoAccount; shortest = 0; longest = 0; slash = false; bic = 1; names = 0; name = 0; numbering = Unnumbered }
-limitsOf Field50L = record { field = 50; letter = 76; least = 0; most = 0; layout = TextOnly; first = WholeLine; shortest = 1; longest = 35; slash = false; bic = 0; names = 0; name = 0; numbering = Unnumbered }
-limitsOf Field50G = record { field = 50; letter = 71; least = 2; most = 2; layout = ByLines; first = SlashAccount; shortest = 1; longest = 34; slash = true; bic = 1; names = 0; name = 0; numbering = Unnumbered }
-limitsOf Field50H = record { field = 50; letter = 72; least = 2; most = 0; layout = ByLines; first = AnyAccount; shortest = 1; longest = 34; slash = true; bic = 0; names = 4; name = 35; numbering = Unnumbered }
-limitsOf Field59NoOption = record { field = 59; letter = 0; least = 1; most = 0; layout = ByLines; first = ShortAccount; shortest = 0; longest = 34; slash = true; bic = 0; names = 4; name = 35; numbering = Unnumbered }
-limitsOf Field59A = record { field = 59; letter = 65; least = 1; most = 0; layout = ByLines; first = ShortAccount; shortest = 0; longest = 34; slash = true; bic = 1; names = 0; name = 0; numbering = Unnumbered }
-limitsOf Field59F = record { field = 59; letter = 70; least = 1; most = 0; layout = ByLines; first = Identified; shortest = 0; longest = 34; slash = true; bic = 0; names = 4; name = 33; numbering = InTurn }
+limitsOf Field50NoOption = record { field = 50; letter = 0; «min_lines» = 1; «max_lines» = 4; layout = ByLines; first = NoAccount; «account_min» = 0; «account_max» = 0; slash = false; «bic_count» = 0; «max_names» = 4; «name_max» = 35; numbering = Unnumbered }
+limitsOf Field50A = record { field = 50; letter = 65; «min_lines» = 1; «max_lines» = 0; layout = ByLines; first = Identified; «account_min» = 0; «account_max» = 34; slash = true; «bic_count» = 1; «max_names» = 0; «name_max» = 0; numbering = Unnumbered }
+limitsOf Field50F = record { field = 50; letter = 70; «min_lines» = 2; «max_lines» = 0; layout = ByLines; first = WholeLine; «account_min» = 1; «account_max» = 35; slash = false; «bic_count» = 0; «max_names» = 4; «name_max» = 33; numbering = Numbered }
+limitsOf Field50K = record { field = 50; letter = 75; «min_lines» = 1; «max_lines» = 0; layout = ByLines; first = Account; «account_min» = 0; «account_max» = 34; slash = true; «bic_count» = 0; «max_names» = 4; «name_max» = 35; numbering = Unnumbered }
+limitsOf Field50C = record { field = 50; letter = 67; «min_lines» = 0; «max_lines» = 0; layout = BicOnly; first = NoAccount; «account_min» = 0; «account_max» = 0; slash = false; «bic_count» = 1; «max_names» = 0; «name_max» = 0; numbering = Unnumbered }
+limitsOf Field50L = record { field = 50; letter = 76; «min_lines» = 0; «max_lines» = 0; layout = TextOnly; first = WholeLine; «account_min» = 1; «account_max» = 35; slash = false; «bic_count» = 0; «max_names» = 0; «name_max» = 0; numbering = Unnumbered }
+limitsOf Field50G = record { field = 50; letter = 71; «min_lines» = 2; «max_lines» = 2; layout = ByLines; first = SlashAccount; «account_min» = 1; «account_max» = 34; slash = true; «bic_count» = 1; «max_names» = 0; «name_max» = 0; numbering = Unnumbered }
+limitsOf Field50H = record { field = 50; letter = 72; «min_lines» = 2; «max_lines» = 0; layout = ByLines; first = AnyAccount; «account_min» = 1; «account_max» = 34; slash = true; «bic_count» = 0; «max_names» = 4; «name_max» = 35; numbering = Unnumbered }
+limitsOf Field59NoOption = record { field = 59; letter = 0; «min_lines» = 1; «max_lines» = 0; layout = ByLines; first = ShortAccount; «account_min» = 0; «account_max» = 34; slash = true; «bic_count» = 0; «max_names» = 4; «name_max» = 35; numbering = Unnumbered }
+limitsOf Field59A = record { field = 59; letter = 65; «min_lines» = 1; «max_lines» = 0; layout = ByLines; first = ShortAccount; «account_min» = 0; «account_max» = 34; slash = true; «bic_count» = 1; «max_names» = 0; «name_max» = 0; numbering = Unnumbered }
+limitsOf Field59F = record { field = 59; letter = 70; «min_lines» = 1; «max_lines» = 0; layout = ByLines; first = Identified; «account_min» = 0; «account_max» = 34; slash = true; «bic_count» = 0; «max_names» = 4; «name_max» = 33; numbering = InTurn }
 
 -- the eleven options, in the order of the table and of document 01
 abbrev pub options : List PartyOption

@@ -64,7 +64,7 @@ where-numbered Numbered digits = digits
 where-numbered InTurn digits = []
 
 -- what a record says: option, presence, count, the used texts and the used digits ('option, presence, counts and used bytes')
-pub record Said : Type 0 where
+pub record Content : Type 0 where
   pub option : PartyOption
   pub present : Bool
   pub count : ℕ
@@ -74,17 +74,17 @@ pub record Said : Type 0 where
   pub digits : List ℕ
 
 -- what a record says: a text or digit that the option or the count leaves out is not in it
-unfoldable pub said : Party → Said
-said p = record {
+unfoldable pub content : Party → Content
+content p = record {
   option = p .option;
   present = p .present;
   count = p .count;
-  account = where-limit (limitsOf (p .option) .longest) (used (p .account) ∷ []);
-  bic = where-limit (limitsOf (p .option) .bic) (used (p .bic) ∷ []);
-  names = where-limit (limitsOf (p .option) .names) (namesOf (p .count) p);
+  account = where-limit (limitsOf (p .option) .«account_max») (used (p .account) ∷ []);
+  bic = where-limit (limitsOf (p .option) .«bic_count») (used (p .bic) ∷ []);
+  names = where-limit (limitsOf (p .option) .«max_names») (namesOf (p .count) p);
   digits = where-numbered (limitsOf (p .option) .numbering) (take (p .count) (p .digits));
 }
 
 -- two records are the same when they say the same ('records are the same when ..')
 abbrev pub Same : Party → Party → Type 0
-Same p q = said p ≡ said q
+Same p q = content p ≡ content q

@@ -56,13 +56,13 @@ module _ (l m : List ℕ) where
 
 -- ---- the BIC of a record, where its option has none and where it has one
 module _ (p : Party) (l : List ℕ) where
-  pub holds-none : limitsOf (p .option) .bic ≡ 0 → holdsBic p l ≡ false
+  pub holds-none : limitsOf (p .option) .«bic_count» ≡ 0 → holdsBic p l ≡ false
   unfolding holdsBic
-  holds-none e = rw (le-ltb 0 (limitsOf (p .option) .bic) (omega (arith, e)))
+  holds-none e = rw (le-ltb 0 (limitsOf (p .option) .«bic_count») (omega (arith, e)))
 
-  pub holds-some : (limitsOf (p .option) .bic ≡ 0 → ⊥) → holdsBic p l ≡ isSame (trimmed l) (used (p .bic) .bytes)
+  pub holds-some : (limitsOf (p .option) .«bic_count» ≡ 0 → ⊥) → holdsBic p l ≡ isSame (trimmed l) (used (p .bic) .bytes)
   unfolding holdsBic
-  holds-some h = rw (lt-ltb 0 (limitsOf (p .option) .bic) (omega (arith, h)))
+  holds-some h = rw (lt-ltb 0 (limitsOf (p .option) .«bic_count») (omega (arith, h)))
 
 -- ---- the bytes of a line
 -- what is asked of each, where it is said whether the line holds the BIC

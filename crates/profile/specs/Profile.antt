@@ -25,7 +25,7 @@ isSame (a ∷ l) (b ∷ m) = eqb a b && isSame l m
 
 -- a line holds the BIC of a record that has one: trimmed, it is the BIC
 unfoldable pub holdsBic : Party → List ℕ → Bool
-holdsBic p l = ltb 0 (limitsOf (p .option) .bic) && isSame (trimmed l) (used (p .bic) .bytes)
+holdsBic p l = ltb 0 (limitsOf (p .option) .«bic_count») && isSame (trimmed l) (used (p .bic) .bytes)
 
 -- only letters, digits, space and `/-?:().,'+`
 abbrev pub isNarrow : List ℕ → Bool

@@ -47,7 +47,7 @@ fn holds_bic(line: &[u8], party: Party) -> bool
 {
     let option = party.option;
     let limits = limits_of(option);
-    if limits.bic == 0 {
+    if limits.bic_count == 0 {
         return false;
     }
     let bic = party.bic;

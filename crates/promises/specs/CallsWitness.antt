@@ -10,13 +10,13 @@ use Rattle.errors.specs.Refusals.{accepted}
 use Rattle.party.specs.declared.PartyOption.the-variants.{Field50K}
 use Rattle.party.specs.Limits.{optionAt}
 use Rattle.party.specs.Text.{padded, textOf, four}
-use Rattle.party.specs.Party.{said}
+use Rattle.party.specs.Party.{content}
 use Rattle.swift_utils.specs.Bytes.{bytes, letter, digit, alphanumeric, signs, legal}
 use Rattle.swift_utils.specs.Checks.{parseSwiftChars, parseAccount, bicLength, parseBic}
 use Rattle.field_utils.specs.Lines.{upto, onto, starts, lines, withoutCr}
 use Rattle.field_utils.specs.Names.{parseLine, parseLines, parseNameAndAddress}
 use Rattle.field_utils.specs.Tags.{tagOf}
-use Rattle.flat.specs.Flat.{flatTexts, flatten, textAt, isFlat, partyFrom, unflatten}
+use Rattle.record_bytes.specs.RecordBytes.{encodedTexts, encoded, textAt, holdsRecord, partyFrom, decoded}
 use Rattle.reader.specs.Reading.{partyOf}
 use Rattle.reader.specs.Options.{accountHead, afterHead, read}
 use Rattle.writer.specs.Writing.{nameLines, writtenLines, joined, writtenBody, writtenField, pieces}
@@ -25,7 +25,7 @@ use Rattle.writer.specs.ReadBack.{endsCr, lastEmpty}
 use Rattle.writer.specs.Placing.{lengthIs, measure, place}
 use Rattle.page_reader.specs.Pages.{lineAt, isEnd, endsPage, runs, begins, tagIn, readField, readCase, readAt, bodyPlace}
 use Rattle.page_reader.specs.Reads.{readsFrom}
-use Rattle.page_writer.specs.Beside.{noIndex}
+use Rattle.page_writer.specs.IndexState.{noIndex}
 use Rattle.page_writer.specs.Adding.{anyLine, laterBoundary, isCarried, writable, positionAfter, asked, recordReply, addReply, add, addIndex, close}
 use Rattle.page_writer.specs.Fold.{run}
 use Rattle.page_writer.specs.WholePage.{OpenPage}
@@ -41,7 +41,7 @@ use Rattle.promises.specs.PageWitness.{b, buffer, ended}
 
 -- the definitions compute where this is unfolded
 computes : Unit {0}
-unfolding padded textOf said letter digit alphanumeric signs legal parseSwiftChars parseAccount bicLength parseBic upto onto starts lines parseLine parseLines parseNameAndAddress four partyOf accountHead afterHead read nameLines writtenLines joined writtenBody writtenField pieces isLine areNames isGiven endsCr lastEmpty withoutCr lineAt isEnd endsPage runs begins tagIn readField readCase readAt bodyPlace readsFrom anyLine laterBoundary isCarried writable asked recordReply addReply add addIndex close run tagOf hasCrLf endsLf causesOf recordsIn optionAt flatTexts flatten textAt isFlat partyFrom unflatten measure
+unfolding padded textOf content letter digit alphanumeric signs legal parseSwiftChars parseAccount bicLength parseBic upto onto starts lines parseLine parseLines parseNameAndAddress four partyOf accountHead afterHead read nameLines writtenLines joined writtenBody writtenField pieces isLine areNames isGiven endsCr lastEmpty withoutCr lineAt isEnd endsPage runs begins tagIn readField readCase readAt bodyPlace readsFrom anyLine laterBoundary isCarried writable asked recordReply addReply add addIndex close run tagOf hasCrLf endsLf causesOf recordsIn optionAt encodedTexts encoded textAt holdsRecord partyFrom decoded measure
 computes = tt
 
 -- ---- filing
@@ -104,7 +104,7 @@ pub record ReadingWitness : Type 0 where
   pub listed : (16 * 65536 * 4294967296 + 4) ∷ 7 ∷ ((9 * 65536 + 1) * 4294967296 + 7) ∷ 9 ∷ 8 ∷ (65536 + 3) ∷ []
       ≡ pageRead page 0 into .code ∷ pageRead page 4 into .code ∷ pageRead page 11 into .code ∷ pageRead page 18 into .code ∷ pageRead page 27 into .code ∷ pageRead page 35 into .code ∷ []
   -- a record that is stored loads, in just enough bytes
-  pub loads : unflatten (pageRead page 27 into .bytes) ≡ b
+  pub loads : decoded (pageRead page 27 into .bytes) ≡ b
   -- a body's place: of a field with a CR, of one with an empty line, of one that is refused, and none before the first field
   pub body-cr : take (pageBody page 27 % 4294967296) (drop (pageBody page 27 / 4294967296) page) ≡ bytes "B"
   pub body-empty-line : take (pageBody page 18 % 4294967296) (drop (pageBody page 18 / 4294967296) page) ≡ bytes "A\n\n"
@@ -127,28 +127,28 @@ reading-witness = record {
 abbrev field : List ℕ
 field = bytes ":50K:/12\nACME\nBERLIN"
 
-abbrev flat : List ℕ
-flat = flatten (gives Field50K true (bytes "12") [] (bytes "ACME" ∷ bytes "BERLIN" ∷ []) .party) ++ 9 ∷ []
+abbrev recordBytes : List ℕ
+recordBytes = encoded (gives Field50K true (bytes "12") [] (bytes "ACME" ∷ bytes "BERLIN" ∷ []) .party) ++ 9 ∷ []
 
 pub record WritingWitness : Type 0 where
   -- of every lent record and buffer, up to the greatest number that is no refusal's
-  pub passes : (flat buffer : List ℕ) → partyPlace flat buffer .code ≡ 65535 → interface.recordReply flat ≡ accepted
-  pub accepts : (flat buffer : List ℕ) → partyPlace flat buffer .code ≡ 65535 → place (said (unflatten flat)) buffer .answer ≡ lengthIs 65535
-  pub measured : (flat : List ℕ) → partyMeasure flat ≡ 65535 → (interface.recordReply flat ≡ accepted) × (65535 ≡ length (writtenField (said (unflatten flat))))
+  pub passes : (recordBytes buffer : List ℕ) → partyPlace recordBytes buffer .code ≡ 65535 → interface.argumentReply recordBytes ≡ accepted
+  pub accepts : (recordBytes buffer : List ℕ) → partyPlace recordBytes buffer .code ≡ 65535 → place (content (decoded recordBytes)) buffer .answer ≡ lengthIs 65535
+  pub measured : (recordBytes : List ℕ) → partyMeasure recordBytes ≡ 65535 → (interface.argumentReply recordBytes ≡ accepted) × (65535 ≡ length (writtenField (content (decoded recordBytes))))
   -- a buffer with just enough, with more, and one byte short
-  pub enough : partyPlace flat (replicate 20 7) ≡ record { code = 20; bytes = field }
-  pub more : partyPlace flat (replicate 23 7) ≡ record { code = 20; bytes = field ++ 7 ∷ 7 ∷ 7 ∷ [] }
-  pub short : partyPlace flat (replicate 19 7) ≡ record { code = 24 * 65536; bytes = replicate 19 7 }
+  pub enough : partyPlace recordBytes (replicate 20 7) ≡ record { code = 20; bytes = field }
+  pub more : partyPlace recordBytes (replicate 23 7) ≡ record { code = 20; bytes = field ++ 7 ∷ 7 ∷ 7 ∷ [] }
+  pub short : partyPlace recordBytes (replicate 19 7) ≡ record { code = 24 * 65536; bytes = replicate 19 7 }
 
 pub writing-witness : WritingWitness
 unfolding computes
 writing-witness =
-    let n : partyMeasure flat ≡ 20 = refl in
+    let n : partyMeasure recordBytes ≡ 20 = refl in
     record {
-      passes = λ flat buffer e. write-accepts flat buffer (omega (arith, e)) .passes;
-      accepts = λ flat buffer e. write-accepts flat buffer (omega (arith, e)) .accepts ∙ ap lengthIs e;
-      measured = λ flat e. let m = measure-accepts flat [] (omega (arith, e)) in (m .passes, sym e ∙ m .exact);
-      enough = measure-accepts flat (replicate 20 7) (omega (arith, n)) .enough (omega (arith, n));
-      more = measure-accepts flat (replicate 23 7) (omega (arith, n)) .enough (omega (arith, n));
-      short = measure-accepts flat (replicate 19 7) (omega (arith, n)) .short (omega (arith, n));
+      passes = λ recordBytes buffer e. write-accepts recordBytes buffer (omega (arith, e)) .passes;
+      accepts = λ recordBytes buffer e. write-accepts recordBytes buffer (omega (arith, e)) .accepts ∙ ap lengthIs e;
+      measured = λ recordBytes e. let m = measure-accepts recordBytes [] (omega (arith, e)) in (m .passes, sym e ∙ m .exact);
+      enough = measure-accepts recordBytes (replicate 20 7) (omega (arith, n)) .enough (omega (arith, n));
+      more = measure-accepts recordBytes (replicate 23 7) (omega (arith, n)) .enough (omega (arith, n));
+      short = measure-accepts recordBytes (replicate 19 7) (omega (arith, n)) .short (omega (arith, n));
     }

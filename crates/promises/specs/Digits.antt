@@ -10,7 +10,7 @@ use Rattle.party.specs.declared.PartyOption.the-variants.{Field50F, Field50K, F
 use Rattle.party.specs.declared.Party.{Party}
 use Rattle.party.specs.Limits.{optionAt}
 use Rattle.party.specs.Text.{padded, textOf, four}
-use Rattle.party.specs.Party.{Said, said, Same}
+use Rattle.party.specs.Party.{Content, content, Same}
 use Rattle.swift_utils.specs.Bytes.{bytes, letter, digit, alphanumeric, signs, legal}
 use Rattle.swift_utils.specs.Checks.{parseSwiftChars, parseAccount}
 use Rattle.field_utils.specs.Lines.{onto, upto, starts, lines, withoutCr}
@@ -24,11 +24,11 @@ use Rattle.writer.specs.Given.{isLine, areNames, isGiven}
 use Rattle.writer.specs.Placing.{lengthIs, refusedWith, measure, place}
 use Rattle.writer.specs.ReadBack.{endsCr, lastEmpty}
 use Rattle.page_reader.specs.Pages.{isEnd, endsPage}
-use Rattle.page_writer.specs.Beside.{noIndex}
+use Rattle.page_writer.specs.IndexState.{noIndex}
 use Rattle.page_writer.specs.Adding.{anyLine, laterBoundary, isCarried, writable, refusal, asked, recordReply, addReply, add, addIndex}
 use Rattle.page_writer.specs.Fold.{run}
 use Rattle.page_writer.specs.Demand3.{adds}
-use Rattle.flat.specs.Flat.{flatTexts, flatten, stored, textAt, isFlat, partyFrom, unflatten}
+use Rattle.record_bytes.specs.RecordBytes.{encodedTexts, encoded, stored, textAt, holdsRecord, partyFrom, decoded}
 use Rattle.yewdome.specs.Interface.{partyMeasure, partyPlace, pageAdd}
 
 -- a record of an option with the identifier X, one name, and any four digits
@@ -57,15 +57,15 @@ pub record DigitsRuledOut : Type 0 where
   -- one that holds 59F's, which stand in its texts
   pub not-59F : read Field59F (bytes "1/A\n2/B") .party .digits ≡ replicate 4 0
   -- a writer that numbers 1, 2, 3, 4, shifts the digits by a name, or adds 48 to what is a byte already
-  pub written : writtenField (said (read Field50F (bytes "X\n9/A\n0/B\n9/C") .party)) ≡ bytes ":50F:X\n9/A\n0/B\n9/C"
-  pub placed : place (said (with 55)) (replicate 11 0) ≡ record { answer = lengthIs 10; buffer = bytes ":50F:X\n7/A" ++ 0 ∷ [] }
+  pub written : writtenField (content (read Field50F (bytes "X\n9/A\n0/B\n9/C") .party)) ≡ bytes ":50F:X\n9/A\n0/B\n9/C"
+  pub placed : place (content (with 55)) (replicate 11 0) ≡ record { answer = lengthIs 10; buffer = bytes ":50F:X\n7/A" ++ 0 ∷ [] }
   -- a test for 22 that takes digits 1 to 4 alone, or in their order
-  pub any : map (λ (d : ℕ). isGiven (said (with d))) (bytes "0123456789") ≡ replicate 10 true
+  pub any : map (λ (d : ℕ). isGiven (content (with d))) (bytes "0123456789") ≡ replicate 10 true
   -- or a byte that is none: the one before `0`, the one after `9`, a zero, the number 7, an LF, 255
-  pub none : map (λ (d : ℕ). isGiven (said (with d))) (47 ∷ 58 ∷ 0 ∷ 7 ∷ 10 ∷ 255 ∷ []) ≡ replicate 6 false
-  pub refused : place (said (with 58)) (bytes "abcdefghijk") ≡ record { answer = refusedWith 22 0; buffer = bytes "abcdefghijk" }
+  pub none : map (λ (d : ℕ). isGiven (content (with d))) (47 ∷ 58 ∷ 0 ∷ 7 ∷ 10 ∷ 255 ∷ []) ≡ replicate 6 false
+  pub refused : place (content (with 58)) (bytes "abcdefghijk") ≡ record { answer = refusedWith 22 0; buffer = bytes "abcdefghijk" }
   -- one that tests unused digits, or writes them
-  pub unused : measure (said stale) ≡ lengthIs 10
+  pub unused : measure (content stale) ≡ lengthIs 10
   -- sameness that leaves the digits out
   pub told-apart : Same (with 55) (with 56) → ⊥
   -- or compares unused ones: those that the count leaves out, and all of another option
@@ -74,18 +74,18 @@ pub record DigitsRuledOut : Type 0 where
   pub same-59F : Same (numbered Field59F (bytes "1/A") (bytes "1234")) (numbered Field59F (bytes "1/A") (bytes "5678"))
   -- a page on which two that differ in a digit are one, or that files one over again
   pub filed : adds noIndex (with 55 ∷ with 58 ∷ with 56 ∷ []) (replicate 24 0) .state .buffer ≡ bytes ":50F:X\n7/A\n:50F:X\n8/A\n" ++ 0 ∷ 0 ∷ []
-  pub answered : add (replicate 24 0) 0 noIndex (said (with 58)) .answer ≡ refusal 22 0
+  pub answered : add (replicate 24 0) 0 noIndex (content (with 58)) .answer ≡ refusal 22 0
   -- bytes of a record that have the digits elsewhere than last, or not at all
   pub stored-last : drop 237 (stored (read Field50F (bytes "X\n9/A\n0/B\n9/C") .party) (replicate 242 9)) ≡ bytes "909" ++ 0 ∷ 9 ∷ []
-  pub loaded : unflatten (flatten stale) ≡ stale
+  pub loaded : decoded (encoded stale) ≡ stale
   -- a record of 240 bytes that is taken for one; one with a used digit 58 that C can measure, place or add
-  pub short : partyMeasure (take 240 (flatten (with 55))) ≡ 42 * 65536
-  pub unmeasured : partyMeasure (flatten (with 58)) ≡ 22 * 65536
-  pub unplaced : partyPlace (flatten (with 58)) (bytes "abcdefghijk") ≡ record { code = 22 * 65536; bytes = bytes "abcdefghijk" }
-  pub unadded : pageAdd (flatten (with 58)) (replicate 24 0) 0 noIndex .code ≡ 22 * 65536
+  pub short : partyMeasure (take 240 (encoded (with 55))) ≡ 42 * 65536
+  pub unmeasured : partyMeasure (encoded (with 58)) ≡ 22 * 65536
+  pub unplaced : partyPlace (encoded (with 58)) (bytes "abcdefghijk") ≡ record { code = 22 * 65536; bytes = bytes "abcdefghijk" }
+  pub unadded : pageAdd (encoded (with 58)) (replicate 24 0) 0 noIndex .code ≡ 22 * 65536
 
 pub digits-ruled-out : DigitsRuledOut
-unfolding padded textOf said letter digit alphanumeric signs legal parseSwiftChars parseAccount upto onto starts lines isNumbered parsePartyIdentifier parseLine parseLines parseNameAndAddress four partyOf afterHead read nameLines writtenLines joined writtenBody writtenField pieces isLine areNames isGiven measure place endsCr lastEmpty withoutCr isEnd endsPage anyLine laterBoundary isCarried writable asked recordReply addReply add addIndex run flatTexts flatten stored optionAt textAt isFlat partyFrom unflatten tagOf
+unfolding padded textOf content letter digit alphanumeric signs legal parseSwiftChars parseAccount upto onto starts lines isNumbered parsePartyIdentifier parseLine parseLines parseNameAndAddress four partyOf afterHead read nameLines writtenLines joined writtenBody writtenField pieces isLine areNames isGiven measure place endsCr lastEmpty withoutCr isEnd endsPage anyLine laterBoundary isCarried writable asked recordReply addReply add addIndex run encodedTexts encoded stored optionAt textAt holdsRecord partyFrom decoded tagOf
 digits-ruled-out = record {
   held = refl;
   not-59F = refl;
@@ -95,7 +95,7 @@ digits-ruled-out = record {
   none = refl;
   refused = refl;
   unused = refl;
-  told-apart = λ e. true≢false (ap (λ (s : Said). eqb (getD (s .digits) 0 0) 55) e);
+  told-apart = λ e. true≢false (ap (λ (s : Content). eqb (getD (s .digits) 0 0) 55) e);
   same = refl;
   same-50K = refl;
   same-59F = refl;

@@ -8,13 +8,13 @@ use lib.ListN.{length, take, drop, replicate}
 use Rattle.party.specs.declared.Party.{Party}
 use Rattle.party.specs.Limits.{optionAt}
 use Rattle.party.specs.Text.{padded, textOf, four}
-use Rattle.party.specs.Party.{said, Same}
+use Rattle.party.specs.Party.{content, Same}
 use Rattle.swift_utils.specs.Bytes.{bytes, letter, digit, alphanumeric, signs, legal}
 use Rattle.swift_utils.specs.Checks.{parseSwiftChars, parseAccount}
 use Rattle.field_utils.specs.Lines.{upto, onto, starts, lines, withoutCr}
 use Rattle.field_utils.specs.Names.{parseLine, parseLines, parseNameAndAddress}
 use Rattle.field_utils.specs.Tags.{tagOf}
-use Rattle.flat.specs.Flat.{flatTexts, flatten, stored, textAt, isFlat, partyFrom, unflatten}
+use Rattle.record_bytes.specs.RecordBytes.{encodedTexts, encoded, stored, textAt, holdsRecord, partyFrom, decoded}
 use Rattle.reader.specs.Reading.{partyOf}
 use Rattle.reader.specs.Options.{accountHead, afterHead, read}
 use Rattle.writer.specs.Writing.{nameLines, writtenLines, joined, writtenBody, writtenField, pieces}
@@ -23,7 +23,7 @@ use Rattle.writer.specs.ReadBack.{endsCr, lastEmpty}
 use Rattle.page_reader.specs.Pages.{lineAt, isEnd, endsPage, runs, begins, tagIn, theEnd, aRefusal, bodiless, readField, readCase, readAt, bodyPlace}
 use Rattle.page_reader.specs.Reads.{readHere, readsFrom}
 use Rattle.page_reader.specs.Index.{entriesIn, entriesOf, fieldAt, fieldsIn, lookUp}
-use Rattle.page_writer.specs.Beside.{noIndex, noted}
+use Rattle.page_writer.specs.IndexState.{noIndex, noted}
 use Rattle.page_writer.specs.Adding.{anyLine, laterBoundary, isCarried, writable, endLine, positionAfter, asked, recordReply, addReply, add, addIndex, close}
 use Rattle.page_writer.specs.Fold.{run, acceptedOf}
 use Rattle.page_writer.specs.WholePage.{OpenPage, closingOf, closedPage, kept, new, Gives, ReadsAs, MayOverwrite, Overwrites, pageOf}
@@ -37,7 +37,7 @@ use Rattle.promises.specs.PageWitness.{a, b, uncarried, buffer, empty, p
 
 -- records lent: one, bytes that are too few, bytes of no option, one that is 23, and another with a byte more
 abbrev lents : List (List ℕ)
-lents = flatten a ∷ replicate 240 0 ∷ (11 ∷ replicate 240 0) ∷ flatten uncarried ∷ (flatten b ++ 9 ∷ []) ∷ []
+lents = encoded a ∷ replicate 240 0 ∷ (11 ∷ replicate 240 0) ∷ encoded uncarried ∷ (encoded b ++ 9 ∷ []) ∷ []
 
 abbrev left : OpenPage
 left = adds empty lents buffer .state
@@ -48,7 +48,7 @@ into = replicate 242 9
 
 -- what a call gives is a record's, in bytes that hold it
 abbrev Stores : Called → Party → Type 0
-Stores c p = (isPosition (c .code) ≡ true) × Same (unflatten (c .bytes)) p
+Stores c p = (isPosition (c .code) ≡ true) × Same (decoded (c .bytes)) p
 
 exported : ExportedPage empty lents buffer
 unfolding entriesOf
@@ -70,7 +70,7 @@ pub record ExportedWitness : Type 0 where
   pub closes : isPosition (closing noIndex [] (7 ∷ 7 ∷ []) .code) ≡ true
 
 pub exported-witness : ExportedWitness
-unfolding optionAt padded textOf said letter digit alphanumeric signs legal parseSwiftChars parseAccount upto onto starts lines parseLine parseLines parseNameAndAddress four flatTexts flatten stored textAt isFlat partyFrom unflatten partyOf accountHead afterHead read nameLines writtenLines joined writtenBody writtenField pieces isLine areNames isGiven endsCr lastEmpty withoutCr lineAt isEnd endsPage runs begins tagIn readField readCase readAt readsFrom entriesIn entriesOf fieldAt fieldsIn lookUp noted anyLine laterBoundary isCarried writable asked recordReply addReply add addIndex close run acceptedOf tagOf pageOf ReadsAs Overwrites Reads answersOf filedIn
+unfolding optionAt padded textOf content letter digit alphanumeric signs legal parseSwiftChars parseAccount upto onto starts lines parseLine parseLines parseNameAndAddress four encodedTexts encoded stored textAt holdsRecord partyFrom decoded partyOf accountHead afterHead read nameLines writtenLines joined writtenBody writtenField pieces isLine areNames isGiven endsCr lastEmpty withoutCr lineAt isEnd endsPage runs begins tagIn readField readCase readAt readsFrom entriesIn entriesOf fieldAt fieldsIn lookUp noted anyLine laterBoundary isCarried writable asked recordReply addReply add addIndex close run acceptedOf tagOf pageOf ReadsAs Overwrites Reads answersOf filedIn
 exported-witness =
     let r = exported .reads refl into (omega arith) .1 into (omega arith) in
     record {
@@ -94,11 +94,11 @@ pub record ExportedDamage : Type 0 where
   pub then-end : pageRead damaged 30 into ≡ record { code = 65538; bytes = into }
 
 pub exported-damage : ExportedDamage
-unfolding optionAt padded textOf said letter digit alphanumeric signs legal parseSwiftChars parseAccount upto onto starts lines parseLine parseLines parseNameAndAddress four flatTexts flatten stored textAt isFlat partyFrom unflatten partyOf accountHead afterHead read nameLines writtenLines joined writtenBody writtenField pieces isLine areNames isGiven endsCr lastEmpty withoutCr lineAt isEnd endsPage runs begins tagIn readField readCase readAt readsFrom entriesIn entriesOf fieldAt fieldsIn lookUp noted anyLine laterBoundary isCarried writable asked recordReply addReply add addIndex close run acceptedOf tagOf pageOf ReadsAs Overwrites Reads answersOf filedIn
+unfolding optionAt padded textOf content letter digit alphanumeric signs legal parseSwiftChars parseAccount upto onto starts lines parseLine parseLines parseNameAndAddress four encodedTexts encoded stored textAt holdsRecord partyFrom decoded partyOf accountHead afterHead read nameLines writtenLines joined writtenBody writtenField pieces isLine areNames isGiven endsCr lastEmpty withoutCr lineAt isEnd endsPage runs begins tagIn readField readCase readAt readsFrom entriesIn entriesOf fieldAt fieldsIn lookUp noted anyLine laterBoundary isCarried writable asked recordReply addReply add addIndex close run acceptedOf tagOf pageOf ReadsAs Overwrites Reads answersOf filedIn
 exported-damage =
     let no-byte : MayOverwrite [] = record { opening = refl; ending = refl } in
     let bytes-200 : MayOverwrite newBytes = record { opening = refl; ending = refl } in
-    let four-lents = flatten a ∷ flatten b ∷ flatten a ∷ flatten b ∷ [] in
+    let four-lents = encoded a ∷ encoded b ∷ encoded a ∷ encoded b ∷ [] in
     let r1 = exported-page noIndex tt four-lents buffer .overwritten fields (no-byte, (refl, (bytes-200, (refl, tt)))) (omega arith) into (omega arith) in
     let r2 = r1 .1 into (omega arith) in
     let r3 = r2 .1 into (omega arith) in
@@ -115,10 +115,10 @@ pub record FiledWitness : Type 0 where
   pub filed : closedPage (fileNumbers came buffer .state) 16 ≡ ended
   pub second : Gives (readAt ended 7) (kept b)
   pub after : drop 16 (closingOf (fileNumbers came buffer .state) .buffer) ≡ replicate 24 7
-  pub records-filed : map said (filedIn (readsFrom (suc (length came)) came 0) (fileNumbers came buffer .answers)) ≡ said a ∷ said b ∷ []
+  pub records-filed : map content (filedIn (readsFrom (suc (length came)) came 0) (fileNumbers came buffer .answers)) ≡ content a ∷ content b ∷ []
 
 pub filed-witness : FiledWitness
-unfolding optionAt padded textOf said letter digit alphanumeric signs legal parseSwiftChars parseAccount upto onto starts lines parseLine parseLines parseNameAndAddress four flatTexts flatten stored textAt isFlat partyFrom unflatten partyOf accountHead afterHead read nameLines writtenLines joined writtenBody writtenField pieces isLine areNames isGiven endsCr lastEmpty withoutCr lineAt isEnd endsPage runs begins tagIn readField readCase readAt readsFrom entriesIn entriesOf fieldAt fieldsIn lookUp noted anyLine laterBoundary isCarried writable asked recordReply addReply add addIndex close run acceptedOf tagOf pageOf ReadsAs Overwrites Reads answersOf filedIn bodyPlace hasCrLf endsLf causesOf
+unfolding optionAt padded textOf content letter digit alphanumeric signs legal parseSwiftChars parseAccount upto onto starts lines parseLine parseLines parseNameAndAddress four encodedTexts encoded stored textAt holdsRecord partyFrom decoded partyOf accountHead afterHead read nameLines writtenLines joined writtenBody writtenField pieces isLine areNames isGiven endsCr lastEmpty withoutCr lineAt isEnd endsPage runs begins tagIn readField readCase readAt readsFrom entriesIn entriesOf fieldAt fieldsIn lookUp noted anyLine laterBoundary isCarried writable asked recordReply addReply add addIndex close run acceptedOf tagOf pageOf ReadsAs Overwrites Reads answersOf filedIn bodyPlace hasCrLf endsLf causesOf
 filed-witness =
     let w = filed-records came buffer .closed {to = 16} refl in
     record { filed = w .bytes; second = w .reads .1 .0; after = w .after; records-filed = refl }

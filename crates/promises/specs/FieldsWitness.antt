@@ -9,7 +9,7 @@ use lib.ListN.{length, take, drop, replicate}
 use Rattle.party.specs.declared.PartyOption.the-variants.{Field50K}
 use Rattle.party.specs.declared.Party.{Party}
 use Rattle.party.specs.Text.{padded, textOf, four}
-use Rattle.party.specs.Party.{said}
+use Rattle.party.specs.Party.{content}
 use Rattle.swift_utils.specs.Bytes.{bytes, letter, digit, alphanumeric, signs, legal}
 use Rattle.swift_utils.specs.Checks.{parseSwiftChars, parseAccount}
 use Rattle.field_utils.specs.Lines.{upto, onto, starts, lines, withoutCr}
@@ -25,7 +25,7 @@ use Rattle.writer.proofs.Theorems.{given-exact}
 use Rattle.page_reader.specs.Pages.{lineAt, isEnd, endsPage, runs, begins, tagIn, ReadOutcome, aRecord, theEnd, aRefusal, PageRead, bodiless, readField, readCase, readAt}
 use Rattle.page_reader.specs.Reads.{Read}
 use Rattle.page_reader.specs.Index.{entriesIn, entriesOf, noField, aField, fieldAt, found, lookUp}
-use Rattle.page_writer.specs.Beside.{noted}
+use Rattle.page_writer.specs.IndexState.{noted}
 use Rattle.page_writer.specs.Adding.{anyLine, laterBoundary, isCarried, writable, asked, recordReply, addReply, add, addIndex}
 use Rattle.page_writer.specs.Fold.{run, acceptedOf}
 use Rattle.page_writer.specs.WholePage.{Field, kept, new, pageOf, Gives, ReadsAs}
@@ -40,7 +40,7 @@ use Rattle.promises.specs.PageWitness.{a, b, uncarried, buffer, empty, p
 
 -- the definitions compute where this is unfolded
 computes : Unit {0}
-unfolding padded textOf said letter digit alphanumeric signs legal parseSwiftChars parseAccount upto onto starts lines withoutCr parseLine parseLines parseNameAndAddress four partyOf accountHead afterHead read nameLines writtenLines joined writtenBody writtenField pieces isLine areNames isGiven endsCr lastEmpty lineAt isEnd endsPage runs begins tagIn readField readCase readAt anyLine laterBoundary isCarried tagOf pageOf ReadsAs entriesIn entriesOf lookUp noted writable asked recordReply addReply add addIndex run acceptedOf
+unfolding padded textOf content letter digit alphanumeric signs legal parseSwiftChars parseAccount upto onto starts lines withoutCr parseLine parseLines parseNameAndAddress four partyOf accountHead afterHead read nameLines writtenLines joined writtenBody writtenField pieces isLine areNames isGiven endsCr lastEmpty lineAt isEnd endsPage runs begins tagIn readField readCase readAt anyLine laterBoundary isCarried tagOf pageOf ReadsAs entriesIn entriesOf lookUp noted writable asked recordReply addReply add addIndex run acceptedOf
 computes = tt
 
 -- ---- alone on a page

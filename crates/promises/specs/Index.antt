@@ -4,7 +4,7 @@ use mathlib.Core.List.{List, [], _∷_, _++_}
 use Prim.Native.Nat.{ℕ}
 use lib.ListN.{length, replicate}
 use Rattle.party.specs.Text.{padded, textOf, four}
-use Rattle.party.specs.Party.{said}
+use Rattle.party.specs.Party.{content}
 use Rattle.swift_utils.specs.Bytes.{bytes, letter, digit, alphanumeric, signs, legal}
 use Rattle.swift_utils.specs.Checks.{parseSwiftChars, parseAccount}
 use Rattle.field_utils.specs.Lines.{upto, onto, starts, lines, withoutCr}
@@ -18,7 +18,7 @@ use Rattle.writer.specs.ReadBack.{endsCr, lastEmpty}
 use Rattle.page_reader.specs.Pages.{lineAt, isEnd, endsPage, runs, begins, tagIn, aRefusal, readField, readCase, readAt}
 use Rattle.page_reader.specs.Reads.{readsFrom}
 use Rattle.page_reader.specs.Index.{entriesIn, entriesOf, fieldAt, fieldsIn, fieldsMet, found, notFound, lookUp, bodyOf}
-use Rattle.page_writer.specs.Beside.{Beside, anIndex, entriesBeside, noted}
+use Rattle.page_writer.specs.IndexState.{IndexState, anIndex, entriesKept, noted}
 use Rattle.page_writer.specs.Adding.{anyLine, laterBoundary, isCarried, writable, Filed, positionAfter, refusal, asked, recordReply, addReply, add, addIndex}
 use Rattle.page_writer.specs.Fold.{run}
 use Rattle.page_writer.specs.Demand3.{adds}
@@ -26,7 +26,7 @@ use Rattle.promises.specs.Pages.{longPage}
 use Rattle.promises.specs.Filing.{of}
 
 -- an empty index, whose other numbers are any
-abbrev empty : Beside
+abbrev empty : IndexState
 empty = anIndex (0 ∷ replicate 768 7)
 
 -- one of a count and the numbers of its first entry
@@ -34,7 +34,7 @@ abbrev index : ℕ → List ℕ → List ℕ
 index count numbers = count ∷ numbers ++ replicate 765 0
 
 -- a full one
-abbrev full : Beside
+abbrev full : IndexState
 full = anIndex (256 ∷ replicate 768 0)
 
 -- a page of two fields
@@ -47,18 +47,18 @@ made = 2 ∷ 3 ∷ 0 ∷ 6 ∷ 0 ∷ 7 ∷ 6 ∷ replicate 762 0
 
 pub record IndexRuledOut : Type 0 where
   -- an index whose positions are off by the LF, or that counts it in a length; one that also has refused adds
-  pub positions : entriesBeside (adds empty (of (bytes "A" ∷ []) ∷ of [] ∷ of (bytes "BC" ∷ []) ∷ []) (replicate 30 0) .state .index)
+  pub positions : entriesKept (adds empty (of (bytes "A" ∷ []) ∷ of [] ∷ of (bytes "BC" ∷ []) ∷ []) (replicate 30 0) .state .index)
       ≡ record { tag = 3; position = 0; len = 6 } ∷ record { tag = 3; position = 7; len = 7 } ∷ []
   -- one that tells the tags of a field wrong, or leaves a field out
   pub fields : fieldsMet page ≡ record { tag = 3; position = 0; len = 6 } ∷ record { tag = 0; position = 7; len = 6 } ∷ []
   -- an add that changes another number than its entry's three and the count
-  pub only-its-entry : addIndex (replicate 9 0) 0 empty (said (of (bytes "A" ∷ []))) ≡ anIndex (1 ∷ 3 ∷ 0 ∷ 6 ∷ replicate 765 7)
+  pub only-its-entry : addIndex (replicate 9 0) 0 empty (content (of (bytes "A" ∷ []))) ≡ anIndex (1 ∷ 3 ∷ 0 ∷ 6 ∷ replicate 765 7)
   -- 31 before 24, or too late; a refusal that notes its entry; a count above 256 that is believed
-  pub no-space-first : add (replicate 8 0) 0 full (said (of (bytes "A" ∷ []))) .answer ≡ refusal 24 0
-  pub no-entry : add (replicate 9 0) 0 full (said (of (bytes "A" ∷ []))) ≡ record { answer = refusal 31 0; buffer = replicate 9 0 }
-  pub not-noted : addIndex (replicate 9 0) 0 full (said (of (bytes "A" ∷ []))) ≡ full
-  pub no-entry-above : add (replicate 9 0) 0 (anIndex (257 ∷ replicate 768 0)) (said (of (bytes "A" ∷ []))) .answer ≡ refusal 31 0
-  pub last-entry : add (replicate 9 0) 0 (anIndex (255 ∷ replicate 768 0)) (said (of (bytes "A" ∷ []))) .answer ≡ positionAfter 7
+  pub no-space-first : add (replicate 8 0) 0 full (content (of (bytes "A" ∷ []))) .answer ≡ refusal 24 0
+  pub no-entry : add (replicate 9 0) 0 full (content (of (bytes "A" ∷ []))) ≡ record { answer = refusal 31 0; buffer = replicate 9 0 }
+  pub not-noted : addIndex (replicate 9 0) 0 full (content (of (bytes "A" ∷ []))) ≡ full
+  pub no-entry-above : add (replicate 9 0) 0 (anIndex (257 ∷ replicate 768 0)) (content (of (bytes "A" ∷ []))) .answer ≡ refusal 31 0
+  pub last-entry : add (replicate 9 0) 0 (anIndex (255 ∷ replicate 768 0)) (content (of (bytes "A" ∷ []))) .answer ≡ positionAfter 7
   pub counted : length (entriesOf made) ≡ 2
   pub counted-above : length (entriesOf (300 ∷ replicate 768 0)) ≡ 256
   -- k counted from 0
@@ -87,7 +87,7 @@ pub record IndexRuledOut : Type 0 where
   pub body-refused : lookUp (bytes ":50K:~\n-\n") (index 1 (3 ∷ 0 ∷ 6 ∷ [])) 1 ≡ found (record { at = 0; gave = record { outcome = aRefusal 3 1; body = bytes "~"; next = 7 } })
 
 pub index-ruled-out : IndexRuledOut
-unfolding padded textOf said letter digit alphanumeric signs legal parseSwiftChars parseAccount upto onto starts lines parseLine parseLines parseNameAndAddress four partyOf accountHead afterHead read nameLines writtenLines joined writtenBody writtenField pieces isLine areNames isGiven endsCr lastEmpty withoutCr lineAt isEnd endsPage runs begins tagIn readField readCase readAt readsFrom entriesIn entriesOf fieldAt fieldsIn lookUp noted anyLine laterBoundary isCarried writable asked recordReply addReply add addIndex run tagOf
+unfolding padded textOf content letter digit alphanumeric signs legal parseSwiftChars parseAccount upto onto starts lines parseLine parseLines parseNameAndAddress four partyOf accountHead afterHead read nameLines writtenLines joined writtenBody writtenField pieces isLine areNames isGiven endsCr lastEmpty withoutCr lineAt isEnd endsPage runs begins tagIn readField readCase readAt readsFrom entriesIn entriesOf fieldAt fieldsIn lookUp noted anyLine laterBoundary isCarried writable asked recordReply addReply add addIndex run tagOf
 index-ruled-out = record {
   positions = refl;
   fields = refl;
@@ -121,7 +121,7 @@ index-ruled-out = record {
 
 -- what an add answers in an empty buffer, beside a full index
 abbrev refusedAt : ℕ → List (List ℕ) → Filed
-refusedAt at names = add [] at full (said (of names)) .answer
+refusedAt at names = add [] at full (content (of names)) .answer
 
 -- the order of what applies to an add: 21, 22, 23, 24, 31
 pub record AddOrder : Type 0 where
@@ -132,11 +132,11 @@ pub record AddOrder : Type 0 where
   pub space-before-entry : refusedAt 0 (bytes "A" ∷ []) ≡ refusal 24 0
   -- and where the next one does not: a page would carry a name A⏎B; in 40 bytes there is space
   pub given-before-space : refusedAt 0 (bytes "A\nB" ∷ []) ≡ refusal 22 0
-  pub carried-before-entry : add (replicate 40 0) 0 full (said (of (bytes "A" ∷ [] ∷ []))) .answer ≡ refusal 23 0
-  pub position-before-entry : add (replicate 40 0) 1 full (said (of (bytes "A" ∷ []))) .answer ≡ refusal 21 0
+  pub carried-before-entry : add (replicate 40 0) 0 full (content (of (bytes "A" ∷ [] ∷ []))) .answer ≡ refusal 23 0
+  pub position-before-entry : add (replicate 40 0) 1 full (content (of (bytes "A" ∷ []))) .answer ≡ refusal 21 0
 
 pub add-order : AddOrder
-unfolding padded textOf said letter digit alphanumeric signs legal parseSwiftChars parseAccount starts onto parseLine parseLines parseNameAndAddress four partyOf nameLines writtenLines joined writtenBody writtenField pieces isLine areNames isGiven endsCr lastEmpty withoutCr isEnd endsPage anyLine laterBoundary isCarried writable asked recordReply addReply add entriesIn entriesOf tagOf
+unfolding padded textOf content letter digit alphanumeric signs legal parseSwiftChars parseAccount starts onto parseLine parseLines parseNameAndAddress four partyOf nameLines writtenLines joined writtenBody writtenField pieces isLine areNames isGiven endsCr lastEmpty withoutCr isEnd endsPage anyLine laterBoundary isCarried writable asked recordReply addReply add entriesIn entriesOf tagOf
 add-order = record {
   position-before-given = refl;
   given-before-carried = refl;

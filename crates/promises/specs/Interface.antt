@@ -11,7 +11,7 @@ use Rattle.party.specs.declared.Text.{Text}
 use Rattle.party.specs.declared.Party.{Party}
 use Rattle.party.specs.Limits.{placeOf, optionAt}
 use Rattle.party.specs.Text.{padded, textOf, four}
-use Rattle.party.specs.Party.{blank, said}
+use Rattle.party.specs.Party.{blank, content}
 use Rattle.swift_utils.specs.Bytes.{bytes, letter, small, digit, alphanumeric, signs, legal, narrowSigns, narrow}
 use Rattle.swift_utils.specs.Checks.{parseSwiftChars, parseAccount, bicLength, parseBic}
 use Rattle.field_utils.specs.Lines.{upto, onto, starts, lines, withoutCr}
@@ -31,11 +31,11 @@ use Rattle.writer.specs.Placing.{measure}
 use Rattle.page_reader.specs.Pages.{lineAt, isEnd, endsPage, runs, begins, tagIn, readField, readCase, readAt, bodyPlace}
 use Rattle.page_reader.specs.Reads.{readsFrom}
 use Rattle.page_reader.specs.Index.{entriesIn, entriesOf, fieldAt, lookUp}
-use Rattle.page_writer.specs.Beside.{noIndex}
+use Rattle.page_writer.specs.IndexState.{noIndex}
 use Rattle.page_writer.specs.Adding.{writable, close}
 use Rattle.page_writer.specs.Fold.{run}
 use Rattle.kept.specs.Kept.{hasCrLf, endsLf, causesOf, keptOf}
-use Rattle.flat.specs.Flat.{flatTexts, flatten, stored, textAt, isFlat, partyFrom, unflatten}
+use Rattle.record_bytes.specs.RecordBytes.{encodedTexts, encoded, stored, textAt, holdsRecord, partyFrom, decoded}
 use Rattle.yewdome.specs.Interface.{choiceAt, partyRead, partyParse, partyParseWithVariant, profileRead, profileParse, profileParseWithVariant, partyMeasure, pageRead, pageLookUp, pageBody, pageAdd, keptReadCode, keptParseCode, keptVariantCode, pageKept, pageAnswers, pageFile}
 use Rattle.promises.specs.Starred.{gives}
 use Rattle.promises.specs.Pages.{longPage}
@@ -61,7 +61,7 @@ pub record InterfacePlaces : Type 0 where
   pub profile-read-has-10 : profileRead 10 (bytes "1/A") lent .code ≡ 0
   pub profile-read-has-no-11 : profileRead 11 (bytes "1/A") lent .code ≡ 41 * 65536
   pub kept-read-has-10 : keptReadCode 10 (bytes "1/A") ≡ 0
-  pub measure-has-10 : partyMeasure (flatten (gives Field59F false [] [] (bytes "1/A" ∷ []) .party)) ≡ 8
+  pub measure-has-10 : partyMeasure (encoded (gives Field59F false [] [] (bytes "1/A" ∷ []) .party)) ≡ 8
   -- 6 is a choice, 7 is none
   pub parse-has-6 : partyParse 6 (bytes "A") lent .code ≡ 0
   pub parse-has-no-7 : partyParse 7 (bytes "A") lent .code ≡ 41 * 65536
@@ -76,7 +76,7 @@ pub record InterfacePlaces : Type 0 where
   pub kept-variant-has-6 : keptVariantCode 6 (bytes "A") 0 ≡ 0
 
 pub interface-places : InterfacePlaces
-unfolding padded textOf said letter small digit alphanumeric signs legal narrowSigns narrow parseSwiftChars parseAccount bicLength parseBic upto onto starts lines white trimmedStart keep trimmedEnd trimmed isNumbered parsePartyIdentifier parseLine parseLines parseNameAndAddress four partyOf accountHead shortAccountHead afterHead read firstThat parse pickOf parseWithVariant isPicked isSame holdsBic isInside linesReply profileReply profiled nameLines writtenLines joined writtenBody writtenField isLine areNames isGiven measure tagOf hasCrLf endsLf causesOf keptOf flatTexts flatten stored optionAt textAt isFlat partyFrom unflatten
+unfolding padded textOf content letter small digit alphanumeric signs legal narrowSigns narrow parseSwiftChars parseAccount bicLength parseBic upto onto starts lines white trimmedStart keep trimmedEnd trimmed isNumbered parsePartyIdentifier parseLine parseLines parseNameAndAddress four partyOf accountHead shortAccountHead afterHead read firstThat parse pickOf parseWithVariant isPicked isSame holdsBic isInside linesReply profileReply profiled nameLines writtenLines joined writtenBody writtenField isLine areNames isGiven measure tagOf hasCrLf endsLf causesOf keptOf encodedTexts encoded stored optionAt textAt holdsRecord partyFrom decoded
 interface-places = record {
   place-of-each-option = refl;
   option-at-each-place = refl;
@@ -176,22 +176,22 @@ tooMany =
 
 -- the bytes of a record
 pub record RecordBytes : Type 0 where
-  pub has-241 : length (flatten sixTexts) ≡ 241
+  pub has-241 : length (encoded sixTexts) ≡ 241
   -- option, presence, count; account, BIC and four names, each a length and its bytes; digits
-  pub in-their-order : map (λ (i : ℕ). getD (flatten sixTexts) i 0) (0 ∷ 1 ∷ 2 ∷ 3 ∷ 4 ∷ 42 ∷ 43 ∷ 81 ∷ 82 ∷ 120 ∷ 121 ∷ 159 ∷ 160 ∷ 198 ∷ 199 ∷ 237 ∷ 240 ∷ [])
+  pub in-their-order : map (λ (i : ℕ). getD (encoded sixTexts) i 0) (0 ∷ 1 ∷ 2 ∷ 3 ∷ 4 ∷ 42 ∷ 43 ∷ 81 ∷ 82 ∷ 120 ∷ 121 ∷ 159 ∷ 160 ∷ 198 ∷ 199 ∷ 237 ∷ 240 ∷ [])
       ≡ 1 ∷ 1 ∷ 4 ∷ 1 ∷ 65 ∷ 2 ∷ 66 ∷ 3 ∷ 67 ∷ 4 ∷ 68 ∷ 5 ∷ 69 ∷ 6 ∷ 70 ∷ 49 ∷ 52 ∷ []
   -- a number above 255 is 255
-  pub above-255-is-255 : map (λ (i : ℕ). getD (flatten tooMany) i 0) (2 ∷ 3 ∷ []) ≡ 255 ∷ 255 ∷ []
+  pub above-255-is-255 : map (λ (i : ℕ). getD (encoded tooMany) i 0) (2 ∷ 3 ∷ []) ≡ 255 ∷ 255 ∷ []
   -- the blank record is zeros
-  pub blank-is-zeros : flatten blank ≡ replicate 241 0
+  pub blank-is-zeros : encoded blank ≡ replicate 241 0
   -- place 10 and presence 1 are bytes of a record; place 11 is not, nor are 240 bytes, in which none is stored
-  pub has-place-10 : isFlat (10 ∷ 1 ∷ replicate 239 0) ≡ true
-  pub has-no-place-11 : isFlat (11 ∷ replicate 240 0) ≡ false
-  pub has-no-less-than-241 : isFlat (replicate 240 0) ≡ false
+  pub has-place-10 : holdsRecord (10 ∷ 1 ∷ replicate 239 0) ≡ true
+  pub has-no-place-11 : holdsRecord (11 ∷ replicate 240 0) ≡ false
+  pub has-no-less-than-241 : holdsRecord (replicate 240 0) ≡ false
   pub stores-in-no-less : stored sixTexts (replicate 240 7) ≡ replicate 240 7
 
 pub record-bytes : RecordBytes
-unfolding padded textOf flatTexts flatten stored isFlat
+unfolding padded textOf encodedTexts encoded stored holdsRecord
 record-bytes = record {
   has-241 = refl;
   in-their-order = refl;

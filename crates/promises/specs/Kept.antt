@@ -9,7 +9,7 @@ use Rattle.errors.specs.Refusals.{accepted, refused}
 use Rattle.party.specs.declared.PartyOption.the-variants.{Field50NoOption, Field50A, Field50K, Field50L, Field59A, Field59F}
 use Rattle.party.specs.Limits.{optionAt}
 use Rattle.party.specs.Text.{padded, textOf, four}
-use Rattle.party.specs.Party.{said}
+use Rattle.party.specs.Party.{content}
 use Rattle.swift_utils.specs.Bytes.{bytes, letter, digit, alphanumeric, signs, legal}
 use Rattle.swift_utils.specs.Checks.{parseSwiftChars, parseAccount, bicLength, parseBic}
 use Rattle.field_utils.specs.Lines.{onto, upto, starts, lines, withoutCr}
@@ -58,13 +58,13 @@ closingCr = record { «inner_cr» = false; «last_lf» = false; «after_bic» = 
 -- the smallest input at which each cause stands alone, and what is written of it
 pub record KeptSmallest : Type 0 where
   pub inner-cr : keptRead Field50NoOption (bytes "\r\nA") ≡ told innerCr
-  pub inner-cr-written : writtenBody (said (read Field50NoOption (bytes "\r\nA") .party)) ≡ bytes "\nA"
+  pub inner-cr-written : writtenBody (content (read Field50NoOption (bytes "\r\nA") .party)) ≡ bytes "\nA"
   pub last-lf : keptRead Field50NoOption (bytes "\n") ≡ told lastLf
-  pub last-lf-written : writtenBody (said (read Field50NoOption (bytes "\n") .party)) ≡ []
+  pub last-lf-written : writtenBody (content (read Field50NoOption (bytes "\n") .party)) ≡ []
   pub after-bic : keptRead Field50A (bytes "ABCDEFGH\nX") ≡ told afterBic
-  pub after-bic-written : writtenBody (said (read Field50A (bytes "ABCDEFGH\nX") .party)) ≡ bytes "ABCDEFGH"
+  pub after-bic-written : writtenBody (content (read Field50A (bytes "ABCDEFGH\nX") .party)) ≡ bytes "ABCDEFGH"
   pub blanks : keptParse Field50InstructingParty (bytes " A") ≡ told blanksAlone
-  pub blanks-written : writtenBody (said (parse Field50InstructingParty (bytes " A") .party)) ≡ bytes "A"
+  pub blanks-written : writtenBody (content (parse Field50InstructingParty (bytes " A") .party)) ≡ bytes "A"
   pub closing-cr : pageKept (bytes ":50:A\r\n") 0 ≡ 16 * 131072 + 7
   pub closing-cr-came : cameAt (bytes ":50:A\r\n") 0 ≡ bytes ":50:A\r"
   -- all that can stand together
@@ -78,7 +78,7 @@ pub record KeptSmallest : Type 0 where
   pub refused-body : isKept Field59A (bytes "A") ≡ false
 
 pub kept-smallest : KeptSmallest
-unfolding padded textOf said letter digit alphanumeric signs legal parseSwiftChars parseAccount bicLength parseBic upto onto starts lines white trimmedStart keep trimmedEnd trimmed isNumbered secondSlash identifierReply parsePartyIdentifier parseLine parseLines parseNameAndAddress four partyOf accountHead shortAccountHead afterHead read anyNumbered firstLine lastLine bicLike firstThat testLine nameLines writtenLines joined writtenBody withoutCr lineAt isEnd endsPage runs begins tagIn readField readCase readAt bodyPlace parse tagOf hasCrLf endsLf causesOf keptOf
+unfolding padded textOf content letter digit alphanumeric signs legal parseSwiftChars parseAccount bicLength parseBic upto onto starts lines white trimmedStart keep trimmedEnd trimmed isNumbered secondSlash identifierReply parsePartyIdentifier parseLine parseLines parseNameAndAddress four partyOf accountHead shortAccountHead afterHead read anyNumbered firstLine lastLine bicLike firstThat testLine nameLines writtenLines joined writtenBody withoutCr lineAt isEnd endsPage runs begins tagIn readField readCase readAt bodyPlace parse tagOf hasCrLf endsLf causesOf keptOf
 kept-smallest = record {
   inner-cr = refl;
   inner-cr-written = refl;
@@ -144,7 +144,7 @@ pub record KeptRuledOut : Type 0 where
   pub page-file-tells-of-a-refusal : pageFile (bytes ":50:A\r\n-\n") (replicate 7 0) (replicate 10 7) .answers ≡ (24 * 65536 * 4294967296 + 7) ∷ (65536 + 2) ∷ replicate 8 7
 
 pub kept-ruled-out : KeptRuledOut
-unfolding padded textOf said letter digit alphanumeric signs legal parseSwiftChars parseAccount bicLength parseBic upto onto starts lines white trimmedStart keep trimmedEnd trimmed isNumbered secondSlash identifierReply parsePartyIdentifier parseLine parseLines parseNameAndAddress four partyOf accountHead shortAccountHead afterHead read anyNumbered firstLine lastLine bicLike firstThat pickOf testLine nameLines writtenLines joined writtenBody writtenField pieces isLine areNames isGiven endsCr lastEmpty withoutCr lineAt isEnd endsPage runs begins tagIn readField readCase readAt bodyPlace isCarried writable asked recordReply addReply add addIndex close parse parseWithVariant isPicked anyLine laterBoundary tagOf run readsFrom optionAt hasCrLf endsLf causesOf keptOf
+unfolding padded textOf content letter digit alphanumeric signs legal parseSwiftChars parseAccount bicLength parseBic upto onto starts lines white trimmedStart keep trimmedEnd trimmed isNumbered secondSlash identifierReply parsePartyIdentifier parseLine parseLines parseNameAndAddress four partyOf accountHead shortAccountHead afterHead read anyNumbered firstLine lastLine bicLike firstThat pickOf testLine nameLines writtenLines joined writtenBody writtenField pieces isLine areNames isGiven endsCr lastEmpty withoutCr lineAt isEnd endsPage runs begins tagIn readField readCase readAt bodyPlace isCarried writable asked recordReply addReply add addIndex close parse parseWithVariant isPicked anyLine laterBoundary tagOf run readsFrom optionAt hasCrLf endsLf causesOf keptOf
 kept-ruled-out = record {
   tried-text-trims-all = refl;
   tried-text-trims-the-start = refl;
@@ -214,7 +214,7 @@ pub record KeptPages : Type 0 where
   pub told-unknown-is-a-field : arePlain (answersFrom unknownFirst (fileNumbers unknownFirst (replicate 22 0) .answers)) ≡ false
 
 pub kept-pages : KeptPages
-unfolding padded textOf said letter digit alphanumeric signs legal parseSwiftChars parseAccount bicLength parseBic upto onto starts lines isNumbered parseLine parseLines parseNameAndAddress four partyOf accountHead afterHead read nameLines writtenLines joined writtenBody writtenField pieces isLine areNames isGiven endsCr lastEmpty withoutCr lineAt isEnd endsPage runs begins tagIn readField readCase readAt bodyPlace isCarried writable asked recordReply addReply add addIndex close anyLine laterBoundary tagOf run readsFrom hasCrLf endsLf causesOf areKept lastAt arePlain
+unfolding padded textOf content letter digit alphanumeric signs legal parseSwiftChars parseAccount bicLength parseBic upto onto starts lines isNumbered parseLine parseLines parseNameAndAddress four partyOf accountHead afterHead read nameLines writtenLines joined writtenBody writtenField pieces isLine areNames isGiven endsCr lastEmpty withoutCr lineAt isEnd endsPage runs begins tagIn readField readCase readAt bodyPlace isCarried writable asked recordReply addReply add addIndex close anyLine laterBoundary tagOf run readsFrom hasCrLf endsLf causesOf areKept lastAt arePlain
 kept-pages = record {
   kept = refl;
   lines = refl;

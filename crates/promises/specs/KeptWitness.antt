@@ -9,7 +9,7 @@ use lib.ListN.{length, take, drop, replicate}
 use Rattle.party.specs.declared.PartyOption.the-variants.{Field50A, Field50K, Field59A}
 use Rattle.party.specs.declared.Party.{Party}
 use Rattle.party.specs.Text.{padded, textOf, four}
-use Rattle.party.specs.Party.{said}
+use Rattle.party.specs.Party.{content}
 use Rattle.swift_utils.specs.Bytes.{bytes, letter, digit, alphanumeric, signs, legal}
 use Rattle.swift_utils.specs.Checks.{parseSwiftChars, parseAccount, bicLength, parseBic}
 use Rattle.field_utils.specs.Lines.{upto, onto, starts, lines, withoutCr}
@@ -28,7 +28,7 @@ use Rattle.writer.specs.ReadBack.{endsCr, lastEmpty}
 use Rattle.page_reader.specs.Pages.{lineAt, isEnd, endsPage, runs, begins, tagIn, readField, readCase, readAt, bodyPlace}
 use Rattle.page_reader.specs.Reads.{readHere, readsFrom}
 use Rattle.page_reader.specs.Index.{entriesIn, entriesOf}
-use Rattle.page_writer.specs.Beside.{noIndex, noted}
+use Rattle.page_writer.specs.IndexState.{noIndex, noted}
 use Rattle.page_writer.specs.Adding.{anyLine, laterBoundary, isCarried, writable, asked, recordReply, addReply, add, addIndex, close}
 use Rattle.page_writer.specs.Fold.{run}
 use Rattle.page_writer.specs.WholePage.{OpenPage}
@@ -49,7 +49,7 @@ use Rattle.promises.specs.PageWitness.{b, empty, buffer}
 
 -- the definitions compute where this is unfolded
 computes : Unit {0}
-unfolding padded textOf said letter digit alphanumeric signs legal parseSwiftChars parseAccount bicLength parseBic upto onto starts lines white trimmedStart keep trimmedEnd trimmed isNumbered parseLine parseLines parseNameAndAddress four partyOf accountHead shortAccountHead afterHead read anyNumbered lastLine bicLike firstThat pickOf parse parseWithVariant isPicked hasCrLf endsLf causesOf keptOf secondSlash identifierReply parsePartyIdentifier nameLines writtenLines joined writtenBody writtenField pieces isLine areNames isGiven endsCr lastEmpty withoutCr lineAt isEnd endsPage runs begins tagIn readField readCase readAt bodyPlace entriesIn entriesOf noted anyLine laterBoundary isCarried writable asked recordReply addReply add addIndex tagOf readsFrom close run recordsIn areKept lastAt arePlain
+unfolding padded textOf content letter digit alphanumeric signs legal parseSwiftChars parseAccount bicLength parseBic upto onto starts lines white trimmedStart keep trimmedEnd trimmed isNumbered parseLine parseLines parseNameAndAddress four partyOf accountHead shortAccountHead afterHead read anyNumbered lastLine bicLike firstThat pickOf parse parseWithVariant isPicked hasCrLf endsLf causesOf keptOf secondSlash identifierReply parsePartyIdentifier nameLines writtenLines joined writtenBody writtenField pieces isLine areNames isGiven endsCr lastEmpty withoutCr lineAt isEnd endsPage runs begins tagIn readField readCase readAt bodyPlace entriesIn entriesOf noted anyLine laterBoundary isCarried writable asked recordReply addReply add addIndex tagOf readsFrom close run recordsIn areKept lastAt arePlain
 computes = tt
 
 -- ---- a body
@@ -67,16 +67,16 @@ blanks = bytes " A"
 
 pub record BodyWitness : Type 0 where
   -- by an option: a body that is written as it came, and two that are not, by a line after a BIC and by a CR
-  pub option : writtenBody (said (read Field50K plain .party)) ≡ plain
-  pub option-bic : writtenBody (said (read Field59A afterBic .party)) ≡ afterBic → ⊥
-  pub option-cr : writtenBody (said (read Field50K withCr .party)) ≡ withCr → ⊥
+  pub option : writtenBody (content (read Field50K plain .party)) ≡ plain
+  pub option-bic : writtenBody (content (read Field59A afterBic .party)) ≡ afterBic → ⊥
+  pub option-cr : writtenBody (content (read Field50K withCr .party)) ≡ withCr → ⊥
   -- by a choice that detects: the same, and blanks that are trimmed
-  pub detected : writtenBody (said (parse Field50OrderingCustomerAFK plain .party)) ≡ plain
-  pub detected-cr : writtenBody (said (parse Field50OrderingCustomerAFK withCr .party)) ≡ withCr → ⊥
-  pub detected-blanks : writtenBody (said (parse Field50InstructingParty blanks .party)) ≡ blanks → ⊥
+  pub detected : writtenBody (content (parse Field50OrderingCustomerAFK plain .party)) ≡ plain
+  pub detected-cr : writtenBody (content (parse Field50OrderingCustomerAFK withCr .party)) ≡ withCr → ⊥
+  pub detected-blanks : writtenBody (content (parse Field50InstructingParty blanks .party)) ≡ blanks → ⊥
   -- by a letter: one that picks, which trims nothing, and one that detects
-  pub picked : writtenBody (said (parseWithVariant Field50InstructingParty blanks 76 .party)) ≡ blanks
-  pub not-picked : writtenBody (said (parseWithVariant Field50InstructingParty blanks 75 .party)) ≡ blanks → ⊥
+  pub picked : writtenBody (content (parseWithVariant Field50InstructingParty blanks 76 .party)) ≡ blanks
+  pub not-picked : writtenBody (content (parseWithVariant Field50InstructingParty blanks 75 .party)) ≡ blanks → ⊥
 
 pub body-witness : BodyWitness
 unfolding computes
@@ -104,16 +104,16 @@ abbrev state : OpenPage
 state = record { buffer = bytes ":50K:A\n" ++ replicate 30 7; position = 7; index = empty }
 
 pub record StepWitness : Type 0 where
-  pub field-no : writtenField (said bic) ≡ bytes ":50A:ABCDEFGH\nX\r" → ⊥
-  pub field-yes : writtenField (said b) ≡ bytes ":50K:B"
+  pub field-no : writtenField (content bic) ≡ bytes ":50A:ABCDEFGH\nX\r" → ⊥
+  pub field-yes : writtenField (content b) ≡ bytes ":50K:B"
   -- what is put, after what was there; what is told, which is 4 and 16; and that it is not the field as it came
   pub puts : numberStep page state (readHere page 7) .state .buffer ≡ bytes ":50K:A\n:50A:ABCDEFGH\n" ++ replicate 16 7
   pub tells : numberStep page state (readHere page 7) .answer / 131072 ≡ 20
-  pub differs : writtenField (said bic) ≡ cameAt page 7 → ⊥
+  pub differs : writtenField (content bic) ≡ cameAt page 7 → ⊥
   -- of the field that is kept it tells 0, and puts that
   pub puts-kept : numberStep page state (readHere page 24) .state .buffer ≡ bytes ":50K:A\n:50K:B\n" ++ replicate 23 7
   pub tells-none : numberStep page state (readHere page 24) .answer / 131072 ≡ 0
-  pub same : writtenField (said b) ≡ cameAt page 24
+  pub same : writtenField (content b) ≡ cameAt page 24
 
 pub step-witness : StepWitness
 unfolding computes

@@ -1,4 +1,4 @@
--- Wrong programs that the contracts of `writer`, `page_reader`, `page_writer`, `flat` and `yewdome` rule out (document 01, 'For the auditor's form'),
+-- Wrong programs that the contracts of `writer`, `page_reader`, `page_writer`, `record_bytes` and `yewdome` rule out (document 01, 'For the auditor's form'),
 -- each by computation. A field is named after its operation and the mistake, and its comment says what the wrong program does.
 use mathlib.Core.Path.{_≡_, refl}
 use mathlib.Core.Bool.{true, false}
@@ -12,7 +12,7 @@ use Rattle.party.specs.declared.Parts.{Parts}
 use Rattle.party.specs.declared.PartyOption.the-variants.{Field50NoOption, Field50A, Field50K, Field50C, Field59NoOption, Field59A, Field59F}
 use Rattle.party.specs.Limits.{placeOf, optionAt}
 use Rattle.party.specs.Text.{padded, textOf, four}
-use Rattle.party.specs.Party.{blank, partyIn, said}
+use Rattle.party.specs.Party.{blank, partyIn, content}
 use Rattle.swift_utils.specs.Bytes.{bytes, letter, digit, alphanumeric, signs, legal}
 use Rattle.swift_utils.specs.Checks.{parseSwiftChars, parseAccount, bicLength, parseBic}
 use Rattle.field_utils.specs.Lines.{upto, onto, starts, lines, withoutCr}
@@ -32,27 +32,27 @@ use Rattle.writer.specs.Longest.{longest}
 use Rattle.page_reader.specs.Pages.{lineAt, opens, isEnd, endsPage, endsAt, runs, begins, tagIn, aRefusal, bodiless, readField, readCase, readAt, bodyPlace, readLent, readBytes}
 use Rattle.page_reader.specs.Reads.{readsFrom}
 use Rattle.page_reader.specs.Index.{entriesIn, entriesOf, fieldAt, notFound, lookUp, lookLent, lookBytes}
-use Rattle.page_writer.specs.Beside.{noIndex, anIndex, noted}
+use Rattle.page_writer.specs.IndexState.{noIndex, anIndex, noted}
 use Rattle.page_writer.specs.Adding.{anyLine, laterBoundary, isCarried, writable, refusal, asked, recordReply, addReply, add, addIndex, close}
 use Rattle.page_writer.specs.Fold.{run}
 use Rattle.kept.specs.Kept.{hasCrLf, endsLf, causesOf}
-use Rattle.flat.specs.Flat.{recordSize, flatTexts, flatten, stored, textAt, isFlat, partyFrom, unflatten}
+use Rattle.record_bytes.specs.RecordBytes.{recordSize, encodedTexts, encoded, stored, textAt, holdsRecord, partyFrom, decoded}
 use Rattle.yewdome.specs.Interface.{partyRead, partyParse, partyParseWithVariant, partyMeasure, partyPlace, pageRead, pageLookUp, pageBody, pageAdd, pageAddIndex, pageClose, pageAnswers, pageFile}
 use Rattle.promises.specs.Starred.{gives, gives50F}
 use Rattle.promises.specs.Filing.{of}
 use Rattle.promises.specs.OperationsReaders.{lent, short}
 
 -- the 50K of one name, A, as bytes
-abbrev flatA : List ℕ
-flatA = flatten (of (bytes "A" ∷ []))
+abbrev encodedA : List ℕ
+encodedA = encoded (of (bytes "A" ∷ []))
 
 -- with a length of 39, which passes its text, and 39 letters after it
-abbrev flatLong : List ℕ
-flatLong = take 81 flatA ++ 39 ∷ replicate 39 65 ++ drop 121 flatA
+abbrev encodedLong : List ℕ
+encodedLong = take 81 encodedA ++ 39 ∷ replicate 39 65 ++ drop 121 encodedA
 
 -- with a presence of 2, which makes it no record
-abbrev noFlat : List ℕ
-noFlat = 3 ∷ 2 ∷ drop 2 flatA
+abbrev noRecord : List ℕ
+noRecord = 3 ∷ 2 ∷ drop 2 encodedA
 
 -- a page of two fields
 abbrev page : List ℕ
@@ -68,36 +68,36 @@ pub record WriterOperations : Type 0 where
   -- leaves the closing colon out
   pub tag-length-leaves-the-colon : length (tagOf Field59A) ≡ 5
   -- is one byte short, or one long
-  pub measure-is-one-off : measure (said (of (bytes "A" ∷ []))) ≡ lengthIs 6
+  pub measure-is-one-off : measure (content (of (bytes "A" ∷ []))) ≡ lengthIs 6
   -- counts an empty line after 59F's identifier
-  pub measure-counts-an-empty-line : measure (said (gives Field59F true (bytes "1") [] (bytes "1/A" ∷ []) .party)) ≡ lengthIs (length (bytes ":59F:/1\n1/A"))
+  pub measure-counts-an-empty-line : measure (content (gives Field59F true (bytes "1") [] (bytes "1/A" ∷ []) .party)) ≡ lengthIs (length (bytes ":59F:/1\n1/A"))
   -- leaves out the numbers of 50F
-  pub measure-leaves-numbers : measure (said (gives50F (bytes "X") (bytes "A" ∷ []) (bytes "1") .party)) ≡ lengthIs (length (bytes ":50F:X\n1/A"))
+  pub measure-leaves-numbers : measure (content (gives50F (bytes "X") (bytes "A" ∷ []) (bytes "1") .party)) ≡ lengthIs (length (bytes ":50F:X\n1/A"))
   -- refuses with 24 the longest field that there is
-  pub measure-refuses-with-24 : measure (said longest) ≡ lengthIs fieldMost
+  pub measure-refuses-with-24 : measure (content longest) ≡ lengthIs fieldMost
   -- gives a length for a record that no reader gives
-  pub measure-takes-all : measure (said (of [])) ≡ refusedWith 22 0
+  pub measure-takes-all : measure (content (of [])) ≡ refusedWith 22 0
   -- believes that the field is as long as the buffer: tells 8, or changes a byte after the field
-  pub place-believes-the-buffer : place (said (of (bytes "A" ∷ []))) (bytes "abcdefgh") ≡ record { answer = lengthIs 6; buffer = bytes ":50K:Agh" }
+  pub place-believes-the-buffer : place (content (of (bytes "A" ∷ []))) (bytes "abcdefgh") ≡ record { answer = lengthIs 6; buffer = bytes ":50K:Agh" }
   -- believes that it takes the most that a field can, or one byte more than it does: 24 with bytes free
-  pub place-believes-the-most : place (said (of (bytes "A" ∷ []))) (bytes "abcdef") ≡ record { answer = lengthIs 6; buffer = bytes ":50K:A" }
+  pub place-believes-the-most : place (content (of (bytes "A" ∷ []))) (bytes "abcdef") ≡ record { answer = lengthIs 6; buffer = bytes ":50K:A" }
   -- believes that it takes one byte less, and puts what there is space for
-  pub place-believes-less : place (said (of (bytes "A" ∷ []))) (bytes "abcde") ≡ record { answer = refusedWith 24 0; buffer = bytes "abcde" }
+  pub place-believes-less : place (content (of (bytes "A" ∷ []))) (bytes "abcde") ≡ record { answer = refusedWith 24 0; buffer = bytes "abcde" }
   -- refuses a lent record of over 241 bytes
-  pub measure-record-refuses-242 : measure (said (unflatten (flatA ++ 7 ∷ []))) ≡ lengthIs 6
+  pub measure-record-refuses-242 : measure (content (decoded (encodedA ++ 7 ∷ []))) ≡ lengthIs 6
   -- measures bytes that are no record
-  pub measure-record-takes-presence-2 : measure (said (unflatten noFlat)) ≡ refusedWith 22 0
+  pub measure-record-takes-presence-2 : measure (content (decoded noRecord)) ≡ refusedWith 22 0
   -- believes a length that passes its text, and places the byte after the text too
-  pub place-record-believes-39 : place (said (unflatten flatLong)) (replicate 50 7) ≡ record { answer = refusedWith 22 0; buffer = replicate 50 7 }
+  pub place-record-believes-39 : place (content (decoded encodedLong)) (replicate 50 7) ≡ record { answer = refusedWith 22 0; buffer = replicate 50 7 }
   -- puts what there is space for, and then refuses with 24
-  pub place-record-puts-a-part : place (said (unflatten flatA)) (bytes "abcde") ≡ record { answer = refusedWith 24 0; buffer = bytes "abcde" }
+  pub place-record-puts-a-part : place (content (decoded encodedA)) (bytes "abcde") ≡ record { answer = refusedWith 24 0; buffer = bytes "abcde" }
   -- has no space for a text that fills the buffer to its end
   pub put-text-asks-for-more : fits (bytes "abc") 1 (bytes "AB") ≡ true
   -- changes the byte after the text
   pub put-text-writes-on : placed (bytes "abcd") 1 (bytes "AB") ≡ bytes "aABd"
 
 pub writer-operations : WriterOperations
-unfolding padded textOf said letter digit alphanumeric signs legal parseSwiftChars parseAccount upto starts isNumbered secondSlash identifierReply parseLine parseLines parseNameAndAddress four partyOf nameLines writtenLines joined writtenBody writtenField isLine areNames isGiven measure place tagOf flatTexts flatten optionAt textAt isFlat partyFrom unflatten
+unfolding padded textOf content letter digit alphanumeric signs legal parseSwiftChars parseAccount upto starts isNumbered secondSlash identifierReply parseLine parseLines parseNameAndAddress four partyOf nameLines writtenLines joined writtenBody writtenField isLine areNames isGiven measure place tagOf encodedTexts encoded optionAt textAt holdsRecord partyFrom decoded
 writer-operations = record {
   tag-length-counts-a-letter = refl;
   tag-length-leaves-the-colon = refl;
@@ -143,18 +143,18 @@ pub record PagesOperations : Type 0 where
   -- tests 31 before 42
   pub look-up-into-tests-31-first : lookLent page made 3 short ≡ notFound 42 0
   -- files a record for bytes that are none
-  pub add-record-takes-none : add (replicate 9 0) 0 noIndex (said (unflatten noFlat)) ≡ record { answer = refusal 22 0; buffer = replicate 9 0 }
+  pub add-record-takes-none : add (replicate 9 0) 0 noIndex (content (decoded noRecord)) ≡ record { answer = refusal 22 0; buffer = replicate 9 0 }
   -- tests whether the bytes are a record before 21
-  pub add-record-tests-bytes-first : add (bytes "ab") 1 noIndex (said (unflatten noFlat)) .answer ≡ refusal 21 0
+  pub add-record-tests-bytes-first : add (bytes "ab") 1 noIndex (content (decoded noRecord)) .answer ≡ refusal 21 0
   -- notes an entry for bytes that are no record
-  pub add-indexed-record-notes-none : addIndex (replicate 9 0) 0 (anIndex (replicate 769 0)) (said (unflatten noFlat)) ≡ anIndex (replicate 769 0)
+  pub add-indexed-record-notes-none : addIndex (replicate 9 0) 0 (anIndex (replicate 769 0)) (content (decoded noRecord)) ≡ anIndex (replicate 769 0)
   -- notes every record as of the first option
-  pub add-indexed-record-notes-the-first : addIndex (replicate 9 0) 0 (anIndex (replicate 769 0)) (said (unflatten flatA)) ≡ anIndex (1 ∷ 3 ∷ 0 ∷ 6 ∷ replicate 765 0)
+  pub add-indexed-record-notes-the-first : addIndex (replicate 9 0) 0 (anIndex (replicate 769 0)) (content (decoded encodedA)) ≡ anIndex (1 ∷ 3 ∷ 0 ∷ 6 ∷ replicate 765 0)
   -- tests 24 before 21
   pub close-tests-space-first : close (bytes "ab") 1 .answer ≡ refusal 21 0
 
 pub pages-operations : PagesOperations
-unfolding padded textOf said letter digit alphanumeric signs legal parseSwiftChars parseAccount upto onto starts lines withoutCr parseLine parseLines parseNameAndAddress four partyOf accountHead afterHead read nameLines writtenLines joined writtenBody writtenField pieces isLine areNames isGiven endsCr lastEmpty lineAt isEnd endsPage runs begins tagIn readField readCase readAt bodyPlace entriesIn entriesOf fieldAt lookUp anyLine laterBoundary isCarried writable asked recordReply addReply add noted addIndex close tagOf flatTexts flatten stored optionAt textAt isFlat partyFrom unflatten
+unfolding padded textOf content letter digit alphanumeric signs legal parseSwiftChars parseAccount upto onto starts lines withoutCr parseLine parseLines parseNameAndAddress four partyOf accountHead afterHead read nameLines writtenLines joined writtenBody writtenField pieces isLine areNames isGiven endsCr lastEmpty lineAt isEnd endsPage runs begins tagIn readField readCase readAt bodyPlace entriesIn entriesOf fieldAt lookUp anyLine laterBoundary isCarried writable asked recordReply addReply add noted addIndex close tagOf encodedTexts encoded stored optionAt textAt holdsRecord partyFrom decoded
 pages-operations = record {
   opens-at-takes-any-colon = refl;
   opens-at-takes-the-next-line = refl;
@@ -191,7 +191,7 @@ account n = let none : Part = record { start = 0; len = 0 } in record {
 abbrev copied : List ℕ → List ℕ → ℕ → List ℕ
 copied s buffer at = elim (leb (at + length s) (length buffer)) [ true ↦ paste buffer at s (length s) | false ↦ buffer ]
 
-pub record FlatOperations : Type 0 where
+pub record RecordBytesOperations : Type 0 where
   -- copies by eight, and leaves the ninth byte out or changes bytes after it
   pub copy-goes-by-eight : copied (bytes "ABCDEFGHI") (replicate 18 7) 1 ≡ 7 ∷ bytes "ABCDEFGHI" ++ replicate 8 7
   -- copies as many bytes as there is space for
@@ -205,29 +205,29 @@ pub record FlatOperations : Type 0 where
   -- gives the length of the part, though only 38 bytes are kept
   pub store-parts-counts-all : getD (stored (partyIn (replicate 40 65) (account 40)) lent) 3 7 ≡ 38
   -- takes 241 bytes and no more
-  pub is-flat-refuses-242 : isFlat (flatA ++ 7 ∷ []) ≡ true
+  pub holds-record-refuses-242 : holdsRecord (encodedA ++ 7 ∷ []) ≡ true
   -- takes a presence of 2 for a yes
-  pub is-flat-takes-presence-2 : isFlat noFlat ≡ false
+  pub holds-record-takes-presence-2 : holdsRecord noRecord ≡ false
   -- counts the options from 1
-  pub option-of-counts-from-1 : unflatten flatA .option ≡ Field50K
+  pub option-of-counts-from-1 : decoded encodedA .option ≡ Field50K
   -- believes the first byte of bytes that are no record
-  pub option-of-believes-none : unflatten noFlat .option ≡ Field50NoOption
+  pub option-of-believes-none : decoded noRecord .option ≡ Field50NoOption
   -- takes 241 bytes and no more
-  pub load-refuses-242 : unflatten (flatA ++ 7 ∷ []) ≡ of (bytes "A" ∷ [])
+  pub load-refuses-242 : decoded (encodedA ++ 7 ∷ []) ≡ of (bytes "A" ∷ [])
   -- takes a place that no option has
-  pub load-takes-place-11 : unflatten (11 ∷ replicate recordSize 0) ≡ blank
+  pub load-takes-place-11 : decoded (11 ∷ replicate recordSize 0) ≡ blank
 
-pub flat-operations : FlatOperations
-unfolding padded textOf partyIn four partyOf flatTexts flatten stored optionAt textAt isFlat partyFrom unflatten
-flat-operations = record {
+pub record-bytes-operations : RecordBytesOperations
+unfolding padded textOf partyIn four partyOf encodedTexts encoded stored optionAt textAt holdsRecord partyFrom decoded
+record-bytes-operations = record {
   copy-goes-by-eight = refl;
   copy-gives-a-part = refl;
   store-shifts-the-bic = refl;
   store-gives-a-part = refl;
   store-parts-leaves-bytes = refl;
   store-parts-counts-all = refl;
-  is-flat-refuses-242 = refl;
-  is-flat-takes-presence-2 = refl;
+  holds-record-refuses-242 = refl;
+  holds-record-takes-presence-2 = refl;
   option-of-counts-from-1 = refl;
   option-of-believes-none = refl;
   load-refuses-242 = refl;
@@ -248,11 +248,11 @@ pub record YewdomeOperations : Type 0 where
   -- detects without a letter, and stores a 59A
   pub party-parse-with-variant-detects : getD (partyParseWithVariant 5 (bytes "ABCDEFGH") 0 lent .bytes) 0 0 ≡ placeOf Field59NoOption
   -- gives what a record takes on a page, with its LF and the end
-  pub party-measure-counts-the-end : partyMeasure flatA ≡ 6
+  pub party-measure-counts-the-end : partyMeasure encodedA ≡ 6
   -- gives a length for a record that no reader gives
   pub party-measure-takes-all : partyMeasure (replicate recordSize 0) ≡ 22 * 65536
   -- refuses a lent record of over 241 bytes
-  pub party-measure-refuses-242 : partyMeasure (flatA ++ 7 ∷ []) ≡ 6
+  pub party-measure-refuses-242 : partyMeasure (encodedA ++ 7 ∷ []) ≡ 6
   -- tests 41 before 42
   pub party-measure-tests-the-option-first : partyMeasure (11 ∷ []) ≡ 42 * 65536
   -- measures by the first option where there is none
@@ -260,13 +260,13 @@ pub record YewdomeOperations : Type 0 where
   -- tests 24 before 22
   pub party-place-tests-space-first : partyPlace (replicate recordSize 0) [] .code ≡ 22 * 65536
   -- refuses a lent record of over 241 bytes
-  pub party-place-refuses-242 : partyPlace (flatA ++ 7 ∷ []) (replicate 6 0) .code ≡ 6
+  pub party-place-refuses-242 : partyPlace (encodedA ++ 7 ∷ []) (replicate 6 0) .code ≡ 6
   -- tests 41 before 42
   pub party-place-tests-the-option-first : partyPlace (11 ∷ []) [] .code ≡ 42 * 65536
   -- writes by the first option where there is none
   pub party-place-takes-11 : partyPlace (11 ∷ replicate recordSize 0) [] .code ≡ 41 * 65536
   -- gives 0 where it accepts
-  pub party-place-gives-0 : partyPlace flatA (replicate 6 0) ≡ record { code = 6; bytes = bytes ":50K:A" }
+  pub party-place-gives-0 : partyPlace encodedA (replicate 6 0) ≡ record { code = 6; bytes = bytes ":50K:A" }
   -- does not tell the end from a record
   pub page-read-hides-the-end : pageRead (bytes "-\n") 0 lent .code ≡ 65536 + 2
   -- gives the next position, and not how far it is
@@ -280,13 +280,13 @@ pub record YewdomeOperations : Type 0 where
   -- files a record for bytes that are none
   pub page-add-takes-none : pageAdd [] (replicate 9 0) 0 noIndex .code ≡ 42 * 65536
   -- takes a presence of 2 for a yes
-  pub page-add-takes-presence-2 : pageAdd (3 ∷ 2 ∷ drop 2 flatA) (replicate 9 0) 0 noIndex .code ≡ 22 * 65536
+  pub page-add-takes-presence-2 : pageAdd (3 ∷ 2 ∷ drop 2 encodedA) (replicate 9 0) 0 noIndex .code ≡ 22 * 65536
   -- gives the length written, and not the position after
-  pub page-add-gives-the-length : pageAdd flatA (bytes "X\n" ++ replicate 9 0) 2 noIndex .code ≡ 9
+  pub page-add-gives-the-length : pageAdd encodedA (bytes "X\n" ++ replicate 9 0) 2 noIndex .code ≡ 9
   -- notes what is refused: a lent record that is none
   pub page-add-indexed-notes-none : pageAddIndex [] (replicate 9 0) 0 (anIndex (0 ∷ replicate 768 0)) ≡ anIndex (0 ∷ replicate 768 0)
   -- leaves the index as it came
-  pub page-add-indexed-leaves-the-index : pageAddIndex flatA (bytes "X\n" ++ replicate 9 0) 2 (anIndex (0 ∷ replicate 768 0)) ≡ anIndex (1 ∷ 3 ∷ 2 ∷ 6 ∷ replicate 765 0)
+  pub page-add-indexed-leaves-the-index : pageAddIndex encodedA (bytes "X\n" ++ replicate 9 0) 2 (anIndex (0 ∷ replicate 768 0)) ≡ anIndex (1 ∷ 3 ∷ 2 ∷ 6 ∷ replicate 765 0)
   -- gives the next position, and not how far it is
   pub page-look-up-gives-the-position : pageLookUp (bytes "X\n:50K:A\n-\n") (1 ∷ 3 ∷ 2 ∷ 6 ∷ replicate 765 0) 1 lent .code ≡ 7
   -- tells 31 as the page's end
@@ -314,7 +314,7 @@ pub record YewdomeOperations : Type 0 where
   pub page-file-tests-late : pageFile (bytes "-\n") (bytes "ab") [] ≡ record { code = 43 * 65536; bytes = bytes "ab"; answers = [] }
 
 pub yewdome-operations : YewdomeOperations
-unfolding padded textOf said letter digit alphanumeric signs legal parseSwiftChars parseAccount bicLength parseBic upto onto starts lines white trimmedStart keep trimmedEnd trimmed isNumbered secondSlash identifierReply parsePartyIdentifier parseLine parseLines parseNameAndAddress four partyOf accountHead shortAccountHead afterHead read anyNumbered firstLine lastLine bicLike firstThat pickOf testLine nameLines writtenLines joined writtenBody writtenField pieces isLine areNames isGiven measure place endsCr lastEmpty withoutCr lineAt isEnd endsPage runs begins tagIn readField readAt isCarried writable asked recordReply addReply add noted addIndex close flatTexts flatten stored optionAt textAt isFlat partyFrom unflatten entriesIn entriesOf fieldAt lookUp parse parseWithVariant readCase anyLine laterBoundary bodyPlace tagOf run readsFrom hasCrLf endsLf causesOf
+unfolding padded textOf content letter digit alphanumeric signs legal parseSwiftChars parseAccount bicLength parseBic upto onto starts lines white trimmedStart keep trimmedEnd trimmed isNumbered secondSlash identifierReply parsePartyIdentifier parseLine parseLines parseNameAndAddress four partyOf accountHead shortAccountHead afterHead read anyNumbered firstLine lastLine bicLike firstThat pickOf testLine nameLines writtenLines joined writtenBody writtenField pieces isLine areNames isGiven measure place endsCr lastEmpty withoutCr lineAt isEnd endsPage runs begins tagIn readField readAt isCarried writable asked recordReply addReply add noted addIndex close encodedTexts encoded stored optionAt textAt holdsRecord partyFrom decoded entriesIn entriesOf fieldAt lookUp parse parseWithVariant readCase anyLine laterBoundary bodyPlace tagOf run readsFrom hasCrLf endsLf causesOf
 yewdome-operations = record {
   party-read-drops-the-line = refl;
   party-read-takes-11 = refl;

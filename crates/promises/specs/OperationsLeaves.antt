@@ -14,7 +14,7 @@ use Rattle.party.specs.declared.Part.{Part}
 use Rattle.party.specs.declared.Parts.{Parts}
 use Rattle.party.specs.Limits.{limitsOf, placeOf, optionAt}
 use Rattle.party.specs.Text.{padded, textOf, partIn, four}
-use Rattle.party.specs.Party.{blank, partyIn, said, Same}
+use Rattle.party.specs.Party.{blank, partyIn, content, Same}
 use Rattle.party.specs.declared.Numbering.the-variants.{Unnumbered, Numbered, InTurn}
 use Rattle.swift_utils.specs.Bytes.{bytes, all, letter, small, digit, alphanumeric, signs, legal, narrowSigns, narrow}
 use Rattle.swift_utils.specs.Classes.{bitsOf, classesOf, classTable, entryIn}
@@ -24,7 +24,7 @@ use Rattle.field_utils.specs.Lines.{upto, starts, withoutCr}
 use Rattle.field_utils.specs.Cursor.{lineOf, nextLine, placesOf, linePlaces, noPlace, namePlaces}
 use Rattle.field_utils.specs.Trim.{white, trimmedStart, keep, trimmedEnd, trimmed}
 use Rattle.field_utils.specs.Identifier.{isNumbered, secondSlash, identifierReply}
-use Rattle.field_utils.specs.Names.{skipOf, keptFrom, parseLine, parseLines, parseCount, parseNameAndAddress}
+use Rattle.field_utils.specs.Names.{skipOf, droppedPrefix, parseLine, parseLines, parseCount, parseNameAndAddress}
 
 pub record ErrorsOperations : Type 0 where
   -- numbers the cases one after the other, so that a position is 19
@@ -69,9 +69,9 @@ pub record PartyOperations : Type 0 where
   -- counts the options of 59 from 0
   pub index-of-starts-anew : placeOf Field59NoOption ≡ 8
   -- lets an identifier of 50A have 35 bytes
-  pub limits-of-takes-35-in-50A : limitsOf Field50A .longest ≡ 34
+  pub limits-of-takes-35-in-50A : limitsOf Field50A .«account_max» ≡ 34
   -- lets a text of 50F have 35 bytes, as a name of 50K has
-  pub limits-of-takes-35 : limitsOf Field50F .name ≡ 33
+  pub limits-of-takes-35 : limitsOf Field50F .«name_max» ≡ 33
   -- counts from 1
   pub option-at-counts-from-1 : optionAt 1 ≡ Field50A
   -- gives the last option where there is none
@@ -98,7 +98,7 @@ pub record PartyOperations : Type 0 where
   pub same-compares-unused : Same (withBic (bytes "A")) (withBic (bytes "B"))
 
 pub party-operations : PartyOperations
-unfolding optionAt padded textOf partyIn said
+unfolding optionAt padded textOf partyIn content
 party-operations = record {
   index-of-sorts = refl;
   index-of-starts-anew = refl;
@@ -221,9 +221,9 @@ pub record FieldUtilsOperations : Type 0 where
   -- counts a number where there is none
   pub skip-of-counts-none : skipOf Unnumbered ≡ 0
   -- keeps 50F's digits in the text
-  pub kept-from-keeps-50F : keptFrom Numbered ≡ 2
+  pub dropped-prefix-keeps-50F : droppedPrefix Numbered ≡ 2
   -- leaves 59F's digits out
-  pub kept-from-leaves-59F : keptFrom InTurn ≡ 0
+  pub dropped-prefix-leaves-59F : droppedPrefix InTurn ≡ 0
   -- takes no name at all
   pub parse-count-takes-none : parseCount 4 0 ≡ refused 7 0
   -- refuses as many as there may be
@@ -257,8 +257,8 @@ field-utils-operations = record {
   parse-remaining-takes-a-sign = refl;
   skip-of-leaves-the-slash = refl;
   skip-of-counts-none = refl;
-  kept-from-keeps-50F = refl;
-  kept-from-leaves-59F = refl;
+  dropped-prefix-keeps-50F = refl;
+  dropped-prefix-leaves-59F = refl;
   parse-count-takes-none = refl;
   parse-count-refuses-four = refl;
   names-tell-the-body-line = refl;

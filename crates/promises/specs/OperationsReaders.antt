@@ -21,7 +21,7 @@ use Rattle.field_utils.specs.Lines.{upto, onto, starts, lines}
 use Rattle.field_utils.specs.Trim.{white, trimmedStart, keep, trimmedEnd, trimmed}
 use Rattle.field_utils.specs.Identifier.{isNumbered, secondSlash, identifierReply, parsePartyIdentifier}
 use Rattle.field_utils.specs.Names.{parseLine, parseLines, parseNameAndAddress}
-use Rattle.flat.specs.Flat.{recordSize, flatTexts, flatten, stored, isFlat, partyFrom, unflatten}
+use Rattle.record_bytes.specs.RecordBytes.{recordSize, encodedTexts, encoded, stored, holdsRecord, partyFrom, decoded}
 use Rattle.reader.specs.declared.Answer.{Answer}
 use Rattle.reader.specs.Reading.{partyOf, toldAnswer, answerFrom, readInto}
 use Rattle.reader.specs.Options.{lengthReply, accountHead, shortAccountHead, afterHead, ascii, bodyReply, read}
@@ -52,9 +52,9 @@ pub record ReaderOperations : Type 0 where
   -- leaves the names met so far beside the refusal
   pub refuse-keeps-names : refusedWith (TooLong 2) .party .count ≡ 0
   -- gives all bytes where the place is past the end
-  pub behind-gives-all : drop 3 (bytes "AB") ≡ []
+  pub suffix-gives-all : drop 3 (bytes "AB") ≡ []
   -- gives one byte too few
-  pub behind-skips-one-more : drop 1 (bytes "AB") ≡ bytes "B"
+  pub suffix-skips-one-more : drop 1 (bytes "AB") ≡ bytes "B"
   -- tests the bytes too
   pub account-length-tests-bytes : lengthReply Field50H (bytes "~") ≡ accepted
   -- has a limit of 35 for 34
@@ -80,14 +80,14 @@ pub record ReaderOperations : Type 0 where
   pub answer-from-gives-the-blank : answerFrom Accepted (0 ∷ 1 ∷ replicate 239 0) .party .present ≡ true
 
 pub reader-operations : ReaderOperations
-unfolding letter digit alphanumeric signs legal parseSwiftChars parseAccount bicLength parseBic upto onto starts lines secondSlash identifierReply parsePartyIdentifier parseLine parseLines parseNameAndAddress afterHead read isFlat partyFrom unflatten
+unfolding letter digit alphanumeric signs legal parseSwiftChars parseAccount bicLength parseBic upto onto starts lines secondSlash identifierReply parsePartyIdentifier parseLine parseLines parseNameAndAddress afterHead read holdsRecord partyFrom decoded
 reader-operations = record {
   parse-head-tests-50H = refl;
   parse-head-takes-59-for-50K = refl;
   refuse-drops-the-line = refl;
   refuse-keeps-names = refl;
-  behind-gives-all = refl;
-  behind-skips-one-more = refl;
+  suffix-gives-all = refl;
+  suffix-skips-one-more = refl;
   account-length-tests-bytes = refl;
   account-length-takes-35 = refl;
   is-ascii-refuses-127 = refl;
@@ -205,7 +205,7 @@ pub record ChoicesOperations : Type 0 where
   pub first-numbered-stays : holds FirstNumbered (lines (bytes "/A")) ≡ false
 
 pub choices-operations : ChoicesOperations
-unfolding padded textOf letter digit alphanumeric signs legal parseSwiftChars parseAccount bicLength parseBic upto onto starts lines white trimmedStart keep trimmedEnd trimmed isNumbered secondSlash identifierReply parsePartyIdentifier parseLine parseLines parseNameAndAddress four partyOf accountHead afterHead read anyNumbered firstLine lastLine bicLike testLine firstThat pickOf parse parseWithVariant flatTexts flatten stored
+unfolding padded textOf letter digit alphanumeric signs legal parseSwiftChars parseAccount bicLength parseBic upto onto starts lines white trimmedStart keep trimmedEnd trimmed isNumbered secondSlash identifierReply parsePartyIdentifier parseLine parseLines parseNameAndAddress four partyOf accountHead afterHead read anyNumbered firstLine lastLine bicLike testLine firstThat pickOf parse parseWithVariant encodedTexts encoded stored
 choices-operations = record {
   parse-tries-the-third-first = (refl, refl);
   parse-tests-the-tried = refl;

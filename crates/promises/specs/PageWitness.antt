@@ -7,7 +7,7 @@ use native.Mathlib.Omega.{arith}
 use lib.ListN.{length, take, drop, replicate}
 use Rattle.party.specs.declared.Party.{Party}
 use Rattle.party.specs.Text.{padded, textOf, four}
-use Rattle.party.specs.Party.{said}
+use Rattle.party.specs.Party.{content}
 use Rattle.swift_utils.specs.Bytes.{bytes, letter, digit, alphanumeric, signs, legal}
 use Rattle.swift_utils.specs.Checks.{parseSwiftChars, parseAccount}
 use Rattle.field_utils.specs.Lines.{upto, onto, starts, lines, withoutCr}
@@ -24,7 +24,7 @@ use Rattle.writer.proofs.Theorems.{given-exact}
 use Rattle.page_reader.specs.Pages.{lineAt, isEnd, endsPage, runs, begins, tagIn, theEnd, aRefusal, bodiless, readField, readCase, readAt}
 use Rattle.page_reader.specs.Reads.{Read, readHere, readsFrom}
 use Rattle.page_reader.specs.Index.{entriesIn, entriesOf, fieldAt, fieldsIn, fieldsMet, found, notFound, lookUp}
-use Rattle.page_writer.specs.Beside.{Beside, noIndex, anIndex, noted}
+use Rattle.page_writer.specs.IndexState.{IndexState, noIndex, anIndex, noted}
 use Rattle.page_writer.specs.Adding.{anyLine, laterBoundary, isCarried, writable, endLine, positionAfter, refusal, asked, recordReply, addReply, add, addIndex, close}
 use Rattle.page_writer.specs.Fold.{run, acceptedOf}
 use Rattle.page_writer.specs.WholePage.{OpenPage, closingOf, closedPage, kept, new, Field, pageOf, Gives, ReadsAs, Alone, MayOverwrite, Overwrites}
@@ -56,7 +56,7 @@ ps = a ∷ uncarried ∷ b ∷ nameless ∷ []
 abbrev pub buffer : List ℕ
 buffer = replicate 40 7
 
-abbrev pub empty : Beside
+abbrev pub empty : IndexState
 empty = anIndex (0 ∷ replicate 768 7)
 
 abbrev left : OpenPage
@@ -96,7 +96,7 @@ pub record OpenWitness : Type 0 where
   pub zeroth : lookUp page numbers 0 ≡ notFound 31 0
 
 pub open-witness : OpenWitness
-unfolding padded textOf said letter digit alphanumeric signs legal parseSwiftChars parseAccount upto onto starts lines isNumbered secondSlash identifierReply parseLine parseLines parseNameAndAddress four partyOf accountHead afterHead read nameLines writtenLines joined writtenBody writtenField identified59F pieces isLine areNames isGiven endsCr lastEmpty withoutCr lineAt isEnd endsPage runs begins tagIn readField readCase readAt readsFrom entriesIn entriesOf fieldAt fieldsIn lookUp noted anyLine laterBoundary isCarried writable asked recordReply addReply add addIndex close run acceptedOf tagOf pageOf ReadsAs Overwrites crlf identifiedIn
+unfolding padded textOf content letter digit alphanumeric signs legal parseSwiftChars parseAccount upto onto starts lines isNumbered secondSlash identifierReply parseLine parseLines parseNameAndAddress four partyOf accountHead afterHead read nameLines writtenLines joined writtenBody writtenField identified59F pieces isLine areNames isGiven endsCr lastEmpty withoutCr lineAt isEnd endsPage runs begins tagIn readField readCase readAt readsFrom entriesIn entriesOf fieldAt fieldsIn lookUp noted anyLine laterBoundary isCarried writable asked recordReply addReply add addIndex close run acceptedOf tagOf pageOf ReadsAs Overwrites crlf identifiedIn
 open-witness =
     let w = whole .listed .opened in
     record {
@@ -143,7 +143,7 @@ pub record ClosedWitness : Type 0 where
   pub unclosed : closingOf (adds noIndex (a ∷ []) (7 ∷ []) .state) ≡ record { answer = refusal 24 0; buffer = 7 ∷ [] }
 
 pub closed-witness : ClosedWitness
-unfolding padded textOf said letter digit alphanumeric signs legal parseSwiftChars parseAccount upto onto starts lines isNumbered secondSlash identifierReply parseLine parseLines parseNameAndAddress four partyOf accountHead afterHead read nameLines writtenLines joined writtenBody writtenField identified59F pieces isLine areNames isGiven endsCr lastEmpty withoutCr lineAt isEnd endsPage runs begins tagIn readField readCase readAt readsFrom entriesIn entriesOf fieldAt fieldsIn lookUp noted anyLine laterBoundary isCarried writable asked recordReply addReply add addIndex close run acceptedOf tagOf pageOf ReadsAs Overwrites crlf identifiedIn
+unfolding padded textOf content letter digit alphanumeric signs legal parseSwiftChars parseAccount upto onto starts lines isNumbered secondSlash identifierReply parseLine parseLines parseNameAndAddress four partyOf accountHead afterHead read nameLines writtenLines joined writtenBody writtenField identified59F pieces isLine areNames isGiven endsCr lastEmpty withoutCr lineAt isEnd endsPage runs begins tagIn readField readCase readAt readsFrom entriesIn entriesOf fieldAt fieldsIn lookUp noted anyLine laterBoundary isCarried writable asked recordReply addReply add addIndex close run acceptedOf tagOf pageOf ReadsAs Overwrites crlf identifiedIn
 closed-witness =
     let w = whole .listed .closed {to = 16} refl in
     record {
@@ -173,7 +173,7 @@ pub record RunWitness : Type 0 where
   pub list : a ∷ b ∷ [] ≡ model empty ps 40 .state .list
 
 pub run-witness : RunWitness
-unfolding padded textOf said letter digit alphanumeric signs legal parseSwiftChars parseAccount upto onto starts lines isNumbered secondSlash identifierReply parseLine parseLines parseNameAndAddress four partyOf accountHead afterHead read nameLines writtenLines joined writtenBody writtenField identified59F pieces isLine areNames isGiven endsCr lastEmpty withoutCr lineAt isEnd endsPage runs begins tagIn readField readCase readAt readsFrom entriesIn entriesOf fieldAt fieldsIn lookUp noted anyLine laterBoundary isCarried writable asked recordReply addReply add addIndex close run acceptedOf tagOf pageOf ReadsAs Overwrites crlf identifiedIn
+unfolding padded textOf content letter digit alphanumeric signs legal parseSwiftChars parseAccount upto onto starts lines isNumbered secondSlash identifierReply parseLine parseLines parseNameAndAddress four partyOf accountHead afterHead read nameLines writtenLines joined writtenBody writtenField identified59F pieces isLine areNames isGiven endsCr lastEmpty withoutCr lineAt isEnd endsPage runs begins tagIn readField readCase readAt readsFrom entriesIn entriesOf fieldAt fieldsIn lookUp noted anyLine laterBoundary isCarried writable asked recordReply addReply add addIndex close run acceptedOf tagOf pageOf ReadsAs Overwrites crlf identifiedIn
 run-witness = record {
   in-turn = whole .in-turn (a ∷ []) uncarried (b ∷ nameless ∷ []) refl;
   not-alone =
@@ -214,7 +214,7 @@ pub record DamageWitness : Type 0 where
   pub reads-on : ReadsAs (pageOf longDamage endLine) 0 longDamage theEnd
 
 pub damage-witness : DamageWitness
-unfolding padded textOf said letter digit alphanumeric signs legal parseSwiftChars parseAccount upto onto starts lines isNumbered secondSlash identifierReply parseLine parseLines parseNameAndAddress four partyOf accountHead afterHead read nameLines writtenLines joined writtenBody writtenField identified59F pieces isLine areNames isGiven endsCr lastEmpty withoutCr lineAt isEnd endsPage runs begins tagIn readField readCase readAt readsFrom entriesIn entriesOf fieldAt fieldsIn lookUp noted anyLine laterBoundary isCarried writable asked recordReply addReply add addIndex close run acceptedOf tagOf pageOf ReadsAs Overwrites crlf identifiedIn
+unfolding padded textOf content letter digit alphanumeric signs legal parseSwiftChars parseAccount upto onto starts lines isNumbered secondSlash identifierReply parseLine parseLines parseNameAndAddress four partyOf accountHead afterHead read nameLines writtenLines joined writtenBody writtenField identified59F pieces isLine areNames isGiven endsCr lastEmpty withoutCr lineAt isEnd endsPage runs begins tagIn readField readCase readAt readsFrom entriesIn entriesOf fieldAt fieldsIn lookUp noted anyLine laterBoundary isCarried writable asked recordReply addReply add addIndex close run acceptedOf tagOf pageOf ReadsAs Overwrites crlf identifiedIn
 damage-witness =
     let no-byte : MayOverwrite [] = record { opening = refl; ending = refl } in
     let bytes-200 : MayOverwrite newBytes = record { opening = refl; ending = refl } in
@@ -232,7 +232,7 @@ pub record DeliveredWitness : Type 0 where
   pub then-end : readAt sent 16 ≡ bodiless theEnd 20
 
 pub delivered-witness : DeliveredWitness
-unfolding padded textOf said letter digit alphanumeric signs legal parseSwiftChars parseAccount upto onto starts lines isNumbered secondSlash identifierReply parseLine parseLines parseNameAndAddress four partyOf accountHead afterHead read nameLines writtenLines joined writtenBody writtenField identified59F pieces isLine areNames isGiven endsCr lastEmpty withoutCr lineAt isEnd endsPage runs begins tagIn readField readCase readAt readsFrom entriesIn entriesOf fieldAt fieldsIn lookUp noted anyLine laterBoundary isCarried writable asked recordReply addReply add addIndex close run acceptedOf tagOf pageOf ReadsAs Overwrites crlf identifiedIn
+unfolding padded textOf content letter digit alphanumeric signs legal parseSwiftChars parseAccount upto onto starts lines isNumbered secondSlash identifierReply parseLine parseLines parseNameAndAddress four partyOf accountHead afterHead read nameLines writtenLines joined writtenBody writtenField identified59F pieces isLine areNames isGiven endsCr lastEmpty withoutCr lineAt isEnd endsPage runs begins tagIn readField readCase readAt readsFrom entriesIn entriesOf fieldAt fieldsIn lookUp noted anyLine laterBoundary isCarried writable asked recordReply addReply add addIndex close run acceptedOf tagOf pageOf ReadsAs Overwrites crlf identifiedIn
 delivered-witness =
     let w = delivered-page empty (refl, refl) ps buffer (bytes "-}\r\n") (end-lines .brace-cr) (omega arith) in
     record { second = w .1 .0; then-end = w .1 .1 }

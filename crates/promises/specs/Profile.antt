@@ -9,7 +9,7 @@ use Rattle.errors.specs.Refusals.{Reply, accepted, refused}
 use Rattle.party.specs.declared.PartyOption.the-variants.{Field50NoOption, Field50A, Field50F, Field50K, Field50C, Field50G, Field59A, Field59F}
 use Rattle.party.specs.Limits.{placeOf, optionAt}
 use Rattle.party.specs.Text.{padded, textOf, four}
-use Rattle.party.specs.Party.{said}
+use Rattle.party.specs.Party.{content}
 use Rattle.swift_utils.specs.Bytes.{bytes, all, letter, small, digit, alphanumeric, signs, legal, narrowSigns, narrow}
 use Rattle.swift_utils.specs.Checks.{parseSwiftChars, parseAccount, bicLength, parseBic}
 use Rattle.field_utils.specs.Lines.{upto, onto, starts, lines, withoutCr}
@@ -28,7 +28,7 @@ use Rattle.writer.specs.Given.{isLine, areNames, isGiven}
 use Rattle.writer.specs.ReadBack.{endsCr, lastEmpty}
 use Rattle.page_reader.specs.Pages.{isEnd, endsPage}
 use Rattle.page_writer.specs.Adding.{anyLine, laterBoundary, isCarried, asked, recordReply}
-use Rattle.flat.specs.Flat.{recordSize, flatTexts, flatten, stored}
+use Rattle.record_bytes.specs.RecordBytes.{recordSize, encodedTexts, encoded, stored}
 use Rattle.yewdome.specs.Interface.{profileRead, profileParse, profileParseWithVariant}
 use Rattle.promises.specs.Starred.{gives, atPosition}
 use Rattle.promises.specs.RuledOut.{As}
@@ -166,7 +166,7 @@ profile-ruled-out = record {
 -- ---- what the promise of pages needs
 -- what a page of 40 bytes says of a reading's record
 abbrev filed : Reading → Reply
-filed r = recordReply 40 false (atPosition 0) (said (r .party))
+filed r = recordReply 40 false (atPosition 0) (content (r .party))
 
 pub record ProfileNeeded : Type 0 where
   -- no exception: 59F with an identifier is taken under the profile, and a page carries it as it does one without
@@ -180,7 +180,7 @@ pub record ProfileNeeded : Type 0 where
   pub hyphen : filed (read Field50K (bytes "A\n-")) ≡ refused 23 0
 
 pub profile-needed : ProfileNeeded
-unfolding padded textOf said letter small digit alphanumeric signs legal narrowSigns narrow parseSwiftChars parseAccount upto onto starts lines withoutCr isNumbered secondSlash identifierReply parsePartyIdentifier parseLine parseLines parseNameAndAddress four partyOf accountHead afterHead read holdsBic isInside linesReply profileReply profiled nameLines writtenLines joined writtenBody writtenField pieces isLine areNames isGiven endsCr lastEmpty isEnd endsPage anyLine laterBoundary isCarried asked recordReply tagOf
+unfolding padded textOf content letter small digit alphanumeric signs legal narrowSigns narrow parseSwiftChars parseAccount upto onto starts lines withoutCr isNumbered secondSlash identifierReply parsePartyIdentifier parseLine parseLines parseNameAndAddress four partyOf accountHead afterHead read holdsBic isInside linesReply profileReply profiled nameLines writtenLines joined writtenBody writtenField pieces isLine areNames isGiven endsCr lastEmpty isEnd endsPage anyLine laterBoundary isCarried asked recordReply tagOf
 profile-needed = record { taken-59F = (refl, refl); filed-59F = refl; bare-59F = refl; cr = refl; empty = refl; colon = refl; hyphen = refl }
 
 -- ---- for C
@@ -203,7 +203,7 @@ pub record ProfileCalls : Type 0 where
   pub variant-detects : getD (profileParseWithVariant 2 (bytes "JOHNDOES\nSTREETAB") 75 lent .bytes) 0 0 ≡ placeOf Field50K
 
 pub profile-calls : ProfileCalls
-unfolding padded textOf letter small digit alphanumeric signs legal narrowSigns narrow parseSwiftChars parseAccount bicLength parseBic upto onto starts lines white trimmedStart keep trimmedEnd trimmed isNumbered secondSlash identifierReply parsePartyIdentifier parseLine parseLines parseNameAndAddress four partyOf accountHead shortAccountHead afterHead read anyNumbered firstLine lastLine bicLike firstThat pickOf testLine parse parseWithVariant isSame holdsBic isInside linesReply profileReply profiled optionAt flatTexts flatten stored
+unfolding padded textOf letter small digit alphanumeric signs legal narrowSigns narrow parseSwiftChars parseAccount bicLength parseBic upto onto starts lines white trimmedStart keep trimmedEnd trimmed isNumbered secondSlash identifierReply parsePartyIdentifier parseLine parseLines parseNameAndAddress four partyOf accountHead shortAccountHead afterHead read anyNumbered firstLine lastLine bicLike firstThat pickOf testLine parse parseWithVariant isSame holdsBic isInside linesReply profileReply profiled optionAt encodedTexts encoded stored
 profile-calls = record {
   read-drops-the-line = refl;
   read-stores = refl;

@@ -9,7 +9,7 @@ use Rattle.errors.specs.Refusals.{accepted, refused}
 use Rattle.party.specs.declared.PartyOption.the-variants.{Field50A, Field50K}
 use Rattle.party.specs.Limits.{limitsOf, optionAt}
 use Rattle.party.specs.Text.{padded, textOf, four}
-use Rattle.party.specs.Party.{said}
+use Rattle.party.specs.Party.{content}
 use Rattle.swift_utils.specs.Bytes.{bytes, letter, small, digit, alphanumeric, signs, legal, narrowSigns, narrow}
 use Rattle.swift_utils.specs.Checks.{parseSwiftChars, parseAccount, bicLength, parseBic}
 use Rattle.field_utils.specs.Lines.{upto, onto, starts, lines}
@@ -17,7 +17,7 @@ use Rattle.field_utils.specs.Trim.{white, trimmedStart, keep, trimmedEnd, trimm
 use Rattle.field_utils.specs.Identifier.{isNumbered, secondSlash, identifierReply, parsePartyIdentifier}
 use Rattle.field_utils.specs.Names.{parseLine, parseLines, parseNameAndAddress}
 use Rattle.field_utils.specs.Tags.{tagOf}
-use Rattle.flat.specs.Flat.{unflatten}
+use Rattle.record_bytes.specs.RecordBytes.{decoded}
 use Rattle.reader.specs.Reading.{partyOf}
 use Rattle.reader.specs.Options.{accountHead, afterHead, read}
 use Rattle.reader.specs.declared.choices.Choice.the-variants.{Field50InstructingParty, Field50OrderingCustomerAFK, Field50Creditor}
@@ -35,7 +35,7 @@ use Rattle.promises.specs.PageWitness.{empty}
 
 -- the definitions compute where this is unfolded
 computes : Unit {0}
-unfolding padded textOf said letter small digit alphanumeric signs legal narrowSigns narrow parseSwiftChars parseAccount bicLength parseBic upto onto starts lines white trimmedStart keep trimmedEnd trimmed secondSlash identifierReply parsePartyIdentifier parseLine parseLines parseNameAndAddress four partyOf accountHead afterHead read isSame holdsBic isInside linesReply profileReply profiled nameLines writtenLines joined writtenBody writtenField entriesIn entriesOf writable tagOf isNumbered anyNumbered lastLine bicLike firstThat parse pickOf parseWithVariant anyHolds optionAt
+unfolding padded textOf content letter small digit alphanumeric signs legal narrowSigns narrow parseSwiftChars parseAccount bicLength parseBic upto onto starts lines white trimmedStart keep trimmedEnd trimmed secondSlash identifierReply parsePartyIdentifier parseLine parseLines parseNameAndAddress four partyOf accountHead afterHead read isSame holdsBic isInside linesReply profileReply profiled nameLines writtenLines joined writtenBody writtenField entriesIn entriesOf writable tagOf isNumbered anyNumbered lastLine bicLike firstThat parse pickOf parseWithVariant anyHolds optionAt
 computes = tt
 
 -- a 50A with an account, which passes; bodies whose second line is outside the profile, and outside the ordinary reading
@@ -60,8 +60,8 @@ pub record OptionWitness : Type 0 where
   pub same : read Field50A good ≡ readProfiled Field50A good
   pub stands : readProfiled Field50K illegal ≡ refusing 3 2
   pub number : (k n : ℕ) → readProfiled Field50K outside .reply ≡ refused k n → k ≡ 32
-  pub accepts : add page 7 empty (said (read Field50A good .party)) .answer ≡ positionAfter 25
-  pub held : (body : List ℕ) → read Field50A body .reply ≡ accepted → ltb 0 (limitsOf (read Field50A body .party .option) .bic) ≡ true
+  pub accepts : add page 7 empty (content (read Field50A good .party)) .answer ≡ positionAfter 25
+  pub held : (body : List ℕ) → read Field50A body .reply ≡ accepted → ltb 0 (limitsOf (read Field50A body .party .option) .«bic_count») ≡ true
       → anyHolds (read Field50A body .party) (lines body) ≡ true
 
 pub option-witness : OptionWitness
@@ -84,16 +84,16 @@ pub record ChoiceWitness : Type 0 where
   pub same : parse Field50OrderingCustomerAFK good ≡ parseProfiled Field50OrderingCustomerAFK good
   pub stands : parseProfiled Field50Creditor [] ≡ refusing 11 0
   pub number : (k n : ℕ) → parseProfiled Field50OrderingCustomerAFK twice .reply ≡ refused k n → k ≡ 32
-  pub accepts : add page 7 empty (said (parse Field50InstructingParty blanks .party)) .answer ≡ positionAfter 21
-  pub held : (body : List ℕ) → parse Field50InstructingParty body .reply ≡ accepted → ltb 0 (limitsOf (parse Field50InstructingParty body .party .option) .bic) ≡ true
+  pub accepts : add page 7 empty (content (parse Field50InstructingParty blanks .party)) .answer ≡ positionAfter 21
+  pub held : (body : List ℕ) → parse Field50InstructingParty body .reply ≡ accepted → ltb 0 (limitsOf (parse Field50InstructingParty body .party .option) .«bic_count») ≡ true
       → anyHolds (parse Field50InstructingParty body .party) (lines body) ≡ true
   -- by a letter
   pub letter-same : parseWithVariant Field50OrderingCustomerAFK twice 75 ≡ parseWithVariantProfiled Field50OrderingCustomerAFK twice 75
   pub letter-stands : parseWithVariantProfiled Field50OrderingCustomerAFK outside 107 ≡ refusing 14 0
   pub letter-number : (k n : ℕ) → parseWithVariantProfiled Field50OrderingCustomerAFK outside 75 .reply ≡ refused k n → k ≡ 32
-  pub letter-accepts : add page 7 empty (said (parseWithVariant Field50OrderingCustomerAFK good 75 .party)) .answer ≡ positionAfter 25
+  pub letter-accepts : add page 7 empty (content (parseWithVariant Field50OrderingCustomerAFK good 75 .party)) .answer ≡ positionAfter 25
   pub letter-held : (body : List ℕ) (letter : ℕ) → let r = parseWithVariant Field50OrderingCustomerAFK body letter in
-      r .reply ≡ accepted → ltb 0 (limitsOf (r .party .option) .bic) ≡ true → anyHolds (r .party) (lines body) ≡ true
+      r .reply ≡ accepted → ltb 0 (limitsOf (r .party .option) .«bic_count») ≡ true → anyHolds (r .party) (lines body) ≡ true
   -- a line that is not the BIC's holds none
   pub not-held : anyHolds (read Field50A good .party) (bytes "/12" ∷ bytes "X" ∷ []) ≡ false
 
@@ -118,11 +118,11 @@ abbrev lent : List ℕ
 lent = replicate 242 9
 
 pub record CallWitness : Type 0 where
-  pub loads : unflatten (profileRead 1 good lent .bytes) ≡ read Field50A good .party
+  pub loads : decoded (profileRead 1 good lent .bytes) ≡ read Field50A good .party
   pub adds : pageAdd (profileRead 1 good lent .bytes) page 7 empty .code ≡ 25
-  pub parse-loads : unflatten (profileParse 0 blanks lent .bytes) ≡ parse Field50InstructingParty blanks .party
+  pub parse-loads : decoded (profileParse 0 blanks lent .bytes) ≡ parse Field50InstructingParty blanks .party
   pub parse-adds : pageAdd (profileParse 0 blanks lent .bytes) page 7 empty .code ≡ 21
-  pub letter-loads : unflatten (profileParseWithVariant 2 twice 75 lent .bytes) ≡ parseWithVariant Field50OrderingCustomerAFK twice 75 .party
+  pub letter-loads : decoded (profileParseWithVariant 2 twice 75 lent .bytes) ≡ parseWithVariant Field50OrderingCustomerAFK twice 75 .party
   pub letter-adds : pageAdd (profileParseWithVariant 2 good 75 lent .bytes) page 7 empty .code ≡ 25
 
 pub call-witness : CallWitness

@@ -9,7 +9,7 @@ use Rattle.errors.specs.Refusals.{accepted, refused}
 use Rattle.party.specs.declared.PartyOption.{PartyOption}
 use Rattle.party.specs.declared.PartyOption.the-variants.{Field50NoOption, Field50A, Field50F, Field50K, Field50C, Field50L, Field50G, Field50H, Field59NoOption, Field59A, Field59F}
 use Rattle.party.specs.Text.{padded, textOf, four, Used}
-use Rattle.party.specs.Party.{Said, said, Same}
+use Rattle.party.specs.Party.{Content, content, Same}
 use Rattle.swift_utils.specs.Bytes.{bytes, letter, digit, alphanumeric, signs, legal}
 use Rattle.swift_utils.specs.Checks.{parseSwiftChars, parseAccount, bicLength, parseBic}
 use Rattle.field_utils.specs.Lines.{upto, onto, starts, lines}
@@ -42,8 +42,8 @@ abbrev joined : List Used → List ℕ
 joined [] = []
 joined (u ∷ us) = u .bytes ++ joined us
 
-abbrev saidBytes : Said → List ℕ
-saidBytes s = joined (s .account) ++ joined (s .bic) ++ joined (s .names)
+abbrev contentBytes : Content → List ℕ
+contentBytes s = joined (s .account) ++ joined (s .bic) ++ joined (s .names)
 
 -- a reader that turns away each body; one that sees the same party in all
 pub record Reads (o : PartyOption) : Type 0 where
@@ -53,16 +53,16 @@ pub record Reads (o : PartyOption) : Type 0 where
 
 -- what shows it: the byte of the text at a place
 shown : (o : PartyOption) (i : ℕ) → read o (bodyOf o (bytes "A")) .reply ≡ accepted → read o (bodyOf o (bytes "B")) .reply ≡ accepted
-    → getD (saidBytes (said (read o (bodyOf o (bytes "A")) .party))) i 0 ≡ 65 → getD (saidBytes (said (read o (bodyOf o (bytes "B")) .party))) i 0 ≡ 66
+    → getD (contentBytes (content (read o (bodyOf o (bytes "A")) .party))) i 0 ≡ 65 → getD (contentBytes (content (read o (bodyOf o (bytes "B")) .party))) i 0 ≡ 66
     → Reads o
 shown o i a b x y = record {
   first = a;
   second = b;
-  apart = λ e. let z : _≡_ {A = ℕ} 65 66 = sym x ∙ ap (λ (s : Said). getD (saidBytes s) i 0) e ∙ y in omega arith;
+  apart = λ e. let z : _≡_ {A = ℕ} 65 66 = sym x ∙ ap (λ (s : Content). getD (contentBytes s) i 0) e ∙ y in omega arith;
 }
 
 pub reads : (o : PartyOption) → Reads o
-unfolding padded textOf said letter digit alphanumeric signs legal parseSwiftChars parseAccount bicLength parseBic upto onto starts lines white trimmedStart keep trimmedEnd trimmed isNumbered secondSlash identifierReply parsePartyIdentifier parseLine parseLines parseNameAndAddress four partyOf accountHead shortAccountHead afterHead read
+unfolding padded textOf content letter digit alphanumeric signs legal parseSwiftChars parseAccount bicLength parseBic upto onto starts lines white trimmedStart keep trimmedEnd trimmed isNumbered secondSlash identifierReply parsePartyIdentifier parseLine parseLines parseNameAndAddress four partyOf accountHead shortAccountHead afterHead read
 reads Field50NoOption = shown Field50NoOption 0 refl refl refl refl
 reads Field50A = shown Field50A 0 refl refl refl refl
 reads Field50F = shown Field50F 0 refl refl refl refl
@@ -99,7 +99,7 @@ pub record RuledOut : Type 0 where
   pub no-letter : As (parseWithVariant Field59 (bytes "ABCDEFGH") 0) Field59NoOption
 
 pub ruled-out : RuledOut
-unfolding padded textOf said letter digit alphanumeric signs legal parseSwiftChars parseAccount bicLength parseBic upto onto starts lines white trimmedStart keep trimmedEnd trimmed isNumbered secondSlash identifierReply parsePartyIdentifier parseLine parseLines parseNameAndAddress four partyOf accountHead shortAccountHead afterHead read anyNumbered firstLine lastLine bicLike firstThat pickOf testLine parse parseWithVariant
+unfolding padded textOf content letter digit alphanumeric signs legal parseSwiftChars parseAccount bicLength parseBic upto onto starts lines white trimmedStart keep trimmedEnd trimmed isNumbered secondSlash identifierReply parsePartyIdentifier parseLine parseLines parseNameAndAddress four partyOf accountHead shortAccountHead afterHead read anyNumbered firstLine lastLine bicLike firstThat pickOf testLine parse parseWithVariant
 ruled-out = record {
   tested-first = refl;
   one-cr = refl;

@@ -8,7 +8,7 @@ use Rattle.errors.specs.Refusals.{Reply, accepted, refused}
 use Rattle.party.specs.declared.PartyOption.{PartyOption}
 use Rattle.party.specs.declared.PartyOption.the-variants.{Field50NoOption, Field50A, Field50F, Field50K, Field50C, Field50G, Field50H, Field59F}
 use Rattle.party.specs.Text.{padded, textOf, four}
-use Rattle.party.specs.Party.{said}
+use Rattle.party.specs.Party.{content}
 use Rattle.swift_utils.specs.Bytes.{bytes, letter, digit, alphanumeric, signs, legal}
 use Rattle.swift_utils.specs.Checks.{parseSwiftChars, parseAccount, bicLength, parseBic}
 use Rattle.field_utils.specs.Lines.{upto, onto, starts, lines, withoutCr}
@@ -35,7 +35,7 @@ pub data Case : Type 0 where
 
 -- what is written of the record that a reading gives
 abbrev pub fieldOf : Reading → List ℕ
-fieldOf r = writtenField (said (r .party))
+fieldOf r = writtenField (content (r .party))
 
 -- a page up to a position, of whose entries none is used
 abbrev pub atPosition : ℕ → Tally
@@ -43,7 +43,7 @@ atPosition n = record { position = n; entries = 0 }
 
 -- what an empty page of 100 bytes answers to the record that a reading gives
 abbrev pub filingOf : Reading → Reply
-filingOf r = recordReply 100 false (atPosition 0) (said (r .party))
+filingOf r = recordReply 100 false (atPosition 0) (content (r .party))
 
 -- accepted, with the record of these texts and digits
 abbrev givesWith : List ℕ → PartyOption → Bool → List ℕ → List ℕ → List (List ℕ) → Reading
@@ -103,5 +103,5 @@ Hold [] = Unit {0}
 Hold (c ∷ cs) = Holds c × Hold cs
 
 pub starred-hold : Hold starred
-unfolding padded textOf letter digit alphanumeric signs legal parseSwiftChars parseAccount bicLength parseBic upto onto starts lines white trimmedStart keep trimmedEnd trimmed isNumbered secondSlash identifierReply parsePartyIdentifier parseLine parseLines parseNameAndAddress four partyOf accountHead shortAccountHead afterHead read anyNumbered firstLine lastLine bicLike firstThat said nameLines writtenLines joined writtenBody writtenField isLine areNames isGiven pieces endsCr lastEmpty withoutCr isEnd endsPage isCarried asked recordReply parse anyLine laterBoundary tagOf
+unfolding padded textOf letter digit alphanumeric signs legal parseSwiftChars parseAccount bicLength parseBic upto onto starts lines white trimmedStart keep trimmedEnd trimmed isNumbered secondSlash identifierReply parsePartyIdentifier parseLine parseLines parseNameAndAddress four partyOf accountHead shortAccountHead afterHead read anyNumbered firstLine lastLine bicLike firstThat content nameLines writtenLines joined writtenBody writtenField isLine areNames isGiven pieces endsCr lastEmpty withoutCr isEnd endsPage isCarried asked recordReply parse anyLine laterBoundary tagOf
 starred-hold = (refl, (refl, (refl, (refl, (refl, (refl, (refl, (refl, (refl, (refl, (refl, (refl, (refl, (refl, (refl, (refl, (refl, (refl, (refl, (refl, tt))))))))))))))))))))

@@ -9,7 +9,7 @@ use Rattle.errors.specs.Refusals.{accepted}
 use Rattle.party.specs.declared.PartyOption.the-variants.{Field50A, Field50F, Field50H, Field50K, Field50L}
 use Rattle.party.specs.declared.Party.{Party}
 use Rattle.party.specs.Text.{padded, textOf, four}
-use Rattle.party.specs.Party.{said, Same}
+use Rattle.party.specs.Party.{content, Same}
 use Rattle.swift_utils.specs.Bytes.{bytes, letter, digit, alphanumeric, signs, legal}
 use Rattle.swift_utils.specs.Checks.{parseSwiftChars, parseAccount, bicLength, parseBic}
 use Rattle.field_utils.specs.Lines.{upto, onto, starts, lines}
@@ -23,7 +23,7 @@ use Rattle.writer.specs.Given.{isLine, areNames, isGiven}
 use Rattle.writer.specs.Placing.{lengthIs, refusedWith, measure, place}
 use Rattle.writer.specs.ReadBack.{endsCr, lastEmpty, earlierCr, isReadBack}
 use Rattle.writer.specs.Longest.{longest}
-use Rattle.writer.specs.Sender.{saidOf}
+use Rattle.writer.specs.Sender.{contentOf}
 use Rattle.writer.proofs.Theorems.{given-exact, reading-back, written-most, written-less, measure-and-place}
 use Rattle.writer.proofs.Longest.{longest-field}
 use Rattle.writer.proofs.Sender.{sender-lines, keeps-50F}
@@ -32,7 +32,7 @@ use Rattle.promises.specs.Filing.{of}
 
 -- the definitions compute where this is unfolded
 computes : Unit {0}
-unfolding padded textOf said letter digit alphanumeric signs legal parseSwiftChars parseAccount starts parseLine parseLines parseNameAndAddress four partyOf nameLines isLine areNames isGiven upto isNumbered secondSlash identifierReply writtenLines joined writtenBody writtenField measure tagOf onto lines accountHead afterHead read pieces endsCr lastEmpty earlierCr isReadBack bicLength parseBic parsePartyIdentifier
+unfolding padded textOf content letter digit alphanumeric signs legal parseSwiftChars parseAccount starts parseLine parseLines parseNameAndAddress four partyOf nameLines isLine areNames isGiven upto isNumbered secondSlash identifierReply writtenLines joined writtenBody writtenField measure tagOf onto lines accountHead afterHead read pieces endsCr lastEmpty earlierCr isReadBack bicLength parseBic parsePartyIdentifier
 computes = tt
 
 -- a 50K with an account and two names: its field has 20 bytes
@@ -79,18 +79,18 @@ given-witness =
 
 -- ---- measuring and placing
 pub record PairWitness : Type 0 where
-  pub exact : 20 ≡ length (writtenField (said whole))
+  pub exact : 20 ≡ length (writtenField (content whole))
   -- a buffer with just enough, with more, and one byte short
-  pub enough : place (said whole) (replicate 20 7) ≡ record { answer = lengthIs 20; buffer = field }
-  pub more : place (said whole) (replicate 23 7) ≡ record { answer = lengthIs 20; buffer = field ++ 7 ∷ 7 ∷ 7 ∷ [] }
-  pub short : place (said whole) (replicate 19 7) ≡ record { answer = refusedWith 24 0; buffer = replicate 19 7 }
+  pub enough : place (content whole) (replicate 20 7) ≡ record { answer = lengthIs 20; buffer = field }
+  pub more : place (content whole) (replicate 23 7) ≡ record { answer = lengthIs 20; buffer = field ++ 7 ∷ 7 ∷ 7 ∷ [] }
+  pub short : place (content whole) (replicate 19 7) ≡ record { answer = refusedWith 24 0; buffer = replicate 19 7 }
   -- 22 before 24, and where there is space; a refusal to measure is no other number
-  pub unmeasured : place (said broken) (7 ∷ []) ≡ record { answer = refusedWith 22 0; buffer = 7 ∷ [] }
-  pub unplaced : place (said broken) (replicate 40 7) ≡ record { answer = refusedWith 22 0; buffer = replicate 40 7 }
-  pub only-22 : (p : Party) {k l : ℕ} → measure (said p) ≡ refusedWith k l → (k ≡ 22) × (l ≡ 0)
+  pub unmeasured : place (content broken) (7 ∷ []) ≡ record { answer = refusedWith 22 0; buffer = 7 ∷ [] }
+  pub unplaced : place (content broken) (replicate 40 7) ≡ record { answer = refusedWith 22 0; buffer = replicate 40 7 }
+  pub only-22 : (p : Party) {k l : ℕ} → measure (content p) ≡ refusedWith k l → (k ≡ 22) × (l ≡ 0)
   -- 187 bytes are enough for the longest field
-  pub agrees : place (said longest) (replicate 187 7) .answer ≡ lengthIs 187
-  pub agrees-22 : place (said broken) (replicate 187 7) .answer ≡ refusedWith 22 0
+  pub agrees : place (content longest) (replicate 187 7) .answer ≡ lengthIs 187
+  pub agrees-22 : place (content broken) (replicate 187 7) .answer ≡ refusedWith 22 0
 
 pub pair-witness : PairWitness
 unfolding computes
@@ -126,11 +126,11 @@ back-witness =
 
 -- ---- lengths: of every record that a body is read as
 pub record LengthWitness : Type 0 where
-  pub most : (p : Party) (body : List ℕ) → ReadAs body p → length (writtenField (said p)) ≤ 187
-  pub less : (p : Party) (body : List ℕ) → ReadAs body p → identified59F (said p) ≡ false → length (writtenField (said p)) ≤ 184
+  pub most : (p : Party) (body : List ℕ) → ReadAs body p → length (writtenField (content p)) ≤ 187
+  pub less : (p : Party) (body : List ℕ) → ReadAs body p → identified59F (content p) ≡ false → length (writtenField (content p)) ≤ 184
   -- one of 187 is shown, and is what a body is read as; none is longer
-  pub shown : (p : Party) × (body : List ℕ) × ReadAs body p × (length (writtenField (said p)) ≡ 187)
-  pub longest-most : (p : Party) (body : List ℕ) → ReadAs body p → length (writtenField (said p)) ≤ 187
+  pub shown : (p : Party) × (body : List ℕ) × ReadAs body p × (length (writtenField (content p)) ≡ 187)
+  pub longest-most : (p : Party) (body : List ℕ) → ReadAs body p → length (writtenField (content p)) ≤ 187
 
 pub length-witness : LengthWitness
 length-witness =
@@ -154,12 +154,12 @@ sevens = bytes "X\r\n7/A\r\n7/B"
 
 pub record SenderWitness : Type 0 where
   -- all lines are written where the option has names; after a BIC others may follow, and these alone are not; a text is one line, its CR too
-  pub names : bytes "/12" ∷ bytes "ACME" ∷ bytes "BERLIN" ∷ [] ≡ writtenLines (saidOf Field50K crLf)
-  pub bic : (rest : List (List ℕ)) × (bytes "/12" ∷ bytes "ABCDEFGH" ∷ bytes "X" ∷ [] ∷ bytes "Y" ∷ [] ≡ writtenLines (saidOf Field50A afterBic) ++ rest)
-  pub text : (rest : List (List ℕ)) × (bytes " A\r" ∷ [] ≡ writtenLines (saidOf Field50L (bytes " A\r")) ++ rest)
+  pub names : bytes "/12" ∷ bytes "ACME" ∷ bytes "BERLIN" ∷ [] ≡ writtenLines (contentOf Field50K crLf)
+  pub bic : (rest : List (List ℕ)) × (bytes "/12" ∷ bytes "ABCDEFGH" ∷ bytes "X" ∷ [] ∷ bytes "Y" ∷ [] ≡ writtenLines (contentOf Field50A afterBic) ++ rest)
+  pub text : (rest : List (List ℕ)) × (bytes " A\r" ∷ [] ≡ writtenLines (contentOf Field50L (bytes " A\r")) ++ rest)
   -- 50F with the digit 7 twice and CR LF
-  pub lines-50F : writtenLines (saidOf Field50F sevens) ≡ bytes "X" ∷ bytes "7/A" ∷ bytes "7/B" ∷ []
-  pub digits : saidOf Field50F sevens .digits ≡ bytes "77"
+  pub lines-50F : writtenLines (contentOf Field50F sevens) ≡ bytes "X" ∷ bytes "7/A" ∷ bytes "7/B" ∷ []
+  pub digits : contentOf Field50F sevens .digits ≡ bytes "77"
   pub again : read Field50F (bytes "X\n7/A\n7/B") ≡ read Field50F sevens
 
 pub sender-witness : SenderWitness
@@ -170,7 +170,7 @@ sender-witness =
     let t = sender-lines Field50L (bytes " A\r") refl in
     let k = keeps-50F sevens refl in
     record {
-      names = s .are ∙ ap (_++_ (writtenLines (saidOf Field50K crLf))) (s .all (λ z. omega arith));
+      names = s .are ∙ ap (_++_ (writtenLines (contentOf Field50K crLf))) (s .all (λ z. omega arith));
       bic = (b .rest, b .are);
       text = (t .rest, t .are);
       lines-50F = k .lines;

@@ -16,7 +16,7 @@ use Rattle.party.specs.declared.Party.{Party}
 use Rattle.party.specs.declared.Text.{Text}
 use Rattle.party.specs.Limits.{placeOf}
 use Rattle.party.specs.Text.{padded, textOf, Used}
-use Rattle.party.specs.Party.{Said, said, Same}
+use Rattle.party.specs.Party.{Content, content, Same}
 use Rattle.swift_utils.specs.Bytes.{bytes, letter, digit, alphanumeric, signs, legal}
 use Rattle.swift_utils.specs.Checks.{parseSwiftChars, parseAccount, bicLength, parseBic}
 use Rattle.field_utils.specs.Lines.{starts}
@@ -26,7 +26,7 @@ use Rattle.writer.specs.Given.{isLine, areNames, isGiven}
 use Rattle.writer.specs.Placing.{lengthIs, refusedWith, placing, place}
 
 -- placing what s says in a buffer
-pub record Writes (s : Said) (buffer : List ℕ) : Type 0 where
+pub record Writes (s : Content) (buffer : List ℕ) : Type 0 where
   -- 22, whatever the space; then 24 exactly where the field passes the buffer: exactly enough space is enough
   pub none : isGiven s ≡ false → place s buffer .answer ≡ refusedWith 22 0
   pub enough : isGiven s ≡ true → length (writtenField s) ≤ length buffer → place s buffer .answer ≡ lengthIs (length (writtenField s))
@@ -59,7 +59,7 @@ module _ (text buffer : List ℕ) where
   put-is accepted e = (refl, cc)
   put-is (refused k l) e = absurd (length≢refusal (sym e))
 
-pub writes : (s : Said) (buffer : List ℕ) → Writes s buffer
+pub writes : (s : Content) (buffer : List ℕ) → Writes s buffer
 unfolding place
 writes s buffer =
     let text = writtenField s in
@@ -101,27 +101,27 @@ bicOf count = held Field50C false [] (bytes "ABCDEFGH") count (textOf []) (textO
 
 pub record Edges : Type 0 where
   -- a test by the legal class alone would let an LF through
-  pub lf : isGiven (said (named (textOf (bytes "A\nB")) (textOf []))) ≡ false
+  pub lf : isGiven (content (named (textOf (bytes "A\nB")) (textOf []))) ≡ false
   -- a stale text that the count leaves out does not count, its length neither
-  pub stale : isGiven (said (named (textOf (bytes "A")) (record { bytes = replicate 38 255; len = 99 }))) ≡ true
+  pub stale : isGiven (content (named (textOf (bytes "A")) (record { bytes = replicate 38 255; len = 99 }))) ≡ true
   -- a used text longer than 38 does
-  pub long : isGiven (said (named (record { bytes = replicate 38 65; len = 99 }) (textOf []))) ≡ false
+  pub long : isGiven (content (named (record { bytes = replicate 38 65; len = 99 }) (textOf []))) ≡ false
   -- a first name that would be read as an account
-  pub slash : isGiven (said (named (textOf (bytes "/A")) (textOf []))) ≡ false
+  pub slash : isGiven (content (named (textOf (bytes "/A")) (textOf []))) ≡ false
   -- an account that is not there is empty; there is none in 50, and always one in 50H
-  pub absent-is-empty : isGiven (said (counted Field50K false (bytes "1") 1)) ≡ false
-  pub none-in-50 : isGiven (said (counted Field50NoOption true [] 1)) ≡ false
-  pub one-in-50H : isGiven (said (counted Field50H true (bytes "1") 1)) ≡ true
-  pub always-in-50H : isGiven (said (counted Field50H false [] 1)) ≡ false
+  pub absent-is-empty : isGiven (content (counted Field50K false (bytes "1") 1)) ≡ false
+  pub none-in-50 : isGiven (content (counted Field50NoOption true [] 1)) ≡ false
+  pub one-in-50H : isGiven (content (counted Field50H true (bytes "1") 1)) ≡ true
+  pub always-in-50H : isGiven (content (counted Field50H false [] 1)) ≡ false
   -- one to four names, and none in 50C
-  pub no-name : isGiven (said (counted Field50K false [] 0)) ≡ false
-  pub four-names : isGiven (said (counted Field50K false [] 4)) ≡ true
-  pub five-names : isGiven (said (counted Field50K false [] 5)) ≡ false
-  pub none-in-50C : isGiven (said (bicOf 0)) ≡ true
-  pub one-in-50C : isGiven (said (bicOf 1)) ≡ false
+  pub no-name : isGiven (content (counted Field50K false [] 0)) ≡ false
+  pub four-names : isGiven (content (counted Field50K false [] 4)) ≡ true
+  pub five-names : isGiven (content (counted Field50K false [] 5)) ≡ false
+  pub none-in-50C : isGiven (content (bicOf 0)) ≡ true
+  pub one-in-50C : isGiven (content (bicOf 1)) ≡ false
 
 pub edges : Edges
-unfolding padded textOf said letter digit alphanumeric signs legal parseSwiftChars parseAccount bicLength parseBic starts parseLine parseLines parseNameAndAddress nameLines isLine areNames isGiven
+unfolding padded textOf content letter digit alphanumeric signs legal parseSwiftChars parseAccount bicLength parseBic starts parseLine parseLines parseNameAndAddress nameLines isLine areNames isGiven
 edges = record {
   lf = refl;
   stale = refl;
@@ -156,12 +156,12 @@ pub record Sameness : Type 0 where
   pub after-the-length : Same (named (record { bytes = 65 ∷ replicate 37 66; len = 1 }) (textOf [])) (named (textOf (bytes "A")) (textOf []))
 
 pub sameness : Sameness
-unfolding padded textOf said
+unfolding padded textOf content
 sameness = record {
-  option-counts = λ e. true≢false (ap (λ (s : Said). eqb (placeOf (s .option)) 3) e);
-  presence-counts = λ e. true≢false (ap (λ (s : Said). s .present) e);
-  count-counts = λ e. true≢false (ap (λ (s : Said). eqb (s .count) 0) e);
-  absent-account-counts = λ e. true≢false (ap (λ (s : Said). eqb (accountLength (s .account)) 1) e);
+  option-counts = λ e. true≢false (ap (λ (s : Content). eqb (placeOf (s .option)) 3) e);
+  presence-counts = λ e. true≢false (ap (λ (s : Content). s .present) e);
+  count-counts = λ e. true≢false (ap (λ (s : Content). eqb (s .count) 0) e);
+  absent-account-counts = λ e. true≢false (ap (λ (s : Content). eqb (accountLength (s .account)) 1) e);
   left-out-by-option = refl;
   left-out-by-count = refl;
   after-the-length = refl;

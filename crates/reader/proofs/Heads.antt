@@ -22,19 +22,19 @@ use Rattle.reader.specs.Code.{hasAccount, accountBy}
 
 -- m is what the code holds of the option's limits
 module _ (o : PartyOption) {m : Limits} (e : m ≡ limitsOf o) (l : List ℕ) where
-  pub account-reply : parseAccount (m .shortest) (m .longest) 1 l ≡ accountReply o l
-  account-reply = ap (λ (k : Limits). parseAccount (k .shortest) (k .longest) 1 l) e
+  pub account-reply : parseAccount (m .«account_min») (m .«account_max») 1 l ≡ accountReply o l
+  account-reply = ap (λ (k : Limits). parseAccount (k .«account_min») (k .«account_max») 1 l) e
 
-  pub length-reply : parseLength (m .shortest) (m .longest) 1 l ≡ lengthReply o l
-  length-reply = ap (λ (k : Limits). parseLength (k .shortest) (k .longest) 1 l) e
+  pub length-reply : parseLength (m .«account_min») (m .«account_max») 1 l ≡ lengthReply o l
+  length-reply = ap (λ (k : Limits). parseLength (k .«account_min») (k .«account_max») 1 l) e
 
-  pub short-long : m .longest < length (drop 1 l) → shortAccountHead o l ≡ noHead
+  pub short-long : m .«account_max» < length (drop 1 l) → shortAccountHead o l ≡ noHead
   unfolding shortAccountHead
-  short-long h = let k : limitsOf o .longest < length (drop 1 l) = rw e at h in rw (lt-leb _ _ k, shortAccountHead)
+  short-long h = let k : limitsOf o .«account_max» < length (drop 1 l) = rw e at h in rw (lt-leb _ _ k, shortAccountHead)
 
-  pub short-fits : length (drop 1 l) ≤ m .longest → shortAccountHead o l ≡ accountHead o l
+  pub short-fits : length (drop 1 l) ≤ m .«account_max» → shortAccountHead o l ≡ accountHead o l
   unfolding shortAccountHead
-  short-fits h = let k : length (drop 1 l) ≤ limitsOf o .longest = rw e at h in rw (le-leb _ _ k, shortAccountHead)
+  short-fits h = let k : length (drop 1 l) ≤ limitsOf o .«account_max» = rw e at h in rw (le-leb _ _ k, shortAccountHead)
 
 pub account-none : (o : PartyOption) (l : List ℕ) → starts 47 l ≡ false → accountHead o l ≡ noHead
 unfolding accountHead
@@ -60,7 +60,7 @@ has-none SlashAccount o l e = e
 has-none AnyAccount o l e = e
 has-none WholeLine o l e = e
 
-pub has-short : (o : PartyOption) (l : List ℕ) → starts 47 l ≡ true → hasAccount ShortAccount o l ≡ leb (length (drop 1 l)) (limitsOf o .longest)
+pub has-short : (o : PartyOption) (l : List ℕ) → starts 47 l ≡ true → hasAccount ShortAccount o l ≡ leb (length (drop 1 l)) (limitsOf o .«account_max»)
 has-short o l e = rw e
 
 abbrev pub others : List ℕ
@@ -93,9 +93,9 @@ by-first Account o l h = go (starts 47 l) refl
     go : (s : Bool) → starts 47 l ≡ s → accountBy Account o l ≡ accountHead o l
     go true e = by-some Account o l e ∙ sym (account-some o l e)
     go false e = by-none Account o l e ∙ sym (account-none o l e)
-by-first ShortAccount o l h = go (starts 47 l) (leb (length (drop 1 l)) (limitsOf o .longest)) refl refl
+by-first ShortAccount o l h = go (starts 47 l) (leb (length (drop 1 l)) (limitsOf o .«account_max»)) refl refl
   where
-    go : (s t : Bool) → starts 47 l ≡ s → leb (length (drop 1 l)) (limitsOf o .longest) ≡ t → accountBy ShortAccount o l ≡ shortAccountHead o l
+    go : (s t : Bool) → starts 47 l ≡ s → leb (length (drop 1 l)) (limitsOf o .«account_max») ≡ t → accountBy ShortAccount o l ≡ shortAccountHead o l
     go false true e f = by-none ShortAccount o l (has-none ShortAccount o l e) ∙ sym (short-fits o refl l (leb-true _ _ f) ∙ account-none o l e)
     go false false e f = by-none ShortAccount o l (has-none ShortAccount o l e) ∙ sym (short-long o refl l (leb-false _ _ f))
     go true true e f = by-some ShortAccount o l (has-short o l e ∙ f) ∙ sym (short-fits o refl l (leb-true _ _ f) ∙ account-some o l e)

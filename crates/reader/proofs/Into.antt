@@ -10,7 +10,7 @@ use Rattle.errors.specs.declared.Outcome.{Outcome}
 use Rattle.errors.specs.declared.Outcome.the-variants.{Accepted, Refused}
 use Rattle.errors.specs.Refusals.{Reply, accepted, refused, toldError, told}
 use Rattle.party.specs.declared.Party.{Party}
-use Rattle.flat.specs.Flat.{recordSize}
+use Rattle.record_bytes.specs.RecordBytes.{recordSize}
 use Rattle.reader.specs.Reading.{Reading, Into, storing, leaves, readInto, toldInto}
 
 -- ---- by the bytes that are lent

@@ -53,16 +53,16 @@ lines-some (b ∷ l) h = go (eqb b 10) (eqb b 13 && starts 10 l) refl refl (line
 
 -- the count of the lines, by the option's row
 module _ (o : PartyOption) {m : Limits} (e : m ≡ limitsOf o) (n : ℕ) where
-  pub counts-few : n < m .least → isCounted o n ≡ false
+  pub counts-few : n < m .«min_lines» → isCounted o n ≡ false
   counts-few h = rw (← e, lt-leb _ _ h)
 
-  pub counts-open : m .least ≤ n → m .most ≡ 0 → isCounted o n ≡ true
+  pub counts-open : m .«min_lines» ≤ n → m .«max_lines» ≡ 0 → isCounted o n ≡ true
   counts-open h z = rw (← e, le-leb _ _ h, eq-eqb _ _ z)
 
-  pub counts-least : m .most ≡ 0 → isCounted o n ≡ leb (m .least) n
-  counts-least z = rw (← e, eq-eqb _ _ z) (and-true (leb (m .least) n))
+  pub counts-least : m .«max_lines» ≡ 0 → isCounted o n ≡ leb (m .«min_lines») n
+  counts-least z = rw (← e, eq-eqb _ _ z) (and-true (leb (m .«min_lines») n))
 
-  pub counts-most : m .least ≤ n → (m .most ≡ 0 → ⊥) → isCounted o n ≡ leb n (m .most)
+  pub counts-most : m .«min_lines» ≤ n → (m .«max_lines» ≡ 0 → ⊥) → isCounted o n ≡ leb n (m .«max_lines»)
   counts-most h z = rw (← e, le-leb _ _ h, ne-eqb _ _ z)
 
 -- a second line is there where the first does not run to the end

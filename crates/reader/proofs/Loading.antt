@@ -26,9 +26,9 @@ use Rattle.field_utils.specs.Lines.{lines}
 use Rattle.field_utils.specs.Names.{parseNameAndAddress, parseLines}
 use Rattle.reader.specs.Reading.{Reading, giving, Into, toldAnswer, answerFrom, storing, readInto, toldInto, Found, partyOf}
 use Rattle.reader.specs.Options.{Head, headBy, withNames, withBic, afterHead, after, fromHead, isCounted, byLines, foundBy, bodyReply, read}
-use Rattle.flat.specs.Flat.{recordSize, textsOf, flatten, stored, unflatten}
-use Rattle.flat.proofs.Laws.{none, Sizes, stored-whole}
-use Rattle.flat.proofs.Theorems.{loads-back}
+use Rattle.record_bytes.specs.RecordBytes.{recordSize, textsOf, encoded, stored, decoded}
+use Rattle.record_bytes.proofs.Laws.{none, Sizes, stored-whole}
+use Rattle.record_bytes.proofs.Theorems.{loads-back}
 use Rattle.reader.proofs.Into.{into-whole}
 
 -- ---- a reader's texts: 38 bytes, of which at most 38 are used
@@ -54,7 +54,7 @@ good-at (l ∷ names) (suc i) h = good-at names i (omega arith)
 
 -- ---- a record of at most four names loads as it was stored, whatever follows it
 abbrev pub Loads : Party → Type 0
-Loads p = (rest : List ℕ) → unflatten (flatten p ++ rest) ≡ p
+Loads p = (rest : List ℕ) → decoded (encoded p ++ rest) ≡ p
 
 found-loads : (o : PartyOption) (f : Found) → length (f .names) ≤ 4 → Loads (partyOf o f)
 unfolding partyOf four
@@ -74,15 +74,15 @@ found-loads o f few rest =
 abbrev Few : Found → Type 0
 Few f = f .reply ≡ accepted → length (f .names) ≤ 4
 
-most-four : (o : PartyOption) → limitsOf o .names ≤ 4
+most-four : (o : PartyOption) → limitsOf o .«max_names» ≤ 4
 most-four =
-    by-option (λ o. limitsOf o .names ≤ 4) (omega arith) (omega arith) (omega arith) (omega arith) (omega arith) (omega arith) (omega arith) (omega arith) (omega arith) (omega arith) (omega arith)
+    by-option (λ o. limitsOf o .«max_names» ≤ 4) (omega arith) (omega arith) (omega arith) (omega arith) (omega arith) (omega arith) (omega arith) (omega arith) (omega arith) (omega arith) (omega arith)
 
 names-few : (o : PartyOption) (n : ℕ) (h : Head) (ls : List (List ℕ)) → Few (withNames o n h ls)
 unfolding parseNameAndAddress
 names-few o n h ls e =
-    let m = limitsOf o .names in
-    let counted = must-held _ 7 0 (then-second (parseLines (limitsOf o .numbering) (limitsOf o .name) n 1 ls) _ e) in
+    let m = limitsOf o .«max_names» in
+    let counted = must-held _ 7 0 (then-second (parseLines (limitsOf o .numbering) (limitsOf o .«name_max») n 1 ls) _ e) in
     let most = leb-true (length ls) m (and-eq-true-iff (leb 1 (length ls)) (leb (length ls) m) .0 counted .1) in
     simp length-map (omega (arith, most, most-four o))
 
@@ -95,7 +95,7 @@ after-few r f few e = few (then-second r (f .reply) e)
 
 rest-few : (o : PartyOption) (n : ℕ) (h : Head) (ls : List (List ℕ)) → Few (afterHead o n h ls)
 unfolding afterHead
-rest-few o n h ls = go (eqb (limitsOf o .names) 0)
+rest-few o n h ls = go (eqb (limitsOf o .«max_names») 0)
   where
     go : (t : Bool) → Few (elim t [ true ↦ withBic n h ls | false ↦ withNames o n h ls ])
     go true = bic-few n h ls
@@ -151,8 +151,8 @@ pub read-loads : (o : PartyOption) (body : List ℕ) → Loads (read o body .par
 read-loads o body = whole-loads (read o body .reply) (read o body .party) (read-back o body)
 
 -- ---- in bytes that are as many as a record's
-pub stored-loads : (p : Party) (bytes : List ℕ) → Loads p → recordSize ≤ length bytes → unflatten (stored p bytes) ≡ p
-stored-loads p bytes loads size = ap unflatten (stored-whole p bytes size) ∙ loads (drop recordSize bytes)
+pub stored-loads : (p : Party) (bytes : List ℕ) → Loads p → recordSize ≤ length bytes → decoded (stored p bytes) ≡ p
+stored-loads p bytes loads size = ap decoded (stored-whole p bytes size) ∙ loads (drop recordSize bytes)
 
 -- the answer by value, of a reading into bytes that are as many as a record's
 pub answered : (r : Reading) (o : Outcome) (d e : List ℕ) → Back r → recordSize ≤ length d → toldInto o e ≡ readInto r d → toldAnswer (answerFrom o e) ≡ r
@@ -161,7 +161,7 @@ answered r o d e back size told = go (r .reply) (r .party) o back (told ∙ into
     go : (q : Reply) (p : Party) (o : Outcome) → Whole q p → toldInto o e ≡ storing q p d → toldAnswer (answerFrom o e) ≡ (record { reply = q; party = p })
     go accepted p Accepted loads h =
         ap {B = Reading} (λ (p : Party). record { reply = accepted; party = p })
-        (ap (λ (i : Into). unflatten (i .bytes)) h ∙ stored-loads p d loads size)
+        (ap (λ (i : Into). decoded (i .bytes)) h ∙ stored-loads p d loads size)
     go accepted p (Refused x) loads h = absurd (refused≢accepted (ap (λ (i : Into). i .reply) h))
     go (refused k n) p Accepted is h = absurd (refused≢accepted (sym (ap (λ (i : Into). i .reply) h)))
     go (refused k n) p (Refused x) is h = λ i. record { reply = h i .reply; party = sym is i }

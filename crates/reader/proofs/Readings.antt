@@ -67,10 +67,10 @@ text-line o body e = rw e
 
 -- the lines after the head, by whether the option has names
 module _ (o : PartyOption) {m : Limits} (e : m ≡ limitsOf o) (n : ℕ) (h : Head) (ls : List (List ℕ)) where
-  pub rest-bic : m .names ≡ 0 → afterHead o n h ls ≡ withBic n h ls
+  pub rest-bic : m .«max_names» ≡ 0 → afterHead o n h ls ≡ withBic n h ls
   unfolding afterHead
-  rest-bic z = let k : limitsOf o .names ≡ 0 = ap (λ (l : Limits). l .names) (sym e) ∙ z in rw (eq-eqb _ _ k, afterHead)
+  rest-bic z = let k : limitsOf o .«max_names» ≡ 0 = ap (λ (l : Limits). l .«max_names») (sym e) ∙ z in rw (eq-eqb _ _ k, afterHead)
 
-  pub rest-names : (m .names ≡ 0 → ⊥) → afterHead o n h ls ≡ withNames o n h ls
+  pub rest-names : (m .«max_names» ≡ 0 → ⊥) → afterHead o n h ls ≡ withNames o n h ls
   unfolding afterHead
-  rest-names z = rw (ne-eqb (limitsOf o .names) 0 (λ k. z (ap (λ (l : Limits). l .names) e ∙ k)), afterHead)
+  rest-names z = rw (ne-eqb (limitsOf o .«max_names») 0 (λ k. z (ap (λ (l : Limits). l .«max_names») e ∙ k)), afterHead)

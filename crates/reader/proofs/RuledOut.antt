@@ -50,7 +50,7 @@ rest-long n h (l ∷ ls) e = bic-long n l e
 abbrev bicAt : Bool → List (List ℕ) → List ℕ
 bicAt t ls = elim t [ true ↦ firstLine (drop 1 ls) | false ↦ firstLine ls ]
 
-module _ (o : PartyOption) (none : limitsOf o .names ≡ 0) where
+module _ (o : PartyOption) (none : limitsOf o .«max_names» ≡ 0) where
   after-long : (n : ℕ) (h : Head) (ls : List (List ℕ)) → afterHead o n h ls .reply ≡ accepted → Long (firstLine ls)
   after-long n h ls e = rest-long n h ls (sym (ap (λ (f : Found). f .reply) (rest-bic o refl n h ls none)) ∙ e)
 

@@ -12,13 +12,13 @@ use Rattle.field_utils.specs.Lines.{lines}
 use Rattle.field_utils.specs.Identifier.{isNumbered}
 use Rattle.field_utils.proofs.Places.{Found, Fits, next-fits}
 use Rattle.field_utils.specs.Cursor.{nextLine}
-use Rattle.reader.specs.declared.choices.Seen.{Seen}
+use Rattle.reader.specs.declared.choices.LineSummary.{LineSummary}
 use Rattle.reader.specs.Detection.{anyNumbered, firstLine, lastLine}
 use Rattle.reader.specs.ChoicesCode.{Walked}
 use Rattle.reader.proofs.LineTests.{lastOr, last-or, any-split}
 
 -- what is seen of lines that are those
-pub walked-as : {s : List ℕ} {ls ms : List (List ℕ)} {w : Seen} → ls ≡ ms → Walked s ms w → Walked s ls w
+pub walked-as : {s : List ℕ} {ls ms : List (List ℕ)} {w : LineSummary} → ls ≡ ms → Walked s ms w → Walked s ls w
 walked-as {s} {w = w} e h = subst (λ (ls : List (List ℕ)). Walked s ls w) (sym e) h
 
 -- whether there is a line from a place on, by whether the place is before the end
@@ -45,7 +45,7 @@ last-later [] = refl
 last-later (l ∷ []) = refl
 last-later (l ∷ m ∷ ls) = sym (last-or (m ∷ ls))
 
-module _ {s : List ℕ} {ls : List (List ℕ)} {w : Seen} (h : Walked s ls w) where
+module _ {s : List ℕ} {ls : List (List ℕ)} {w : LineSummary} (h : Walked s ls w) where
   pub seen-any : {t : Bool} → w .«first_numbered» ≡ t → (t || anyNumbered (drop 1 ls)) ≡ anyNumbered ls
   seen-any e = ap (λ (u : Bool). u || anyNumbered (drop 1 ls)) (sym e ∙ h .one) ∙ sym (any-split ls)
 

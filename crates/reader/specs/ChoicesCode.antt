@@ -14,13 +14,13 @@ use Rattle.reader.specs.Code.{hasAccount}
 use Rattle.reader.specs.declared.choices.Choice.{Choice}
 use Rattle.reader.specs.declared.choices.Choice.the-variants.{Field50InstructingParty, Field50OrderingCustomerFGH, Field50OrderingCustomerAFK, Field50OrderingCustomerNCF, Field50Creditor, Field59, Field59Debtor}
 use Rattle.reader.specs.declared.choices.Test.{Test}
-use Rattle.reader.specs.declared.choices.Seen.{Seen}
+use Rattle.reader.specs.declared.choices.LineSummary.{LineSummary}
 use Rattle.reader.specs.Detection.{firstLine, lastLine, testLine, holds}
 
 -- ---- the walk
 -- what a walk of a text sees of lines: how many there are, at most 3; the first and the second, of which the last is a part of the
 -- text; and where those after them start
-pub record Walked (s : List ℕ) (ls : List (List ℕ)) (w : Seen) : Type 0 where
+pub record Walked (s : List ℕ) (ls : List (List ℕ)) (w : LineSummary) : Type 0 where
   pub count : w .count ≡ length (take 3 ls)
   pub first : w .first ≡ length (firstLine ls)
   pub second : w .second ≡ length (firstLine (drop 1 ls))

@@ -41,7 +41,7 @@ abbrev pub hasAccount : First → PartyOption → List ℕ → Bool
 hasAccount NoAccount o l = starts 47 l
 hasAccount Identified o l = starts 47 l
 hasAccount Account o l = starts 47 l
-hasAccount ShortAccount o l = starts 47 l && leb (length (drop 1 l)) (limitsOf o .longest)
+hasAccount ShortAccount o l = starts 47 l && leb (length (drop 1 l)) (limitsOf o .«account_max»)
 hasAccount SlashAccount o l = starts 47 l
 hasAccount AnyAccount o l = starts 47 l
 hasAccount WholeLine o l = starts 47 l

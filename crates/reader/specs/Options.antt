@@ -39,11 +39,11 @@ identifierHead (given text reply) = head text reply
 
 -- the account's or identifier's length and bytes (2, then 3)
 abbrev pub accountReply : PartyOption → List ℕ → Reply
-accountReply o text = parseAccount (limitsOf o .shortest) (limitsOf o .longest) 1 text
+accountReply o text = parseAccount (limitsOf o .«account_min») (limitsOf o .«account_max») 1 text
 
 -- its length alone
 abbrev pub lengthReply : PartyOption → List ℕ → Reply
-lengthReply o text = parseLength (limitsOf o .shortest) (limitsOf o .longest) 1 text
+lengthReply o text = parseLength (limitsOf o .«account_min») (limitsOf o .«account_max») 1 text
 
 -- a first line that must start with `/`, with what is said of the text after it
 abbrev pub slashHead : List ℕ → Reply → Head
@@ -55,7 +55,7 @@ accountHead o l = elim (starts 47 l) [ true ↦ head (drop 1 l) (accountReply o 
 
 -- 59, 59A: account as 50K, but `/` with over 34 bytes is none: 59 takes the line for a name, 59A for the BIC
 unfoldable pub shortAccountHead : PartyOption → List ℕ → Head
-shortAccountHead o l = elim (leb (length (drop 1 l)) (limitsOf o .longest)) [ true ↦ accountHead o l | false ↦ noHead ]
+shortAccountHead o l = elim (leb (length (drop 1 l)) (limitsOf o .«account_max»)) [ true ↦ accountHead o l | false ↦ noHead ]
 
 -- what an option makes of the first line
 abbrev pub headBy : First → PartyOption → List ℕ → Head
@@ -89,7 +89,7 @@ withBic n h (l ∷ ls) = record { reply = parseBic n l; present = h .present; ac
 
 -- the one or the other, by whether the option has names
 unfoldable pub afterHead : PartyOption → ℕ → Head → List (List ℕ) → Found
-afterHead o n h ls = elim (eqb (limitsOf o .names) 0) [ true ↦ withBic n h ls | false ↦ withNames o n h ls ]
+afterHead o n h ls = elim (eqb (limitsOf o .«max_names») 0) [ true ↦ withBic n h ls | false ↦ withNames o n h ls ]
 
 -- a check before those of what is found
 abbrev pub after : Reply → Found → Found
@@ -102,7 +102,7 @@ fromHead o h all-lines later =
 
 -- as many lines as the option counts first: at least so many, and at most so many where the table has a most
 abbrev pub isCounted : PartyOption → ℕ → Bool
-isCounted o n = leb (limitsOf o .least) n && (eqb (limitsOf o .most) 0 || leb n (limitsOf o .most))
+isCounted o n = leb (limitsOf o .«min_lines») n && (eqb (limitsOf o .«max_lines») 0 || leb n (limitsOf o .«max_lines»))
 
 -- 1: a wrong line count at the start; then the first line and the others
 abbrev pub byLines : PartyOption → List (List ℕ) → Found

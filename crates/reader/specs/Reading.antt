@@ -11,7 +11,7 @@ use Rattle.party.specs.Text.{textOf, four, fourTexts}
 use Rattle.party.specs.Party.{blank}
 use Rattle.errors.specs.declared.Outcome.{Outcome}
 use Rattle.errors.specs.declared.Outcome.the-variants.{Accepted, Refused}
-use Rattle.flat.specs.Flat.{recordSize, stored, unflatten}
+use Rattle.record_bytes.specs.RecordBytes.{recordSize, stored, decoded}
 use Rattle.reader.specs.declared.Answer.{Answer}
 
 -- accepted with a record, or refused; the record beside a refusal is the blank one
@@ -56,7 +56,7 @@ toldInto outcome bytes = record { reply = told outcome; bytes = bytes }
 
 -- the answer of an outcome, with the record that bytes hold
 abbrev pub answerFrom : Outcome → List ℕ → Answer
-answerFrom Accepted bytes = record { outcome = Accepted; party = unflatten bytes }
+answerFrom Accepted bytes = record { outcome = Accepted; party = decoded bytes }
 answerFrom (Refused e) bytes = record { outcome = Refused e; party = blank }
 
 -- what an option finds in a body: what its checks say in their order, whether the body gave an account or identifier, that text, the

@@ -11,9 +11,9 @@ use field_utils::lines::Line;
 use field_utils::lines::Lines;
 use field_utils::lines::trim;
 use field_utils::starts_with_slash;
-use flat::RECORD_SIZE;
 use party::PartyOption;
 use party::limits_of;
+use record_bytes::RECORD_SIZE;
 use swift_utils::BIC_LONG;
 use swift_utils::BIC_SHORT;
 use swift_utils::all_alphanumeric;
@@ -29,7 +29,7 @@ ghost use Rattle.party.specs.Limits.{limitsOf};
 ghost use Rattle.swift_utils.specs.Bytes.{between};
 ghost use Rattle.swift_utils.specs.Checks.{bicShort, bicLong};
 ghost use Rattle.field_utils.specs.Lines.{lines};
-ghost use Rattle.flat.specs.Flat.{recordSize};
+ghost use Rattle.record_bytes.specs.RecordBytes.{recordSize};
 ghost use Rattle.reader.specs.Reading.{toldAnswer, toldInto, leaves, readInto};
 ghost use Rattle.reader.specs.Options.{bodyReply};
 ghost use Rattle.reader.specs.Detection.{anyNumbered, lastLine, bicLike, testLine, holds as holdsOf};
@@ -69,8 +69,8 @@ pub enum Trial {
     Nothing,
 }
 
-// What the tests ask first of a text's lines: what a walk sees of two, and where the others start. A line that is not there is empty.
-struct Seen {
+// What the tests ask first of a text's lines: what is seen of two, and where the others start. A line that is not there is empty.
+struct LineSummary {
     // how many lines there are, at most 3
     count: usize,
     // the lengths of the first line and of the second
@@ -87,12 +87,12 @@ struct Seen {
 }
 
 // What is seen of two lines or more: the first, and the second from start to end, with the cursor after it.
-fn walk_second(text: &[u8], first: &[u8], start: usize, end: usize, rest: Lines) -> Seen
+fn summarize_two(text: &[u8], first: &[u8], start: usize, end: usize, rest: Lines) -> LineSummary
     requires { ⌜ Passed (now text) start end (rest .at) ⌝ }
     ensures { λ r. ⌜ Walked (now (text .entry)) (now (first .entry) ∷ take (end - start) (drop start (now (text .entry))) ∷ lines (drop (rest .at) (now (text .entry)))) r ⌝ }
 {
     let count = if rest.at < text.len() { 3 } else { 2 };
-    Seen {
+    LineSummary {
         count,
         first: first.len(),
         second: end - start,
@@ -104,14 +104,14 @@ fn walk_second(text: &[u8], first: &[u8], start: usize, end: usize, rest: Lines)
     }
 }
 
-// Walks the first two lines of a text.
-fn walk(text: &[u8]) -> Seen
+// Sums up the first two lines of a text.
+fn summarize(text: &[u8]) -> LineSummary
     ensures { λ r. ⌜ Walked (now (text .entry)) (lines (now (text .entry))) r ⌝ }
 {
     let top = Lines { at: 0 };
     let found = top.next(text);
     let Line::Next { start, end, rest } = found else {
-        return Seen {
+        return LineSummary {
             count: 0,
             first: 0,
             second: 0,
@@ -130,7 +130,7 @@ fn walk(text: &[u8]) -> Seen
         rest: later,
     } = found_second
     else {
-        return Seen {
+        return LineSummary {
             count: 1,
             first: first.len(),
             second: 0,
@@ -141,7 +141,7 @@ fn walk(text: &[u8]) -> Seen
             rest,
         };
     };
-    walk_second(text, first, next, next_end, later)
+    summarize_two(text, first, next, next_end, later)
 }
 
 // Whether a line from a cursor on is numbered.
@@ -162,7 +162,7 @@ fn numbered_from(text: &[u8], from: Lines) -> bool
 }
 
 // Whether a line after the first is: the second, or, where there are more, one that is walked now.
-fn later_numbered(text: &[u8], seen: Seen) -> bool
+fn later_numbered(text: &[u8], seen: LineSummary) -> bool
     requires { ⌜ Walked (now text) (lines (now text)) seen ⌝ }
     ensures { λ r. ⌜ r ≡ anyNumbered (drop 1 (lines (now (text .entry)))) ⌝ }
 {
@@ -173,7 +173,7 @@ fn later_numbered(text: &[u8], seen: Seen) -> bool
 }
 
 // The last line, as a part of the text.
-fn last_line(text: &[u8], seen: Seen) -> &[u8]
+fn last_line(text: &[u8], seen: LineSummary) -> &[u8]
     requires { ⌜ Walked (now text) (lines (now text)) seen ⌝ }
     ensures { λ r. ⌜ now r ≡ lastLine (lines (now (text .entry))) ⌝ }
 {
@@ -192,7 +192,7 @@ fn last_line(text: &[u8], seen: Seen) -> &[u8]
 }
 
 // Whether there are 2 lines, and the first has a slash.
-fn slash_first_of_two(text: &[u8], seen: Seen) -> bool
+fn slash_first_of_two(text: &[u8], seen: LineSummary) -> bool
     requires { ⌜ Walked (now text) (lines (now text)) seen ⌝ }
     ensures { λ r. ⌜ r ≡ holdsOf Test.SlashFirstOfTwo (lines (now (text .entry))) ⌝ }
 {
@@ -203,7 +203,7 @@ fn slash_first_of_two(text: &[u8], seen: Seen) -> bool
 }
 
 // Whether, with 2 lines or more, the first has a slash.
-fn slash_first(text: &[u8], seen: Seen) -> bool
+fn slash_first(text: &[u8], seen: LineSummary) -> bool
     requires { ⌜ Walked (now text) (lines (now text)) seen ⌝ }
     ensures { λ r. ⌜ r ≡ holdsOf Test.SlashFirst (lines (now (text .entry))) ⌝ }
 {
@@ -214,7 +214,7 @@ fn slash_first(text: &[u8], seen: Seen) -> bool
 }
 
 // Whether a line is numbered. Not by later_numbered: used in two places it would stay a call, for which what was seen is copied.
-fn any_numbered(text: &[u8], seen: Seen) -> bool
+fn any_numbered(text: &[u8], seen: LineSummary) -> bool
     requires { ⌜ Walked (now text) (lines (now text)) seen ⌝ }
     ensures { λ r. ⌜ r ≡ holdsOf Test.AnyNumbered (lines (now (text .entry))) ⌝ }
 {
@@ -238,7 +238,7 @@ fn is_bic_like(text: &[u8]) -> bool
 }
 
 // Whether the last line, trimmed, is.
-fn last_is_bic(text: &[u8], seen: Seen) -> bool
+fn last_is_bic(text: &[u8], seen: LineSummary) -> bool
     requires { ⌜ Walked (now text) (lines (now text)) seen ⌝ }
     ensures { λ r. ⌜ r ≡ holdsOf Test.LastIsBic (lines (now (text .entry))) ⌝ }
 {
@@ -246,7 +246,7 @@ fn last_is_bic(text: &[u8], seen: Seen) -> bool
 }
 
 // Whether there is one line, of 8 to 11 bytes.
-fn is_bic_sized(seen: Seen) -> bool
+fn is_bic_sized(seen: LineSummary) -> bool
     ensures { λ r. ⌜ r ≡ (eqb (seen .count) 1 && between bicShort bicLong (seen .first)) ⌝ }
 {
     if seen.count != 1 {
@@ -256,7 +256,7 @@ fn is_bic_sized(seen: Seen) -> bool
 }
 
 // Whether the first line, or the second where the first has a slash, is numbered.
-fn first_numbered(text: &[u8], seen: Seen) -> bool
+fn first_numbered(text: &[u8], seen: LineSummary) -> bool
     requires { ⌜ Walked (now text) (lines (now text)) seen ⌝ }
     ensures { λ r. ⌜ r ≡ holdsOf Test.FirstNumbered (lines (now (text .entry))) ⌝ }
 {
@@ -268,7 +268,7 @@ fn first_numbered(text: &[u8], seen: Seen) -> bool
 }
 
 // Whether a test holds of a text's lines.
-fn holds(test: Test, text: &[u8], seen: Seen) -> bool
+fn holds(test: Test, text: &[u8], seen: LineSummary) -> bool
     requires { ⌜ Walked (now text) (lines (now text)) seen ⌝ }
     ensures { λ r. ⌜ r ≡ holdsOf test (lines (now (text .entry))) ⌝ }
 {
@@ -285,7 +285,7 @@ fn holds(test: Test, text: &[u8], seen: Seen) -> bool
 }
 
 // The length of the line that 50A takes for its BIC.
-fn bic_line(text: &[u8], seen: Seen) -> usize
+fn bic_line_length(text: &[u8], seen: LineSummary) -> usize
     requires { ⌜ Walked (now text) (lines (now text)) seen ⌝ }
     ensures { λ r. ⌜ r ≡ length (testLine (lines (now (text .entry)))) ⌝ }
 {
@@ -297,25 +297,25 @@ fn bic_line(text: &[u8], seen: Seen) -> usize
 }
 
 // The length of the one that 59A takes: the first too where it has a slash and is too long for an account.
-fn short_bic_line(text: &[u8], seen: Seen) -> usize
+fn short_bic_line(text: &[u8], seen: LineSummary) -> usize
     requires { ⌜ Walked (now text) (lines (now text)) seen ⌝ }
     ensures { λ r. ⌜ r ≡ length (shortBicLine (lines (now (text .entry)))) ⌝ }
 {
     let limits = limits_of(PartyOption::Field59A);
-    if limits.longest + 1 < seen.first {
+    if limits.account_max + 1 < seen.first {
         return seen.first;
     }
-    bic_line(text, seen)
+    bic_line_length(text, seen)
 }
 
 // Whether an option refuses a text for the length of its BIC, by the lines that were asked.
-fn is_ruled_out(option: PartyOption, text: &[u8], asked: &[u8], seen: Seen) -> bool
+fn is_ruled_out(option: PartyOption, text: &[u8], asked: &[u8], seen: LineSummary) -> bool
     requires { ⌜ Walked (now asked) (lines (now asked)) seen ⌝ }
     ensures { λ r. ⌜ r ≡ ruledOut option (now (text .entry)) (lines (now (asked .entry))) ⌝ }
 {
     match option {
         PartyOption::Field50C => !is_bic_length(text.len()),
-        PartyOption::Field50A => !is_bic_length(bic_line(asked, seen)),
+        PartyOption::Field50A => !is_bic_length(bic_line_length(asked, seen)),
         PartyOption::Field50G => !is_bic_length(seen.second),
         PartyOption::Field59A => !is_bic_length(short_bic_line(asked, seen)),
         _ => false,
@@ -323,7 +323,7 @@ fn is_ruled_out(option: PartyOption, text: &[u8], asked: &[u8], seen: Seen) -> b
 }
 
 // Whether an option is tried: its test holds, and it is not ruled out.
-fn is_open(option: PartyOption, test: Test, text: &[u8], asked: &[u8], seen: Seen) -> bool
+fn is_open(option: PartyOption, test: Test, text: &[u8], asked: &[u8], seen: LineSummary) -> bool
     requires { ⌜ Walked (now asked) (lines (now asked)) seen ⌝ }
     ensures { λ r. ⌜ r ≡ isOpen option test (now (text .entry)) (lines (now (asked .entry))) ⌝ }
 {
@@ -403,7 +403,7 @@ fn first_that(choice: Choice, body: &[u8], record: &mut [u8]) -> Outcome
 {
     let text = tried_text(choice, body);
     let asked = asked_text(choice, body);
-    let seen = walk(asked);
+    let seen = summarize(asked);
     let tried = trials_of(choice);
     let mut k = 0;
     while k < 3 {

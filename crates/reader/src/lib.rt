@@ -5,16 +5,13 @@ use errors::ParseError;
 use field_utils::PartyIdentifier;
 use field_utils::lines::Line;
 use field_utils::lines::Lines;
-use field_utils::lines::behind;
 use field_utils::lines::count_lines;
 use field_utils::lines::find_lf;
 use field_utils::lines::is_ascii;
+use field_utils::lines::suffix;
 use field_utils::parse_name_and_address;
 use field_utils::parse_party_identifier;
 use field_utils::starts_with_slash;
-use flat::RECORD_SIZE;
-use flat::load;
-use flat::store_parts;
 use party::First;
 use party::Layout;
 use party::NO_PART;
@@ -24,6 +21,9 @@ use party::Party;
 use party::PartyOption;
 use party::blank;
 use party::limits_of;
+use record_bytes::RECORD_SIZE;
+use record_bytes::load;
+use record_bytes::store_parts;
 use swift_utils::parse_account;
 use swift_utils::parse_bic;
 use swift_utils::parse_length;
@@ -42,7 +42,7 @@ ghost use Rattle.party.specs.Text.{partIn};
 ghost use Rattle.party.specs.Party.{blank as blankParty, partyIn};
 ghost use Rattle.party.specs.declared.First.the-variants.{Identified};
 ghost use Rattle.field_utils.specs.Lines.{lines};
-ghost use Rattle.flat.specs.Flat.{recordSize};
+ghost use Rattle.record_bytes.specs.RecordBytes.{recordSize};
 ghost use Rattle.reader.specs.Reading.{toldAnswer, answerFrom, partyOf, toldInto, leaves, readInto};
 ghost use Rattle.reader.specs.Options.{isCounted, lengthReply, accountReply, slashHead, headBy, withNames, withBic, afterHead, byLines, bicOnly, textOnly, bodyReply, readOwn, read as readOf};
 ghost use Rattle.reader.specs.Code.{toldParts, toldHead, passedHead, hasAccount, accountBy, nameless, IsRest, readingOf};
@@ -70,7 +70,7 @@ fn accept(parts: Parts) -> FoundAt
 }
 
 // Refused; no part is found.
-fn turn_away(e: ParseError) -> FoundAt
+fn reject(e: ParseError) -> FoundAt
     ensures { λ r. ⌜ r .outcome ≡ Refused e ⌝ }
 {
     FoundAt {
@@ -135,7 +135,7 @@ fn account(text: &[u8], option: PartyOption) -> Outcome
     ensures { λ r. ⌜ told r ≡ accountReply option (now (text .entry)) ⌝ }
 {
     let limits = limits_of(option);
-    parse_account(text, limits.shortest, limits.longest, 1)
+    parse_account(text, limits.account_min, limits.account_max, 1)
 }
 
 // Its length alone.
@@ -143,7 +143,7 @@ pub fn account_length(text: &[u8], option: PartyOption) -> Outcome
     ensures { λ r. ⌜ told r ≡ lengthReply option (now (text .entry)) ⌝ }
 {
     let limits = limits_of(option);
-    parse_length(text, limits.shortest, limits.longest, 1)
+    parse_length(text, limits.account_min, limits.account_max, 1)
 }
 
 // Whether a first line has an account: it starts with a slash; in 59 and 59A it is not too long besides.
@@ -155,7 +155,7 @@ fn has_account(line: &[u8], option: PartyOption, first: First) -> bool
     }
     if let First::ShortAccount = first {
         let limits = limits_of(option);
-        return behind(line, 1).len() <= limits.longest;
+        return suffix(line, 1).len() <= limits.account_max;
     }
     true
 }
@@ -167,7 +167,7 @@ fn account_head(line: &[u8], option: PartyOption, first: First) -> HeadAt
     if !has_account(line, option, first) {
         return no_head();
     }
-    head(account(behind(line, 1), option), 1)
+    head(account(suffix(line, 1), option), 1)
 }
 
 // A first line that must start with a slash, with what is said of the text after it.
@@ -190,8 +190,8 @@ fn parse_head(line: &[u8], option: PartyOption) -> HeadAt
     match first {
         First::NoAccount => no_head(),
         First::Identified => identifier_head(line, option),
-        First::SlashAccount => slash_head(line, account(behind(line, 1), option)),
-        First::AnyAccount => slash_head(line, account_length(behind(line, 1), option)),
+        First::SlashAccount => slash_head(line, account(suffix(line, 1), option)),
+        First::AnyAccount => slash_head(line, account_length(suffix(line, 1), option)),
         First::WholeLine => head(account(line, option), 0),
         _ => account_head(line, option, first),
     }
@@ -226,7 +226,7 @@ fn read_names(
     let names = parse_name_and_address(body, from, start_idx, option);
     let outcome = names.outcome;
     if let Outcome::Refused(e) = outcome {
-        return turn_away(e);
+        return reject(e);
     }
     let parts = names.parts;
     let digits = names.digits;
@@ -259,11 +259,11 @@ fn read_bic(
         rest: _,
     } = found
     else {
-        return turn_away(ParseError::BicMissing);
+        return reject(ParseError::BicMissing);
     };
     let outcome = parse_bic(&body[start..end], start_idx as usize + 1);
     if let Outcome::Refused(e) = outcome {
-        return turn_away(e);
+        return reject(e);
     }
     let bic = Part {
         start,
@@ -284,7 +284,7 @@ fn read_rest(
     ensures { λ r. ⌜ toldParts (now (body .entry)) r ≡ readingOf option (afterHead option (suc «start_idx») (passedHead present (partIn (now (body .entry)) account)) (lines (drop (from .at) (now (body .entry))))) ⌝ }
 {
     let limits = limits_of(option);
-    if limits.names == 0 {
+    if limits.max_names == 0 {
         read_bic(option, body, from, start_idx, present, account)
     } else {
         read_names(option, body, from, start_idx, present, account)
@@ -298,22 +298,22 @@ fn counts(option: PartyOption, body: &[u8], rest: Lines) -> bool
     ensures { λ r. ⌜ r ≡ isCounted option (length (lines (now (body .entry)))) ⌝ }
 {
     let limits = limits_of(option);
-    if limits.most == 0 {
-        if limits.least <= 1 {
+    if limits.max_lines == 0 {
+        if limits.min_lines <= 1 {
             return true;
         }
-        if limits.least == 2 {
+        if limits.min_lines == 2 {
             return rest.at < body.len();
         }
     }
-    let n = 1 + count_lines(behind(body, rest.at));
-    if n < limits.least {
+    let n = 1 + count_lines(suffix(body, rest.at));
+    if n < limits.min_lines {
         return false;
     }
-    if limits.most == 0 {
+    if limits.max_lines == 0 {
         return true;
     }
-    n <= limits.most
+    n <= limits.max_lines
 }
 
 // The part of a line from one place to another that is behind its first bytes.
@@ -368,15 +368,15 @@ fn read_lines(option: PartyOption, body: &[u8]) -> FoundAt
     let top = Lines { at: 0 };
     let found = top.next(body);
     let Line::Next { start, end, rest } = found else {
-        return turn_away(ParseError::LineCount);
+        return reject(ParseError::LineCount);
     };
     if !counts(option, body, rest) {
-        return turn_away(ParseError::LineCount);
+        return reject(ParseError::LineCount);
     }
     let head = parse_head(&body[start..end], option);
     let outcome = head.outcome;
     if let Outcome::Refused(e) = outcome {
-        return turn_away(e);
+        return reject(e);
     }
     let later = rest_of(head.present, start, end, head.skip, rest);
     let from = later.from;
@@ -390,7 +390,7 @@ fn read_bic_only(option: PartyOption, body: &[u8]) -> FoundAt
 {
     let outcome = parse_bic(body, 1);
     if let Outcome::Refused(e) = outcome {
-        return turn_away(e);
+        return reject(e);
     }
     let whole = Part {
         start: 0,
@@ -404,11 +404,11 @@ fn read_text_only(option: PartyOption, body: &[u8]) -> FoundAt
     ensures { λ r. ⌜ toldParts (now (body .entry)) r ≡ readingOf option (textOnly option (now (body .entry))) ⌝ }
 {
     if find_lf(body, 0) < body.len() {
-        return turn_away(ParseError::LineCount);
+        return reject(ParseError::LineCount);
     }
     let outcome = account(body, option);
     if let Outcome::Refused(e) = outcome {
-        return turn_away(e);
+        return reject(e);
     }
     let whole = Part {
         start: 0,

@@ -62,7 +62,7 @@ module _ (o : PartyOption) (rest : List Str → Result (Struct o)) (body : Str) 
       ∙ ap (λ (r : Reading). some (renumber r)) (ap (readingOf o) (sym e) ∙ sym (body-passed o body q))
 
 -- an option that counts only that there is a line: its first line and what follows
-pub headed : (o : PartyOption) → limitsOf o .least ≡ 1 → limitsOf o .most ≡ 0 → (l : Str) (ls : List Str) {h : Head} → headBy (limitsOf o .first) o l ≡ h
+pub headed : (o : PartyOption) → limitsOf o .«min_lines» ≡ 1 → limitsOf o .«max_lines» ≡ 0 → (l : Str) (ls : List Str) {h : Head} → headBy (limitsOf o .first) o l ≡ h
     → {x : Result (Struct o)} {w : Struct o} → Is x (fromHead o h (l ∷ ls) ls .reply) w → recordOf o w ≡ renumbered (partyOf o (fromHead o h (l ∷ ls) ls))
     → told (recordOf o) x ≡ some (renumber (readingOf o (byLines o (l ∷ ls))))
 headed o one any l ls {h} e i p =

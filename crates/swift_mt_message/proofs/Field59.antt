@@ -31,11 +31,11 @@ use Rattle.swift_mt_message.proofs.Names.{named, line-50K, line-59F}
 use Rattle.swift_mt_message.proofs.Bodies.{by-lines, headed, short-is, first-bic, second-bic, bic-party, names-party}
 
 -- an account of at most 34 bytes, or none: there are two ways to read on
-module _ (o : PartyOption) (e : 34 ≡ limitsOf o .longest) (l : Str) where
+module _ (o : PartyOption) (e : 34 ≡ limitsOf o .«account_max») (l : Str) where
   none-there : starts slash l ≡ false → shortAccountHead o l ≡ noHead
   none-there s =
       by-test
-      (leb (length (drop 1 l)) (limitsOf o .longest))
+      (leb (length (drop 1 l)) (limitsOf o .«account_max»))
       (λ t. short-fits o refl l (leb-true _ _ t) ∙ account-none o l s)
       (λ t. short-long o refl l (leb-false _ _ t))
 

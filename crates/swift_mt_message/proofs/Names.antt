@@ -62,12 +62,12 @@ counts (l ∷ names) w e =
     (rw (le-leb 1 (length (l ∷ names)) (omega arith)) refl ∙ ap (parseCount 4) e)
 
 -- names, tested in order and counted last
-module _ (o : PartyOption) (four : limitsOf o .names ≡ 4) {C : Type 0} (make : List Str → C) (start : ℕ) (body : List Str → ℕ → Str → Result (List Str))
-    (tests : Tests (limitsOf o .numbering) (limitsOf o .name) start (pushed (limitsOf o .numbering)) body) (ls : List Str) where
-  tested : Is (for-from body [] start ls) (parseLines (limitsOf o .numbering) (limitsOf o .name) (suc start) 1 ls) (map (kept (limitsOf o .numbering)) ls)
+module _ (o : PartyOption) (four : limitsOf o .«max_names» ≡ 4) {C : Type 0} (make : List Str → C) (start : ℕ) (body : List Str → ℕ → Str → Result (List Str))
+    (tests : Tests (limitsOf o .numbering) (limitsOf o .«name_max») start (pushed (limitsOf o .numbering)) body) (ls : List Str) where
+  tested : Is (for-from body [] start ls) (parseLines (limitsOf o .numbering) (limitsOf o .«name_max») (suc start) 1 ls) (map (kept (limitsOf o .numbering)) ls)
   tested =
       value-is
-      (loop (limitsOf o .numbering) (limitsOf o .name) start (pushed (limitsOf o .numbering)) body tests [] start 0 ls (omega arith))
+      (loop (limitsOf o .numbering) (limitsOf o .«name_max») start (pushed (limitsOf o .numbering)) body tests [] start 0 ls (omega arith))
       (over-pushed (limitsOf o .numbering) [] ls)
 
   counted : (check : List Str → Result C) → ((ns : List Str) → length ns ≡ length ls → Is (check ns) (parseCount 4 (length ls)) (make ns))

@@ -17,7 +17,7 @@ use Rattle.party.specs.declared.PartyOption.the-variants.{Field50NoOption, Fiel
 use Rattle.party.specs.declared.Party.{Party}
 use Rattle.party.specs.Limits.{limitsOf}
 use Rattle.party.specs.Text.{textMost, padded, textOf, fourTexts, Used, used}
-use Rattle.party.specs.Party.{where-limit, said}
+use Rattle.party.specs.Party.{where-limit, content}
 use Rattle.party.specs.declared.Numbering.{Numbering}
 use Rattle.party.specs.declared.Numbering.the-variants.{Unnumbered, Numbered, InTurn}
 use Rattle.party.proofs.Options.{by-option}
@@ -34,7 +34,7 @@ use Rattle.reader.proofs.Every.{every-parse, every-variant}
 use Rattle.writer.specs.Writing.{numberOf, nameLines}
 use Rattle.writer.specs.Given.{Given, every, isAccount, isBic, areNames}
 use Rattle.writer.proofs.Relined.{All}
-use Rattle.writer.proofs.Sayings.{bytesOf, four-all}
+use Rattle.writer.proofs.Contents.{bytesOf, four-all}
 use Rattle.writer.proofs.NamePasses.{AllPass, written-length}
 use Rattle.writer.proofs.HeadPasses.{extraOf, text-length}
 use Rattle.writer.proofs.Facts.{Facts, names-are, account-passes, bic-passes, small}
@@ -69,8 +69,8 @@ first-text : (f : Used → Bool) (limit : ℕ) (u : Used) → ltb 0 limit ≡ tr
 first-text f limit u e h = both-left (f u) true (rw (e, where-limit) at h)
 
 -- an account or identifier is, whatever its code
-heads-most : (o : PartyOption) → ltb (limitsOf o .longest + extraOf (limitsOf o .first)) textMost ≡ true
-heads-most = by-option (λ o. ltb (limitsOf o .longest + extraOf (limitsOf o .first)) textMost ≡ true) refl refl refl refl refl refl refl refl refl refl refl
+heads-most : (o : PartyOption) → ltb (limitsOf o .«account_max» + extraOf (limitsOf o .first)) textMost ≡ true
+heads-most = by-option (λ o. ltb (limitsOf o .«account_max» + extraOf (limitsOf o .first)) textMost ≡ true) refl refl refl refl refl refl refl refl refl refl refl
 
 skip-most : (f : Numbering) → skipOf f ≤ 2
 skip-most Unnumbered = omega arith
@@ -101,45 +101,45 @@ module _ (o : PartyOption) (a : Option Str) (b : Str) (ns : List Str) where
   texts = map bytesOf (map used (take (length ns) (fourTexts ns)))
 
   record Back : Type 0 where
-    account : ltb 0 (limitsOf o .longest) ≡ true → is-some a ≡ true → text ≡ Option·getD a []
-    bic : ltb 0 (limitsOf o .bic) ≡ true → used (textOf b) .bytes ≡ b
-    names : ltb 0 (limitsOf o .names) ≡ true → texts ≡ ns
+    account : ltb 0 (limitsOf o .«account_max») ≡ true → is-some a ≡ true → text ≡ Option·getD a []
+    bic : ltb 0 (limitsOf o .«bic_count») ≡ true → used (textOf b) .bytes ≡ b
+    names : ltb 0 (limitsOf o .«max_names») ≡ true → texts ≡ ns
 
   back : Facts (parts p) → Back
   unfolding partyOf
   back h = record {
     account = λ e s.
         let u = used (textOf (Option·getD a [])) in
-        let t = ap (λ (x : Bool). isAccount o x u) (sym s) ∙ first-text (isAccount o (is-some a)) (limitsOf o .longest) u e (h .account) in
-        whole (Option·getD a []) (omega (arith, text-length (limitsOf o .first) o (u .bytes) (account-passes o u t), ltb-true (limitsOf o .longest + extraOf (limitsOf o .first)) textMost (heads-most o)));
+        let t = ap (λ (x : Bool). isAccount o x u) (sym s) ∙ first-text (isAccount o (is-some a)) (limitsOf o .«account_max») u e (h .account) in
+        whole (Option·getD a []) (omega (arith, text-length (limitsOf o .first) o (u .bytes) (account-passes o u t), ltb-true (limitsOf o .«account_max» + extraOf (limitsOf o .first)) textMost (heads-most o)));
     bic = λ e.
         let u = used (textOf b) in
-        whole b (omega (arith, bic-most 1 (u .bytes) (bic-passes u (first-text isBic (limitsOf o .bic) u e (h .bic)))));
+        whole b (omega (arith, bic-most 1 (u .bytes) (bic-passes u (first-text isBic (limitsOf o .«bic_count») u e (h .bic)))));
     names = λ e.
         let us = map used (take (length ns) (fourTexts ns)) in
         let ds = parts p .digits in
         let g : areNames o (length ns) ds us ≡ true = rw (e, where-limit) at (h .names) in
         let n = names-are o (length ns) ds us g in
-        let p = n .pass (ne-eqb (limitsOf o .names) 0 (λ z. omega (arith, ltb-true 0 (limitsOf o .names) e))) in
+        let p = n .pass (ne-eqb (limitsOf o .«max_names») 0 (λ z. omega (arith, ltb-true 0 (limitsOf o .«max_names») e))) in
         let f : take (length ns) (fourTexts ns) ≡ map textOf ns =
         four-all (textOf []) (map textOf ns) (length ns) (length-map ns textOf) (omega (arith, n .counted, written-length (limitsOf o .numbering) ds us, p .most, small o .names)) in
-        rw f (names-whole ns (rw f at (names-most (limitsOf o .numbering) (limitsOf o .name) 1 ds us (small o .name) (p .each))));
+        rw f (names-whole ns (rw f at (names-most (limitsOf o .numbering) (limitsOf o .«name_max») 1 ds us (small o .name) (p .each))));
   }
 
   -- so the Rust's text of the value is what ours writes of the record, which has the digits 1, 2, 3, 4, but for an LF
-  text-by : (v : Struct o) → (Back → structOf o (is-some a) text (used (textOf b) .bytes) texts ≡ v) → Given p → Agrees (said (renumbered p)) (to-swift-string o v)
+  text-by : (v : Struct o) → (Back → structOf o (is-some a) text (used (textOf b) .bytes) texts ≡ v) → Given p → Agrees (content (renumbered p)) (to-swift-string o v)
   unfolding partyOf
-  text-by v e g = subst (λ (w : Struct o). Agrees (said (renumbered p)) (to-swift-string o w)) (e (back (given-facts p (necessary p g)))) (writes p g .text)
+  text-by v e g = subst (λ (w : Struct o). Agrees (content (renumbered p)) (to-swift-string o w)) (e (back (given-facts p (necessary p g)))) (writes p g .text)
 
 -- where there may be no account
 maybe : (a : Option Str) → (is-some a ≡ true → used (textOf (Option·getD a [])) .bytes ≡ Option·getD a []) → optional (is-some a) (used (textOf (Option·getD a [])) .bytes) ≡ a
 maybe none f = refl
 maybe (some a) f = ap some (f refl)
 
-text-of : (o : PartyOption) (v : Struct o) → Given (recordOf o v) → Agrees (said (recordOf o v)) (to-swift-string o v)
+text-of : (o : PartyOption) (v : Struct o) → Given (recordOf o v) → Agrees (content (recordOf o v)) (to-swift-string o v)
 unfolding partyOf
 text-of =
-    by-option (λ o. (v : Struct o) → Given (recordOf o v) → Agrees (said (recordOf o v)) (to-swift-string o v))
+    by-option (λ o. (v : Struct o) → Given (recordOf o v) → Agrees (content (recordOf o v)) (to-swift-string o v))
     (λ v. text-by Field50NoOption none [] (v .name-and-address) v (λ h i. record { name-and-address = h .names refl i }))
     (λ v. text-by Field50A (v .party-identifier) (v .bic) [] v (λ h i. record { party-identifier = maybe (v .party-identifier) (h .account refl) i; bic = h .bic refl i }))
     (λ v. text-by Field50F (some (v .party-identifier)) [] (v .name-and-address) v (λ h i. record { party-identifier = h .account refl refl i; name-and-address = h .names refl i }))
@@ -153,7 +153,7 @@ text-of =
     (λ v. text-by Field59F (v .party-identifier) [] (v .name-and-address) v (λ h i. record { party-identifier = maybe (v .party-identifier) (h .account refl) i; name-and-address = h .names refl i }))
 
 -- and so is that of an enum's value, by its cases
-text-in : (c : Choice) (v : Enum c) → Given (recordBy c v) → Agrees (said (recordBy c v)) (enums.to-swift-string c v)
+text-in : (c : Choice) (v : Enum c) → Given (recordBy c v) → Agrees (content (recordBy c v)) (enums.to-swift-string c v)
 unfolding rust50.Field50InstructingParty·to-swift-string rust50.Field50OrderingCustomerFGH·to-swift-string rust50.Field50OrderingCustomerAFK·to-swift-string rust50.Field50OrderingCustomerNCF·to-swift-string rust50.Field50Creditor·to-swift-string rust59.Field59·to-swift-string rust59.Field59Debtor·to-swift-string
 text-in Field50InstructingParty (rust50.InstructingParty·C v) = text-of Field50C v
 text-in Field50InstructingParty (rust50.InstructingParty·L v) = text-of Field50L v
@@ -187,7 +187,7 @@ unfolding read partyOf
 option-gives o body a =
     let f = foundBy (limitsOf o .layout) o body in
     let e : read o body .party .option ≡ o = ap (λ (p : Party). p .option) (giving-is (bodyReply body then f .reply) (partyOf o f) a) in
-    record { body = body; accepts = ap (λ (x : PartyOption). read x body .reply) e ∙ a; same = ap (λ (x : PartyOption). said (read x body .party)) e }
+    record { body = body; accepts = ap (λ (x : PartyOption). read x body .reply) e ∙ a; same = ap (λ (x : PartyOption). content (read x body .party)) e }
 
 -- ---- a reading of the Rust that is refused, or is ours
 abbrev Near : Reading → Reading → Type 0
@@ -198,7 +198,7 @@ near-if true k n r a = absurd (refused≢accepted a)
 near-if false k n r a = refl
 
 -- ---- a value, its record and our reading
-value : {A : Type 0} (party : A → Party) (text : A → Str) → ((v : A) → Given (party v) → Agrees (said (party v)) (text v))
+value : {A : Type 0} (party : A → Party) (text : A → Str) → ((v : A) → Given (party v) → Agrees (content (party v)) (text v))
     → (x : Result A) {r s : Reading} → told party x ≡ some (renumber r) → Near r s → Gives s → ValueWritten text x s
 value party text is x {r} {s} e near g v h =
     let f : _≡_ {A = Reading} (record { reply = accepted; party = party v }) (renumber r) = Option·some-injective _ _ (ap (told party) (sym h) ∙ e) in
@@ -206,7 +206,7 @@ value party text is x {r} {s} e near g v h =
     let a = sym (ap (λ (r : Reading). r .reply) k) in
     let p = ap (λ (r : Reading). r .party) k in
     let w = writes (s .party) (g a) .given in
-    record { accepts = a; given = g a; renumbered-given = w; agrees = subst (λ (q : Party). Agrees (said q) (text v)) p (is v (subst Given (sym p) w)) }
+    record { accepts = a; given = g a; renumbered-given = w; agrees = subst (λ (q : Party). Agrees (content q) (text v)) p (is v (subst Given (sym p) w)) }
 
 module _ (body : Str) (q : bodyReply body ≡ accepted) where
   near-option : (o : PartyOption) → Near (reading body o) (read o body)

@@ -12,7 +12,7 @@ use Rattle.party.specs.declared.PartyOption.the-variants.{Field50F, Field50G, F
 use Rattle.party.specs.declared.Party.{Party}
 use Rattle.party.specs.Limits.{placeOf}
 use Rattle.party.specs.Text.{padded, textOf, four}
-use Rattle.party.specs.Party.{said, Same}
+use Rattle.party.specs.Party.{content, Same}
 use Rattle.swift_utils.specs.Bytes.{bytes, letter, digit, alphanumeric, signs, legal}
 use Rattle.swift_utils.specs.Checks.{parseSwiftChars, parseAccount, bicLength, parseBic}
 use Rattle.field_utils.specs.Lines.{upto, onto, starts, lines}
@@ -53,7 +53,7 @@ use Rattle.swift_mt_message.proofs.Listed.{listed}
 
 -- our definitions compute where this is unfolded
 computes : Unit {0}
-unfolding padded textOf letter digit alphanumeric signs legal parseSwiftChars parseAccount bicLength parseBic upto onto starts lines isNumbered secondSlash identifierReply parsePartyIdentifier parseLine parseLines parseNameAndAddress four partyOf accountHead afterHead read firstLine illegalAccount white trimmedStart keep trimmedEnd trimmed shortAccountHead anyNumbered lastLine bicLike testLine firstThat parse pickOf parseWithVariant said nameLines writtenLines joined writtenBody writtenField writer.identified59F isLine areNames isGiven tagOf
+unfolding padded textOf letter digit alphanumeric signs legal parseSwiftChars parseAccount bicLength parseBic upto onto starts lines isNumbered secondSlash identifierReply parsePartyIdentifier parseLine parseLines parseNameAndAddress four partyOf accountHead afterHead read firstLine illegalAccount white trimmedStart keep trimmedEnd trimmed shortAccountHead anyNumbered lastLine bicLike testLine firstThat parse pickOf parseWithVariant content nameLines writtenLines joined writtenBody writtenField writer.identified59F isLine areNames isGiven tagOf
 computes = tt
 
 -- 50F with other digits; 59F with an identifier, and one that is refused in its second line; 50H with an account that the two take
@@ -229,11 +229,11 @@ rust-computes = tt
 -- a text of the Rust and our reading of the same body: ours accepts, its record is what a body is read as, with its own digits and with
 -- those set, and of the latter ours writes the text
 abbrev Writes : Str → Reading → Type 0
-Writes text r = (r .reply ≡ accepted) × ((body : Str) × ReadAs body (r .party)) × ((body : Str) × ReadAs body (renumbered (r .party))) × (text ≡ writtenField (said (renumbered (r .party))))
+Writes text r = (r .reply ≡ accepted) × ((body : Str) × ReadAs body (r .party)) × ((body : Str) × ReadAs body (renumbered (r .party))) × (text ≡ writtenField (content (renumbered (r .party))))
 
 -- the same without the LF that it has more
 abbrev WritesLess : Str → Reading → Type 0
-WritesLess text r = (r .reply ≡ accepted) × (lessEmpty text ≡ writtenField (said (renumbered (r .party)))) × (length text ≡ suc (length (writtenField (said (renumbered (r .party))))))
+WritesLess text r = (r .reply ≡ accepted) × (lessEmpty text ≡ writtenField (content (renumbered (r .party)))) × (length text ≡ suc (length (writtenField (content (renumbered (r .party))))))
 
 pub record ValuesWitness : Type 0 where
   pub option : Writes (bytes ":50F:X\n1/A\n2/B") (read Field50F sevens)
@@ -244,10 +244,10 @@ pub record ValuesWitness : Type 0 where
   pub by-none : Writes (bytes ":50F:X\n1/A\n2/B") (parseWithVariant Field50OrderingCustomerAFK sevens 0)
 
 -- what `reads-and-writes` gives, in these terms
-written : {r : Reading} {text : Str} → WrittenAs r text → writer.identified59F (said (renumbered (r .party))) ≡ false → Writes text r
+written : {r : Reading} {text : Str} → WrittenAs r text → writer.identified59F (content (renumbered (r .party))) ≡ false → Writes text r
 written w e = (w .accepts, (w .given .body, (w .given .accepts, w .given .same)), (w .renumbered-given .body, (w .renumbered-given .accepts, w .renumbered-given .same)), w .agrees .equal e)
 
-written-less : {r : Reading} {text : Str} → WrittenAs r text → writer.identified59F (said (renumbered (r .party))) ≡ true → WritesLess text r
+written-less : {r : Reading} {text : Str} → WrittenAs r text → writer.identified59F (content (renumbered (r .party))) ≡ true → WritesLess text r
 written-less w e = (w .accepts, w .agrees .less e, w .agrees .longer e)
 
 pub values-witness : ValuesWitness

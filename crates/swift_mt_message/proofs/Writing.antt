@@ -15,7 +15,7 @@ use Rattle.party.specs.declared.PartyOption.the-variants.{Field50NoOption, Fiel
 use Rattle.party.specs.declared.Party.{Party}
 use Rattle.party.specs.Limits.{limitsOf, placeOf}
 use Rattle.party.specs.Text.{four, Used, used}
-use Rattle.party.specs.Party.{namesOf, where-numbered, said, Said}
+use Rattle.party.specs.Party.{namesOf, where-numbered, content, Content}
 use Rattle.party.specs.declared.Numbering.{Numbering}
 use Rattle.party.specs.declared.Numbering.the-variants.{Unnumbered, Numbered, InTurn}
 use Rattle.party.proofs.Options.{by-option}
@@ -27,11 +27,11 @@ use Rattle.field_utils.proofs.Tests.{both-left, both-right, first-not, rest-not
 use Rattle.reader.specs.Reading.{partyOf}
 use Rattle.writer.specs.Writing.{numberOf, nameLines, writtenLines, joined, writtenBody, writtenField, identified59F}
 use Rattle.writer.specs.Given.{Given, isAccount, isPresence, areNames, isGiven}
-use Rattle.writer.proofs.Sayings.{saidWith, bytesOf, said-party, line-free}
+use Rattle.writer.proofs.Contents.{contentWith, bytesOf, content-party, line-free}
 use Rattle.writer.proofs.NamePasses.{AllPass, written-length, digits-back}
 use Rattle.writer.proofs.Facts.{Facts, is-given, names-are, are-names, account-line, small}
 use Rattle.writer.proofs.Written.{foundOf}
-use Rattle.writer.proofs.Witness.{saying-back, fitting}
+use Rattle.writer.proofs.Witness.{found-content-back, fitting}
 use Rattle.writer.proofs.Sufficient.{given-facts, sufficient}
 use Rattle.writer.proofs.Theorems.{necessary}
 use Rattle.swift_mt_message.specs.Std.{Str, join, digits, number}
@@ -84,7 +84,7 @@ empty-less [] y h = refl
 empty-less (b ∷ x) y h = rw (first-not b x h, lessEmpty) (ap (_∷_ b) (empty-less x y (rest-not b x h)))
 
 -- ---- how many names there are
-module _ (o : PartyOption) (z : eqb (limitsOf o .names) 0 ≡ false) (count : ℕ) (ds : List ℕ) (us : List Used) (h : areNames o count ds us ≡ true) where
+module _ (o : PartyOption) (z : eqb (limitsOf o .«max_names») 0 ≡ false) (count : ℕ) (ds : List ℕ) (us : List Used) (h : areNames o count ds us ≡ true) where
   few : length us ≤ 4
   few = omega (arith, names-are o count ds us h .pass z .most, written-length (limitsOf o .numbering) ds us, small o .names)
 
@@ -140,17 +140,17 @@ set-digits (suc (suc (suc zero))) = refl
 set-digits (suc (suc (suc (suc n)))) = refl
 
 module _ (p : Party) where
-  abbrev with-digits : List ℕ → Said
-  with-digits = saidWith (p .option) (p .present) (p .count) (used (p .account)) (used (p .bic)) (namesOf (p .count) p)
+  abbrev with-digits : List ℕ → Content
+  with-digits = contentWith (p .option) (p .present) (p .count) (used (p .account)) (used (p .bic)) (namesOf (p .count) p)
 
-  says : said (renumbered p) ≡ with-digits (take (p .count) oneToFour)
-  unfolding said
+  says : content (renumbered p) ≡ with-digits (take (p .count) oneToFour)
+  unfolding content
   says = go (limitsOf (p .option) .numbering) refl
     where
-      go : (f : Numbering) → limitsOf (p .option) .numbering ≡ f → said (renumberedBy f p) ≡ with-digits (take (p .count) oneToFour)
-      go Unnumbered e = rw (e, said)
+      go : (f : Numbering) → limitsOf (p .option) .numbering ≡ f → content (renumberedBy f p) ≡ with-digits (take (p .count) oneToFour)
+      go Unnumbered e = rw (e, content)
       go Numbered e = ap with-digits (set-digits (p .count))
-      go InTurn e = rw (e, said)
+      go InTurn e = rw (e, content)
 
 -- the tests of the index
 parted : (b : Bool) (k : ℕ) → 1 ≤ k → (ltb 0 k || b) ≡ true
@@ -162,11 +162,11 @@ parted-all (suc k) = parted (eqb (suc k) 0 && true) (suc k) (omega arith)
 
 -- ---- by the option, and by whether an account or identifier is there: it always is, it never is, or either
 module _ (P : PartyOption → Bool → Type 0) (o : PartyOption) where
-  always : eqb (limitsOf o .shortest) 0 ≡ false → P o true → (present : Bool) → isPresence o present ≡ true → P o present
+  always : eqb (limitsOf o .«account_min») 0 ≡ false → P o true → (present : Bool) → isPresence o present ≡ true → P o present
   always z y true e = y
   always z y false e = absurd (false≢true (sym z ∙ e))
 
-  never : ltb 0 (limitsOf o .longest) ≡ false → P o false → (present : Bool) → isPresence o present ≡ true → P o present
+  never : ltb 0 (limitsOf o .«account_max») ≡ false → P o false → (present : Bool) → isPresence o present ≡ true → P o present
   never z n true e = absurd (false≢true (sym z ∙ e))
   never z n false e = n
 
@@ -175,8 +175,8 @@ module _ (P : PartyOption → Bool → Type 0) (o : PartyOption) where
   either y n false e = n
 
 module _ (count : ℕ) (u v : Used) where
-  abbrev S : PartyOption → Bool → List Used → Said
-  S o present us = saidWith o present count u v us (take count oneToFour)
+  abbrev S : PartyOption → Bool → List Used → Content
+  S o present us = contentWith o present count u v us (take count oneToFour)
 
   abbrev Text : PartyOption → Bool → Type 0
   Text o present =
@@ -253,7 +253,7 @@ module _ (count : ℕ) (u v : Used) where
   -- the struct's record says what that of what is found in the record's lines says
   abbrev Found : PartyOption → Bool → Type 0
   Found o present =
-      (us : List Used) → Facts (S o present us) → said (recordOf o (structOf o present (u .bytes) (v .bytes) (map bytesOf us))) ≡ said (partyOf o (foundOf (S o present us)))
+      (us : List Used) → Facts (S o present us) → content (recordOf o (structOf o present (u .bytes) (v .bytes) (map bytesOf us))) ≡ content (partyOf o (foundOf (S o present us)))
 
   found-50F : Found Field50F true
   found-50F us h =
@@ -262,10 +262,10 @@ module _ (count : ℕ) (u v : Used) where
       let d : take (length (map bytesOf us)) oneToFour ≡ map (digitOf Numbered) (nameLines Numbered ds us) =
       ap (λ (m : ℕ). take m oneToFour) (length-map us bytesOf ∙ n .counted)
       ∙ sym (digits-back Numbered 33 1 ds us (omega (arith, length-take count oneToFour, n .counted)) (n .pass refl .each)) in
-      λ i. said (partyOf Field50F (record { reply = accepted; present = true; account = u .bytes; bic = []; names = map bytesOf us; digits = d i }))
+      λ i. content (partyOf Field50F (record { reply = accepted; present = true; account = u .bytes; bic = []; names = map bytesOf us; digits = d i }))
 
   found-is : (o : PartyOption) (present : Bool) → isPresence o present ≡ true → Found o present
-  unfolding said partyOf
+  unfolding content partyOf
   found-is =
       by-option (λ o. (present : Bool) → isPresence o present ≡ true → Found o present)
       (never Found Field50NoOption refl (λ us h. refl)) (either Found Field50A (λ us h. refl) (λ us h. refl)) (always Found Field50F refl found-50F)
@@ -290,8 +290,8 @@ writes p g =
       given = sufficient (renumbered p) (ap isGiven (says p) ∙ is-given s k);
       same =
           found-is (p .count) _ _ o (p .present) (h .presence) _ k
-          ∙ said-party o (foundOf s) (fitting o _ _ _ _ _ _ k)
-          ∙ saying-back o _ _ _ _ _ _ (omega (arith, length-take (p .count) oneToFour)) k
+          ∙ content-party o (foundOf s) (fitting o _ _ _ _ _ _ k)
+          ∙ found-content-back o _ _ _ _ _ _ (omega (arith, length-take (p .count) oneToFour)) k
           ∙ sym (says p);
-      text = subst (λ (s : Said). Agrees s (to-swift-string o (structIn p))) (sym (says p)) (text-is _ _ _ o (p .present) (h .presence) _ k);
+      text = subst (λ (s : Content). Agrees s (to-swift-string o (structIn p))) (sym (says p)) (text-is _ _ _ o (p .present) (h .presence) _ k);
     }

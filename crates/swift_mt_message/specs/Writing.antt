@@ -13,7 +13,7 @@ use Rattle.party.specs.declared.PartyOption.{PartyOption}
 use Rattle.party.specs.declared.PartyOption.the-variants.{Field50NoOption, Field50A, Field50F, Field50K, Field50C, Field50L, Field50G, Field50H, Field59NoOption, Field59A, Field59F}
 use Rattle.party.specs.declared.Party.{Party}
 use Rattle.party.specs.Text.{Used, used}
-use Rattle.party.specs.Party.{Said, namesOf, said, Same}
+use Rattle.party.specs.Party.{Content, namesOf, content, Same}
 use Rattle.reader.specs.Reading.{Reading}
 use Rattle.reader.specs.Options.{read}
 use Rattle.reader.specs.declared.choices.Choice.{Choice}
@@ -60,7 +60,7 @@ lessEmpty (b ∷ text) = b ∷ elim (eqb b 10) [ true ↦ lessLf text | false �
 
 -- a text of the Rust and ours of a record (document 02, Six): equal; but of 59F with an identifier, which is in the first line, the Rust's has
 -- an empty line after it, so one LF more than ours, and with that LF removed it is ours
-pub record Agrees (s : Said) (text : Str) : Type 0 where
+pub record Agrees (s : Content) (text : Str) : Type 0 where
   pub equal : identified59F s ≡ false → text ≡ writtenField s
   pub less : identified59F s ≡ true → lessEmpty text ≡ writtenField s
   pub longer : identified59F s ≡ true → length text ≡ suc (length (writtenField s))
@@ -70,7 +70,7 @@ pub record Agrees (s : Said) (text : Str) : Type 0 where
 pub record Writes (p : Party) : Type 0 where
   pub given : Given (renumbered p)
   pub same : Same (recordOf (p .option) (structIn p)) (renumbered p)
-  pub text : Agrees (said (renumbered p)) (to-swift-string (p .option) (structIn p))
+  pub text : Agrees (content (renumbered p)) (to-swift-string (p .option) (structIn p))
 
 -- our reading and a text of the Rust: ours accepts, a reader can give its record, as it is and so renumbered, and of the latter ours writes
 -- that text, but for that LF
@@ -78,7 +78,7 @@ pub record WrittenAs (r : Reading) (text : Str) : Type 0 where
   pub accepts : r .reply ≡ accepted
   pub given : Given (r .party)
   pub renumbered-given : Given (renumbered (r .party))
-  pub agrees : Agrees (said (renumbered (r .party))) text
+  pub agrees : Agrees (content (renumbered (r .party))) text
 
 -- where the Rust gives a value, what it writes of that value is what ours writes of our record, but for those digits and that LF
 abbrev pub ValueWritten : {A : Type 0} → (A → Str) → Result A → Reading → Type 0

@@ -6,7 +6,7 @@ use mathlib.Core.List.{[], _∷_, map}
 use Rattle.party.specs.declared.PartyOption.the-variants.{Field50F, Field59F}
 use Rattle.party.specs.declared.Party.{Party}
 use Rattle.party.specs.Text.{padded, textOf, four}
-use Rattle.party.specs.Party.{said}
+use Rattle.party.specs.Party.{content}
 use Rattle.swift_utils.specs.Bytes.{bytes, letter, digit, alphanumeric, legal}
 use Rattle.swift_utils.specs.Checks.{parseSwiftChars, parseAccount}
 use Rattle.field_utils.specs.Lines.{onto, lines}
@@ -42,15 +42,15 @@ pub record WritingExamples : Type 0 where
   pub came : sevens .digits ≡ 55 ∷ 55 ∷ 0 ∷ 0 ∷ []
   pub set : renumbered sevens .digits ≡ 49 ∷ 50 ∷ 0 ∷ 0 ∷ []
   -- ours writes them as they came; set, they are written as the Rust writes what it reads of that body
-  pub kept : writtenField (said sevens) ≡ bytes ":50F:X\n7/A\n7/B"
-  pub after : writtenField (said (renumbered sevens)) ≡ bytes ":50F:X\n1/A\n2/B"
+  pub kept : writtenField (content sevens) ≡ bytes ":50F:X\n7/A\n7/B"
+  pub after : writtenField (content (renumbered sevens)) ≡ bytes ":50F:X\n1/A\n2/B"
   pub rust : (parse Field50F (bytes "X\n7/A\n7/B") and-then λ v. Ok (to-swift-string Field50F v)) ≡ Ok (bytes ":50F:X\n1/A\n2/B")
   -- FGH, AFK and NCF have 50F, and the others have not
   pub having : map has50F (Field50OrderingCustomerFGH ∷ Field50OrderingCustomerAFK ∷ Field50OrderingCustomerNCF ∷ []) ≡ true ∷ true ∷ true ∷ []
   pub others : map has50F (Field50InstructingParty ∷ Field50Creditor ∷ Field59 ∷ Field59Debtor ∷ []) ≡ false ∷ false ∷ false ∷ false ∷ []
 
 pub writing-examples : WritingExamples
-unfolding written Field59F·to-swift-string lessLf lessEmpty padded textOf said letter digit alphanumeric legal parseSwiftChars parseAccount onto lines isNumbered parseLine parseLines parseNameAndAddress four partyOf afterHead read nameLines writtenLines joined writtenBody writtenField tagOf std.for-from std.in-front std.split-inclusive std.strip-suffix std.line-of std.let-lines std.is-alphabetic std.is-digit std.is-alphanumeric std.digits swift.parse-swift-chars rust50.Field50F·line rust50.Field50F·parse rust50.Field50F·numbered rust50.Field50F·to-swift-string
+unfolding written Field59F·to-swift-string lessLf lessEmpty padded textOf content letter digit alphanumeric legal parseSwiftChars parseAccount onto lines isNumbered parseLine parseLines parseNameAndAddress four partyOf afterHead read nameLines writtenLines joined writtenBody writtenField tagOf std.for-from std.in-front std.split-inclusive std.strip-suffix std.line-of std.let-lines std.is-alphabetic std.is-digit std.is-alphanumeric std.digits swift.parse-swift-chars rust50.Field50F·line rust50.Field50F·parse rust50.Field50F·numbered rust50.Field50F·to-swift-string
 writing-examples = record {
   smallest = refl;
   removed = refl;

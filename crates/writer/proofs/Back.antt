@@ -14,7 +14,7 @@ use Rattle.party.specs.declared.PartyOption.the-variants.{Field50NoOption, Fiel
 use Rattle.party.specs.declared.Party.{Party}
 use Rattle.party.specs.Limits.{limitsOf}
 use Rattle.party.specs.Text.{Used}
-use Rattle.party.specs.Party.{Said, said}
+use Rattle.party.specs.Party.{Content, content}
 use Rattle.party.specs.declared.Layout.{Layout}
 use Rattle.party.specs.declared.Layout.the-variants.{BicOnly, TextOnly, ByLines}
 use Rattle.swift_utils.specs.Bytes.{all, between}
@@ -30,7 +30,7 @@ use Rattle.writer.specs.Given.{isAccount, isBic}
 use Rattle.writer.specs.ReadBack.{lastEmpty, earlierCr, isReadBack}
 use Rattle.writer.specs.Sender.{readLines}
 use Rattle.writer.proofs.Relined.{All, weight, relined, lines-joined, relined-same, relined-empty, relined-cr, pieces-joined}
-use Rattle.writer.proofs.Sayings.{saidWith, said-party, saying, line-free}
+use Rattle.writer.proofs.Contents.{contentWith, content-party, foundContent, line-free}
 use Rattle.writer.proofs.Facts.{Facts, account-line, account-passes, bic-passes}
 use Rattle.writer.proofs.Written.{foundOf, Reads, written-found}
 use Rattle.writer.proofs.Witness.{Plain, written-plain}
@@ -42,7 +42,7 @@ use Rattle.writer.proofs.Necessary.{GoodIn, letters-free, found-good}
 pub record Accepted (o : PartyOption) (body : List ℕ) : Type 0 where
   pub fits : bodyReply body ≡ accepted
   pub good : GoodIn o (readLines (limitsOf o .layout) body) (foundBy (limitsOf o .layout) o body)
-  pub says : said (read o body .party) ≡ saying o (foundBy (limitsOf o .layout) o body)
+  pub says : content (read o body .party) ≡ foundContent o (foundBy (limitsOf o .layout) o body)
 
 giving-party : (r : Reply) (p : Party) → r ≡ accepted → giving r p .party ≡ p
 giving-party r p e = rw e
@@ -55,7 +55,7 @@ accepted-is o body e =
     let b = then-first (bodyReply body) _ r in
     let a : all ascii body ≡ true = must-held (all ascii body) 13 0 (then-second (must (leb (length body) bodyMost) 12 0) _ b) in
     let g = found-good o body a (then-second (bodyReply body) _ r) in
-    record { fits = b; good = g; says = ap said (giving-party (bodyReply body then f .reply) (partyOf o f) r) ∙ said-party o f (g .fits) }
+    record { fits = b; good = g; says = ap content (giving-party (bodyReply body then f .reply) (partyOf o f) r) ∙ content-party o f (g .fits) }
 
 -- ---- read back
 -- the two tests
@@ -73,14 +73,14 @@ unfolding lastEmpty pieces joined
 some [] e = absurd (true≢false e)
 some (l ∷ ls) e = omega arith
 
-joined-found : (layout : Layout) (o : PartyOption) (s : Said) → Reads layout o s → lines (joined (writtenLines s)) ≡ writtenLines s → foundBy layout o (joined (writtenLines s)) ≡ foundOf s
+joined-found : (layout : Layout) (o : PartyOption) (s : Content) → Reads layout o s → lines (joined (writtenLines s)) ≡ writtenLines s → foundBy layout o (joined (writtenLines s)) ≡ foundOf s
 joined-found BicOnly o s r e = r
 joined-found TextOnly o s r e = r
 joined-found ByLines o s r e = ap (byLines o) e ∙ r
 
-module _ (o : PartyOption) (present : Bool) (count : ℕ) (u v : Used) (us : List Used) (ds : List ℕ) (h : Facts (saidWith o present count u v us ds)) where
-  abbrev T : Said
-  T = saidWith o present count u v us ds
+module _ (o : PartyOption) (present : Bool) (count : ℕ) (u v : Used) (us : List Used) (ds : List ℕ) (h : Facts (contentWith o present count u v us ds)) where
+  abbrev T : Content
+  T = contentWith o present count u v us ds
 
   abbrev ws : List (List ℕ)
   ws = writtenLines T
@@ -112,9 +112,9 @@ lighter ls n h e = rw (lines-joined ls h) (go (lastEmpty ls) (earlierCr ls) refl
     go false false a b f = absurd (true≢false (rw (a, b) at f))
 
 -- a body of lines
-module _ (o : PartyOption) (present : Bool) (count : ℕ) (u v : Used) (us : List Used) (ds : List ℕ) (h : Facts (saidWith o present count u v us ds)) where
-  abbrev R : Said
-  R = saidWith o present count u v us ds
+module _ (o : PartyOption) (present : Bool) (count : ℕ) (u v : Used) (us : List Used) (ds : List ℕ) (h : Facts (contentWith o present count u v us ds)) where
+  abbrev R : Content
+  R = contentWith o present count u v us ds
 
   -- its lines are read, and weigh no less than the record's
   lines-no : isReadBack R ≡ false → byLines o (lines (writtenBody R)) .reply ≡ accepted → weight (writtenLines R) ≤ weight (lines (writtenBody R)) → ⊥
@@ -141,15 +141,15 @@ pub bic-least : (n : ℕ) (x : List ℕ) → parseBic n x ≡ accepted → 8 ≤
 unfolding parseBic
 bic-least n x e = bicLength-least (length x) (must-held (bicLength (length x)) 9 n (then-first _ _ e))
 
-pub text-least : (o : PartyOption) (x : List ℕ) → accountReply o x ≡ accepted → limitsOf o .shortest ≤ length x
+pub text-least : (o : PartyOption) (x : List ℕ) → accountReply o x ≡ accepted → limitsOf o .«account_min» ≤ length x
 unfolding parseAccount
 text-least o x e =
-    leb-true _ _ (both-left (leb (limitsOf o .shortest) (length x)) (leb (length x) (limitsOf o .longest)) (must-held (between (limitsOf o .shortest) (limitsOf o .longest) (length x)) 2 1 (then-first _ _ e)))
+    leb-true _ _ (both-left (leb (limitsOf o .«account_min») (length x)) (leb (length x) (limitsOf o .«account_max»)) (must-held (between (limitsOf o .«account_min») (limitsOf o .«account_max») (length x)) 2 1 (then-first _ _ e)))
 
 -- ---- by the option
 module _ (count : ℕ) (u v : Used) (us : List Used) (ds : List ℕ) where
-  abbrev Q : PartyOption → Bool → Said
-  Q o present = saidWith o present count u v us ds
+  abbrev Q : PartyOption → Bool → Content
+  Q o present = contentWith o present count u v us ds
 
   -- what reading its body gives weighs no less than the record's lines
   pub record Again (o : PartyOption) (present : Bool) : Type 0 where

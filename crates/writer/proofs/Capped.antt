@@ -16,14 +16,14 @@ use Rattle.party.specs.declared.First.the-variants.{NoAccount, Identified, Acco
 use Rattle.party.specs.declared.Numbering.{Numbering}
 use Rattle.party.specs.Limits.{limitsOf}
 use Rattle.party.specs.Text.{textMost, Used, used}
-use Rattle.party.specs.Party.{IsParty, Said, said, where-limit, namesOf, where-numbered}
+use Rattle.party.specs.Party.{IsParty, Content, content, where-limit, namesOf, where-numbered}
 use Rattle.party.proofs.Laws.{map-take, take-min}
 use Rattle.swift_utils.specs.Bytes.{among}
 use Rattle.field_utils.specs.Names.{parseNameAndAddress}
 use Rattle.field_utils.specs.Tags.{tagOf}
-use Rattle.flat.specs.Flat.{byteOf, recordSize, stored, unflatten}
-use Rattle.flat.proofs.Laws.{none, Sizes}
-use Rattle.flat.proofs.Theorems.{cappedText, capped, stored-capped}
+use Rattle.record_bytes.specs.RecordBytes.{byteOf, recordSize, stored, decoded}
+use Rattle.record_bytes.proofs.Laws.{none, Sizes}
+use Rattle.record_bytes.proofs.Theorems.{cappedText, capped, stored-capped}
 use Rattle.writer.specs.Writing.{nameLines, writtenBody, writtenField}
 use Rattle.writer.specs.Given.{passes, every, isLine, isAccount, isBic, areNames, isTaken, isGiven}
 use Rattle.writer.specs.Placing.{measure, place}
@@ -139,11 +139,11 @@ alike-where limit {us} {vs} a = go (ltb 0 limit)
 names-by :
     (o : PartyOption) (count : ℕ) (ds : List ℕ) (us : List Used) {a b : Bool} {ls : List (List ℕ)} →
     eqb (length us) count ≡ a → every isLine us ≡ b → nameLines (limitsOf o .numbering) ds us ≡ ls →
-    areNames o count ds us ≡ (a && b && elim (eqb (limitsOf o .names) 0) [ true ↦ true | false ↦ passes (parseNameAndAddress o 1 ls) ])
+    areNames o count ds us ≡ (a && b && elim (eqb (limitsOf o .«max_names») 0) [ true ↦ true | false ↦ passes (parseNameAndAddress o 1 ls) ])
 unfolding areNames
 names-by o count ds us e f g =
     rw (← e, ← f)
-    (ap (λ (ls : List (List ℕ)). eqb (length us) count && every isLine us && elim (eqb (limitsOf o .names) 0) [ true ↦ true | false ↦ passes (parseNameAndAddress o 1 ls) ]) g)
+    (ap (λ (ls : List (List ℕ)). eqb (length us) count && every isLine us && elim (eqb (limitsOf o .«max_names») 0) [ true ↦ true | false ↦ passes (parseNameAndAddress o 1 ls) ]) g)
 
 -- ---- the record
 module _ (p : Party) (h : IsParty p) where
@@ -157,82 +157,82 @@ module _ (p : Party) (h : IsParty p) where
       let four = h .size in
       ap (λ (t : Text). length (t .bytes)) (getD-take (p .count) (p .«name_and_address») i none (omega arith)) ∙ h .name i none (omega arith) .size
 
-  names : Alike (said (capped p) .names) (said p .names)
-  unfolding said
+  names : Alike (content (capped p) .names) (content p .names)
+  unfolding content
   names =
       let l = p .«name_and_address» in
       let same : namesOf (byteOf (p .count)) (capped p) ≡ map used (map cappedText (take (p .count) l)) =
       ap (map used) (sym (map-take cappedText (byteOf (p .count)) l) ∙ ap (map cappedText) (take-capped (p .count) l (omega (arith, h .size)))) in
-      rw same (alike-where (limitsOf o .names) (names-capped (take (p .count) l) few-sizes))
+      rw same (alike-where (limitsOf o .«max_names») (names-capped (take (p .count) l) few-sizes))
 
-  few : length (said p .names) ≤ 4
-  unfolding said
-  few = go (ltb 0 (limitsOf o .names))
+  few : length (content p .names) ≤ 4
+  unfolding content
+  few = go (ltb 0 (limitsOf o .«max_names»))
     where
       go : (b : Bool) → length {A = Used} (elim b as (λ x. List Used) [ true ↦ namesOf (p .count) p | false ↦ [] ]) ≤ 4
       go true = omega (arith, length-map (take (p .count) (p .«name_and_address»)) used, length-take (p .count) (p .«name_and_address»), h .size)
       go false = omega arith
 
-  digits : said (capped p) .digits ≡ said p .digits
-  unfolding said
+  digits : content (capped p) .digits ≡ content p .digits
+  unfolding content
   digits = ap (where-numbered (limitsOf o .numbering)) (take-capped (p .count) (p .digits) (omega (arith, h .digits)))
 
   names-same : namesTest (capped p) ≡ namesTest p
   names-same =
       let f = limitsOf o .numbering in
-      names-by o (byteOf (p .count)) (said (capped p) .digits) (said (capped p) .names)
-      (ap (λ (n : ℕ). eqb n (byteOf (p .count))) (names .size) ∙ same-capped (length (said p .names)) (p .count) (omega (arith, few)))
+      names-by o (byteOf (p .count)) (content (capped p) .digits) (content (capped p) .names)
+      (ap (λ (n : ℕ). eqb n (byteOf (p .count))) (names .size) ∙ same-capped (length (content p .names)) (p .count) (omega (arith, few)))
       (names .lines)
-      (ap (λ (ds : List ℕ). nameLines f ds (said (capped p) .names)) digits ∙ names .written f (said p .digits))
-      ∙ sym (names-by o (p .count) (said p .digits) (said p .names) refl refl refl)
+      (ap (λ (ds : List ℕ). nameLines f ds (content (capped p) .names)) digits ∙ names .written f (content p .digits))
+      ∙ sym (names-by o (p .count) (content p .digits) (content p .names) refl refl refl)
 
-  given-same : isGiven (said (capped p)) ≡ isGiven (said p)
+  given-same : isGiven (content (capped p)) ≡ isGiven (content p)
   given-same =
       sym (given-by o (capped p) refl refl
-      (every-alike (isAccount o (p .present)) (limitsOf o .longest) _ _ (account-capped (p .account) (h .account .size) o (p .present)))
-      (every-alike isBic (limitsOf o .bic) _ _ (bic-capped (p .bic) (h .bic .size)))
+      (every-alike (isAccount o (p .present)) (limitsOf o .«account_max») _ _ (account-capped (p .account) (h .account .size) o (p .present)))
+      (every-alike isBic (limitsOf o .«bic_count») _ _ (bic-capped (p .bic) (h .bic .size)))
       names-same refl)
       ∙ rw (names .taken (limitsOf o .first)) (given-by o p refl refl refl refl refl refl)
 
-  field-same : writtenField (said (capped p)) ≡ writtenField (said p)
-  unfolding said
+  field-same : writtenField (content (capped p)) ≡ writtenField (content p)
+  unfolding content
   field-same =
       field-parts (capped p)
       ∙ rw (
         head-capped (p .account) (h .account .size) o (hasHead o (p .present)),
-        bytes-alike (limitsOf o .bic) (used (cappedText (p .bic))) (used (p .bic)) (bytes-capped (p .bic) (h .bic .size)),
+        bytes-alike (limitsOf o .«bic_count») (used (cappedText (p .bic))) (used (p .bic)) (bytes-capped (p .bic) (h .bic .size)),
         digits,
-        names .written (limitsOf o .numbering) (said p .digits),
+        names .written (limitsOf o .numbering) (content p .digits),
       )
       (sym (field-parts p))
 
-  body-same : writtenBody (said (capped p)) ≡ writtenBody (said p)
-  unfolding said writtenField
+  body-same : writtenBody (content (capped p)) ≡ writtenBody (content p)
+  unfolding content writtenField
   body-same =
-      sym (drop-append-seam (tagOf o) (writtenBody (said (capped p)))) ∙ ap (drop (length (tagOf o))) field-same ∙ drop-append-seam (tagOf o) (writtenBody (said p))
+      sym (drop-append-seam (tagOf o) (writtenBody (content (capped p)))) ∙ ap (drop (length (tagOf o))) field-same ∙ drop-append-seam (tagOf o) (writtenBody (content p))
 
   -- what the bytes of a stored record say
   module _ (d : List ℕ) (l : recordSize ≤ length d) where
-    abbrev pub bytesSay : Said
-    bytesSay = said (unflatten (stored p d))
+    abbrev pub bytesSay : Content
+    bytesSay = content (decoded (stored p d))
 
-    pub option-stored : bytesSay .option ≡ said p .option
-    unfolding said
+    pub option-stored : bytesSay .option ≡ content p .option
+    unfolding content
     option-stored = ap (λ (q : Party). q .option) (stored-capped p h d l)
 
-    pub given-stored : isGiven bytesSay ≡ isGiven (said p)
-    given-stored = ap (λ (q : Party). isGiven (said q)) (stored-capped p h d l) ∙ given-same
+    pub given-stored : isGiven bytesSay ≡ isGiven (content p)
+    given-stored = ap (λ (q : Party). isGiven (content q)) (stored-capped p h d l) ∙ given-same
 
-    pub field-stored : writtenField bytesSay ≡ writtenField (said p)
-    field-stored = ap (λ (q : Party). writtenField (said q)) (stored-capped p h d l) ∙ field-same
+    pub field-stored : writtenField bytesSay ≡ writtenField (content p)
+    field-stored = ap (λ (q : Party). writtenField (content q)) (stored-capped p h d l) ∙ field-same
 
-    pub body-stored : writtenBody bytesSay ≡ writtenBody (said p)
-    body-stored = ap (λ (q : Party). writtenBody (said q)) (stored-capped p h d l) ∙ body-same
+    pub body-stored : writtenBody bytesSay ≡ writtenBody (content p)
+    body-stored = ap (λ (q : Party). writtenBody (content q)) (stored-capped p h d l) ∙ body-same
 
-    pub measure-stored : measure bytesSay ≡ measure (said p)
+    pub measure-stored : measure bytesSay ≡ measure (content p)
     unfolding measure
     measure-stored = rw (given-stored, field-stored)
 
-    pub place-stored : (buffer : List ℕ) → place bytesSay buffer ≡ place (said p) buffer
+    pub place-stored : (buffer : List ℕ) → place bytesSay buffer ≡ place (content p) buffer
     unfolding place
     place-stored buffer = rw (given-stored, field-stored)

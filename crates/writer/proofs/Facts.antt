@@ -10,7 +10,7 @@ use Rattle.errors.specs.Refusals.{accepted}
 use Rattle.party.specs.declared.PartyOption.{PartyOption}
 use Rattle.party.specs.Limits.{limitsOf}
 use Rattle.party.specs.Text.{Used}
-use Rattle.party.specs.Party.{Said}
+use Rattle.party.specs.Party.{Content}
 use Rattle.party.proofs.Options.{by-option}
 use Rattle.swift_utils.specs.Checks.{parseBic}
 use Rattle.field_utils.specs.Names.{parseNameAndAddress}
@@ -20,14 +20,14 @@ use Rattle.writer.specs.Given.{passes, every, isLine, textReply, isAccou
 use Rattle.writer.proofs.NamePasses.{passed, passing, NamesPass, names-held, names-pass}
 
 -- the parts of the test
-pub record Facts (s : Said) : Type 0 where
+pub record Facts (s : Content) : Type 0 where
   pub presence : isPresence (s .option) (s .present) ≡ true
   pub account : every (isAccount (s .option) (s .present)) (s .account) ≡ true
   pub bic : every isBic (s .bic) ≡ true
   pub names : areNames (s .option) (s .count) (s .digits) (s .names) ≡ true
   pub free : (not (s .present) && isTaken (limitsOf (s .option) .first) (s .names)) ≡ false
 
-module _ (s : Said) where
+module _ (s : Content) where
   abbrev pres : Bool
   pres = isPresence (s .option) (s .present)
 
@@ -68,11 +68,11 @@ module _ (s : Said) where
 pub record NamesAre (o : PartyOption) (count : ℕ) (ds : List ℕ) (us : List Used) : Type 0 where
   pub counted : length us ≡ count
   pub lines : every isLine us ≡ true
-  pub pass : eqb (limitsOf o .names) 0 ≡ false → NamesPass o (nameLines (limitsOf o .numbering) ds us)
+  pub pass : eqb (limitsOf o .«max_names») 0 ≡ false → NamesPass o (nameLines (limitsOf o .numbering) ds us)
 
 module _ (o : PartyOption) (count : ℕ) (ds : List ℕ) (us : List Used) where
   abbrev named : Bool
-  named = elim (eqb (limitsOf o .names) 0) [ true ↦ true | false ↦ passes (parseNameAndAddress o 1 (nameLines (limitsOf o .numbering) ds us)) ]
+  named = elim (eqb (limitsOf o .«max_names») 0) [ true ↦ true | false ↦ passes (parseNameAndAddress o 1 (nameLines (limitsOf o .numbering) ds us)) ]
 
   pub names-are : areNames o count ds us ≡ true → NamesAre o count ds us
   unfolding areNames
@@ -90,9 +90,9 @@ module _ (o : PartyOption) (count : ℕ) (ds : List ℕ) (us : List Used) where
   unfolding areNames
   are-names h =
       both (eqb (length us) count && every isLine us) named (both (eqb (length us) count) (every isLine us) (eq-eqb _ _ (h .counted)) (h .lines))
-      (go (eqb (limitsOf o .names) 0) refl)
+      (go (eqb (limitsOf o .«max_names») 0) refl)
     where
-      go : (t : Bool) → eqb (limitsOf o .names) 0 ≡ t → named ≡ true
+      go : (t : Bool) → eqb (limitsOf o .«max_names») 0 ≡ t → named ≡ true
       go true z = rw (z, named)
       go false z = let n : named ≡ passes (parseNameAndAddress o 1 (nameLines (limitsOf o .numbering) ds us)) = rw (z, named) in n ∙ passing _ (names-pass o 1 _ (h .pass z))
 
@@ -121,20 +121,20 @@ bic-lines (u ∷ us) e =
 
 -- the limits of all options
 pub record Small (o : PartyOption) : Type 0 where
-  pub longest : limitsOf o .longest ≤ 35
-  pub names : limitsOf o .names ≤ 4
-  pub name : limitsOf o .name ≤ 35
+  pub longest : limitsOf o .«account_max» ≤ 35
+  pub names : limitsOf o .«max_names» ≤ 4
+  pub name : limitsOf o .«name_max» ≤ 35
 
-small-is : (o : PartyOption) → (leb (limitsOf o .longest) 35 && leb (limitsOf o .names) 4 && leb (limitsOf o .name) 35) ≡ true
+small-is : (o : PartyOption) → (leb (limitsOf o .«account_max») 35 && leb (limitsOf o .«max_names») 4 && leb (limitsOf o .«name_max») 35) ≡ true
 small-is =
-    by-option (λ (o : PartyOption). (leb (limitsOf o .longest) 35 && leb (limitsOf o .names) 4 && leb (limitsOf o .name) 35) ≡ true) refl refl refl
+    by-option (λ (o : PartyOption). (leb (limitsOf o .«account_max») 35 && leb (limitsOf o .«max_names») 4 && leb (limitsOf o .«name_max») 35) ≡ true) refl refl refl
     refl refl refl refl refl refl refl refl
 
 pub small : (o : PartyOption) → Small o
 small o =
-    let first = both-left (leb (limitsOf o .longest) 35 && leb (limitsOf o .names) 4) (leb (limitsOf o .name) 35) (small-is o) in
+    let first = both-left (leb (limitsOf o .«account_max») 35 && leb (limitsOf o .«max_names») 4) (leb (limitsOf o .«name_max») 35) (small-is o) in
     record {
-      longest = leb-true _ _ (both-left (leb (limitsOf o .longest) 35) (leb (limitsOf o .names) 4) first);
-      names = leb-true _ _ (both-right (leb (limitsOf o .longest) 35) (leb (limitsOf o .names) 4) first);
-      name = leb-true _ _ (both-right (leb (limitsOf o .longest) 35 && leb (limitsOf o .names) 4) (leb (limitsOf o .name) 35) (small-is o));
+      longest = leb-true _ _ (both-left (leb (limitsOf o .«account_max») 35) (leb (limitsOf o .«max_names») 4) first);
+      names = leb-true _ _ (both-right (leb (limitsOf o .«account_max») 35) (leb (limitsOf o .«max_names») 4) first);
+      name = leb-true _ _ (both-right (leb (limitsOf o .«account_max») 35 && leb (limitsOf o .«max_names») 4) (leb (limitsOf o .«name_max») 35) (small-is o));
     }

@@ -12,11 +12,11 @@ use Rattle.party.specs.declared.Party.{Party}
 use Rattle.party.specs.declared.Limits.{Limits}
 use Rattle.party.specs.Limits.{limitsOf}
 use Rattle.party.specs.Text.{Used, used}
-use Rattle.party.specs.Party.{said, where-limit}
+use Rattle.party.specs.Party.{content, where-limit}
 use Rattle.party.proofs.Options.{by-option}
 use Rattle.field_utils.specs.Tags.{capital, tagOf}
 use Rattle.writer.specs.Writing.{slashOf, headLines, nameLines, writtenLines, joined, writtenBody, writtenField}
-use Rattle.flat.specs.Flat.{partyFrom}
+use Rattle.record_bytes.specs.RecordBytes.{partyFrom}
 use Rattle.writer.specs.Code.{Lent, lead, led, hasHead, headOf, namesOn, restOn}
 
 -- ---- lines with LFs between them are lines with an LF before each but the first
@@ -45,7 +45,7 @@ led-append b (l ∷ m ∷ ls) ms =
 
 -- ---- the account or identifier
 abbrev headIn : PartyOption → Bool → Used → List (List ℕ)
-headIn o present u = headLines o present (where-limit (limitsOf o .longest) (u ∷ []))
+headIn o present u = headLines o present (where-limit (limitsOf o .«account_max») (u ∷ []))
 
 record Headed (o : PartyOption) (present : Bool) (u : Used) : Type 0 where
   bytes : led false (headIn o present u) ≡ headOf o (hasHead o present) u
@@ -54,23 +54,23 @@ record Headed (o : PartyOption) (present : Bool) (u : Used) : Type 0 where
 headed : (o : PartyOption) (present : Bool) (u : Used) → Headed o present u
 unfolding led after
 headed o false u = record { bytes = refl; later = refl }
-headed o true u = go (ltb 0 (limitsOf o .longest)) refl
+headed o true u = go (ltb 0 (limitsOf o .«account_max»)) refl
   where
-    go : (t : Bool) → ltb 0 (limitsOf o .longest) ≡ t → Headed o true u
+    go : (t : Bool) → ltb 0 (limitsOf o .«account_max») ≡ t → Headed o true u
     go true e = record { bytes = rw (e, where-limit) (append-nil (slashOf o ++ u .bytes)); later = rw (e, where-limit) }
     go false e = record { bytes = rw (e, where-limit); later = rw (e, where-limit) }
 
 -- ---- the field
 pub field-parts :
     (p : Party) → let later = hasHead (p .option) (p .present) in
-    writtenField (said p) ≡ tagOf (p .option) ++ (headOf (p .option) later (used (p .account)) ++ restOn later p)
-unfolding said writtenLines writtenBody writtenField
+    writtenField (content p) ≡ tagOf (p .option) ++ (headOf (p .option) later (used (p .account)) ++ restOn later p)
+unfolding content writtenLines writtenBody writtenField
 field-parts p =
     let o = p .option in
     let h = headed o (p .present) (used (p .account)) in
     let head = headIn o (p .present) (used (p .account)) in
-    let bic = map (λ (u : Used). u .bytes) (said p .bic) in
-    let names = nameLines (limitsOf o .numbering) (said p .digits) (said p .names) in
+    let bic = map (λ (u : Used). u .bytes) (content p .bic) in
+    let names = nameLines (limitsOf o .numbering) (content p .digits) (content p .names) in
     ap (λ (r : List ℕ). tagOf o ++ r)
     (joined-led ((head ++ bic) ++ names) ∙ ap (led false) (append-assoc head bic names) ∙ led-append false head (bic ++ names)
     ∙ ap (λ (r : List ℕ). r ++ led (after false head) (bic ++ names)) (h .bytes)
@@ -79,25 +79,25 @@ field-parts p =
 -- that of a lent record
 pub lent-parts :
     (s : List ℕ) {o : PartyOption} {later : Bool} → Lent s o → later ≡ hasHead o (eqb (getD s 1 0) 1) →
-    writtenField (said (partyFrom s)) ≡ tagOf o ++ (headOf o later (used (partyFrom s .account)) ++ restOn later (partyFrom s))
+    writtenField (content (partyFrom s)) ≡ tagOf o ++ (headOf o later (used (partyFrom s .account)) ++ restOn later (partyFrom s))
 unfolding partyFrom
 lent-parts s lent e = rw (e, lent .is) (field-parts (partyFrom s))
 
 -- ---- what follows the account or identifier: an option has no BIC, or no names
-bic-alone : (o : PartyOption) → (limitsOf o .bic ≡ 0 → ⊥) → limitsOf o .names ≡ 0
+bic-alone : (o : PartyOption) → (limitsOf o .«bic_count» ≡ 0 → ⊥) → limitsOf o .«max_names» ≡ 0
 bic-alone =
-    by-option (λ o. (limitsOf o .bic ≡ 0 → ⊥) → limitsOf o .names ≡ 0) (λ h. absurd (h refl)) (λ h. refl) (λ h. absurd (h refl)) (λ h. absurd (h refl)) (λ h. refl) (λ h. refl) (λ h. refl) (λ h. absurd (h refl))
+    by-option (λ o. (limitsOf o .«bic_count» ≡ 0 → ⊥) → limitsOf o .«max_names» ≡ 0) (λ h. absurd (h refl)) (λ h. refl) (λ h. absurd (h refl)) (λ h. absurd (h refl)) (λ h. refl) (λ h. refl) (λ h. refl) (λ h. absurd (h refl))
     (λ h. absurd (h refl)) (λ h. refl) (λ h. absurd (h refl))
 
-pub rest-names : (later : Bool) (p : Party) → limitsOf (p .option) .bic ≡ 0 → restOn later p ≡ namesOn later p
-unfolding said
+pub rest-names : (later : Bool) (p : Party) → limitsOf (p .option) .«bic_count» ≡ 0 → restOn later p ≡ namesOn later p
+unfolding content
 rest-names later p e = rw e
 
-pub rest-bic : (later : Bool) (p : Party) → (limitsOf (p .option) .bic ≡ 0 → ⊥) → restOn later p ≡ lead later ++ used (p .bic) .bytes
-unfolding said led nameLines
+pub rest-bic : (later : Bool) (p : Party) → (limitsOf (p .option) .«bic_count» ≡ 0 → ⊥) → restOn later p ≡ lead later ++ used (p .bic) .bytes
+unfolding content led nameLines
 rest-bic later p h =
-    let bic : said p .bic ≡ used (p .bic) ∷ [] = rw (lt-ltb 0 (limitsOf (p .option) .bic) (omega arith), where-limit) in
-    let names : said p .names ≡ [] = rw (bic-alone (p .option) h) in
+    let bic : content p .bic ≡ used (p .bic) ∷ [] = rw (lt-ltb 0 (limitsOf (p .option) .«bic_count») (omega arith), where-limit) in
+    let names : content p .names ≡ [] = rw (bic-alone (p .option) h) in
     rw (bic, names) (append-nil (lead later ++ used (p .bic) .bytes))
 
 -- ---- the tag and the slash, by the limits

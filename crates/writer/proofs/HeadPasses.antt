@@ -80,14 +80,14 @@ extra-most AnyAccount = omega arith
 extra-most WholeLine = omega arith
 
 -- the length of a text that passes
-pub text-length : (first : First) (o : PartyOption) (x : List ℕ) → textReply first o x ≡ accepted → length x ≤ limitsOf o .longest + extraOf first
+pub text-length : (first : First) (o : PartyOption) (x : List ℕ) → textReply first o x ≡ accepted → length x ≤ limitsOf o .«account_max» + extraOf first
 text-length NoAccount o x e = let h = account-length _ _ 1 x e in omega arith
 text-length Identified o x e = identifier-length _ 1 x e
 text-length Account o x e = let h = account-length _ _ 1 x e in omega arith
 text-length ShortAccount o x e = let h = account-length _ _ 1 x e in omega arith
 text-length SlashAccount o x e = let h = account-length _ _ 1 x e in omega arith
 text-length AnyAccount o x e =
-    let h : length x ≤ limitsOf o .longest = leb-true _ _ (both-right (leb (limitsOf o .shortest) (length x)) (leb (length x) (limitsOf o .longest)) (must-held (between (limitsOf o .shortest) (limitsOf o .longest) (length x)) 2 1 (then-first _ _ e))) in
+    let h : length x ≤ limitsOf o .«account_max» = leb-true _ _ (both-right (leb (limitsOf o .«account_min») (length x)) (leb (length x) (limitsOf o .«account_max»)) (must-held (between (limitsOf o .«account_min») (limitsOf o .«account_max») (length x)) 2 1 (then-first _ _ e))) in
     omega arith
 text-length WholeLine o x e = let h = account-length _ _ 1 x e in omega arith
 
@@ -124,7 +124,7 @@ abbrev pub Free : First → PartyOption → List ℕ → Type 0
 Free NoAccount o l = Unit {0}
 Free Identified o l = starts 47 l ≡ false
 Free Account o l = starts 47 l ≡ false
-Free ShortAccount o l = length (drop 1 l) ≤ limitsOf o .longest → starts 47 l ≡ false
+Free ShortAccount o l = length (drop 1 l) ≤ limitsOf o .«account_max» → starts 47 l ≡ false
 Free SlashAccount o l = ⊥
 Free AnyAccount o l = ⊥
 Free WholeLine o l = ⊥
@@ -164,9 +164,9 @@ first-there Account o l a p r = go (starts 47 l) refl
     go : (t : Bool) → starts 47 l ≡ t → There Account o l
     go true e = there-of Account o l (drop 1 l) _ (account-some o l e) (slash-back l e) r (λ k. k)
     go false e = absurd (absent-not (headBy Account o l) (account-none o l e) p)
-first-there ShortAccount o l a p r = go (leb (length (drop 1 l)) (limitsOf o .longest)) (starts 47 l) refl refl
+first-there ShortAccount o l a p r = go (leb (length (drop 1 l)) (limitsOf o .«account_max»)) (starts 47 l) refl refl
   where
-    go : (s t : Bool) → leb (length (drop 1 l)) (limitsOf o .longest) ≡ s → starts 47 l ≡ t → There ShortAccount o l
+    go : (s t : Bool) → leb (length (drop 1 l)) (limitsOf o .«account_max») ≡ s → starts 47 l ≡ t → There ShortAccount o l
     go true true f e = there-of ShortAccount o l (drop 1 l) _ (short-fits o refl l (leb-true _ _ f) ∙ account-some o l e) (slash-back l e) r (λ k. k)
     go true false f e = absurd (absent-not (headBy ShortAccount o l) (short-fits o refl l (leb-true _ _ f) ∙ account-none o l e) p)
     go false t f e = absurd (absent-not (headBy ShortAccount o l) (short-long o refl l (leb-false _ _ f)) p)
@@ -196,13 +196,13 @@ first-none Account o l p = go (starts 47 l) refl
     go : (t : Bool) → starts 47 l ≡ t → None Account o l
     go true e = absurd (true≢false (sym (ap (λ (w : Head). w .present) (account-some o l e)) ∙ p))
     go false e = record { head = account-none o l e; free = e }
-first-none ShortAccount o l p = go (leb (length (drop 1 l)) (limitsOf o .longest)) (starts 47 l) refl refl
+first-none ShortAccount o l p = go (leb (length (drop 1 l)) (limitsOf o .«account_max»)) (starts 47 l) refl refl
   where
-    go : (s t : Bool) → leb (length (drop 1 l)) (limitsOf o .longest) ≡ s → starts 47 l ≡ t → None ShortAccount o l
+    go : (s t : Bool) → leb (length (drop 1 l)) (limitsOf o .«account_max») ≡ s → starts 47 l ≡ t → None ShortAccount o l
     go true true f e = absurd (true≢false (sym (ap (λ (w : Head). w .present) (short-fits o refl l (leb-true _ _ f) ∙ account-some o l e)) ∙ p))
     go true false f e = record { head = short-fits o refl l (leb-true _ _ f) ∙ account-none o l e; free = λ k. e }
     go false t f e =
-        let g : limitsOf o .longest < length (drop 1 l) = leb-false _ _ f in record { head = short-long o refl l g; free = λ k. absurd (omega (arith, k, g)) }
+        let g : limitsOf o .«account_max» < length (drop 1 l) = leb-false _ _ f in record { head = short-long o refl l g; free = λ k. absurd (omega (arith, k, g)) }
 first-none SlashAccount o l p = absurd (true≢false p)
 first-none AnyAccount o l p = absurd (true≢false p)
 first-none WholeLine o l p = absurd (true≢false p)
@@ -212,9 +212,9 @@ pub none-made : (first : First) (o : PartyOption) (l : List ℕ) → Free first 
 none-made NoAccount o l h = refl
 none-made Identified o l h = ap identifierHead (identifier-absent o 1 l h)
 none-made Account o l h = account-none o l h
-none-made ShortAccount o l h = go (leb (length (drop 1 l)) (limitsOf o .longest)) refl
+none-made ShortAccount o l h = go (leb (length (drop 1 l)) (limitsOf o .«account_max»)) refl
   where
-    go : (s : Bool) → leb (length (drop 1 l)) (limitsOf o .longest) ≡ s → headBy ShortAccount o l ≡ noHead
+    go : (s : Bool) → leb (length (drop 1 l)) (limitsOf o .«account_max») ≡ s → headBy ShortAccount o l ≡ noHead
     go true f = short-fits o refl l (leb-true _ _ f) ∙ account-none o l (h (leb-true _ _ f))
     go false f = short-long o refl l (leb-false _ _ f)
 none-made SlashAccount o l h = absurd h

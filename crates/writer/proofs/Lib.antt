@@ -6,7 +6,7 @@ pub mod Records
 pub mod Pairs
 pub mod Relined
 pub mod Weights
-pub mod Sayings
+pub mod Contents
 pub mod NamePasses
 pub mod HeadPasses
 pub mod Ascii

@@ -23,7 +23,7 @@ use Rattle.field_utils.proofs.Tests.{both-left, both-right, both, none-more, re
 use Rattle.writer.specs.Writing.{numberOf, nameLines}
 use Rattle.writer.specs.Given.{passes, every, isLine}
 use Rattle.writer.proofs.Relined.{All}
-use Rattle.writer.proofs.Sayings.{usedOf, bytesOf, Short, line-free}
+use Rattle.writer.proofs.Contents.{usedOf, bytesOf, Short, line-free}
 
 -- a reply that passes
 pub passed : (r : Reply) → passes r ≡ true → r ≡ accepted
@@ -91,26 +91,26 @@ module _ (f : Numbering) (longest : ℕ) where
 
 -- names that pass
 pub record NamesPass (o : PartyOption) (ls : List (List ℕ)) : Type 0 where
-  pub each : AllPass (limitsOf o .numbering) (limitsOf o .name) 1 ls
+  pub each : AllPass (limitsOf o .numbering) (limitsOf o .«name_max») 1 ls
   pub least : 1 ≤ length ls
-  pub most : length ls ≤ limitsOf o .names
+  pub most : length ls ≤ limitsOf o .«max_names»
 
 module _ (o : PartyOption) (n : ℕ) (ls : List (List ℕ)) where
   pub names-held : parseNameAndAddress o n ls ≡ accepted → NamesPass o ls
   unfolding parseNameAndAddress
   names-held e =
-      let counted = must-held (between 1 (limitsOf o .names) (length ls)) 7 0 (then-second (parseLines (limitsOf o .numbering) (limitsOf o .name) n 1 ls) _ e) in
+      let counted = must-held (between 1 (limitsOf o .«max_names») (length ls)) 7 0 (then-second (parseLines (limitsOf o .numbering) (limitsOf o .«name_max») n 1 ls) _ e) in
       record {
-        each = lines-held (limitsOf o .numbering) (limitsOf o .name) n 1 ls (then-first _ _ e);
-        least = leb-true _ _ (both-left (leb 1 (length ls)) (leb (length ls) (limitsOf o .names)) counted);
-        most = leb-true _ _ (both-right (leb 1 (length ls)) (leb (length ls) (limitsOf o .names)) counted);
+        each = lines-held (limitsOf o .numbering) (limitsOf o .«name_max») n 1 ls (then-first _ _ e);
+        least = leb-true _ _ (both-left (leb 1 (length ls)) (leb (length ls) (limitsOf o .«max_names»)) counted);
+        most = leb-true _ _ (both-right (leb 1 (length ls)) (leb (length ls) (limitsOf o .«max_names»)) counted);
       }
 
   pub names-pass : NamesPass o ls → parseNameAndAddress o n ls ≡ accepted
   unfolding parseNameAndAddress
   names-pass h =
-      then-passes _ _ (lines-pass (limitsOf o .numbering) (limitsOf o .name) n 1 ls (h .each))
-      (must-passes (between 1 (limitsOf o .names) (length ls)) 7 0 (both _ _ (le-leb _ _ (h .least)) (le-leb _ _ (h .most))))
+      then-passes _ _ (lines-pass (limitsOf o .numbering) (limitsOf o .«name_max») n 1 ls (h .each))
+      (must-passes (between 1 (limitsOf o .«max_names») (length ls)) 7 0 (both _ _ (le-leb _ _ (h .least)) (le-leb _ _ (h .most))))
 
 -- ---- the lines that are written of names, and the names that are kept of lines
 module _ (f : Numbering) where

@@ -16,13 +16,13 @@ use Rattle.party.specs.declared.Party.{Party}
 use Rattle.party.specs.declared.Limits.{Limits}
 use Rattle.party.specs.Limits.{limitsOf}
 use Rattle.party.specs.Text.{Used, used}
-use Rattle.party.specs.Party.{said, namesOf, where-numbered}
+use Rattle.party.specs.Party.{content, namesOf, where-numbered}
 use Rattle.party.specs.declared.Numbering.{Numbering}
 use Rattle.party.specs.declared.Numbering.the-variants.{Unnumbered, Numbered, InTurn}
 use Rattle.party.proofs.Laws.{map-take, take-min}
-use Rattle.field_utils.specs.Names.{keptFrom}
+use Rattle.field_utils.specs.Names.{droppedPrefix}
 use Rattle.writer.specs.Writing.{numberOf, nameLines}
-use Rattle.flat.specs.Flat.{partyFrom}
+use Rattle.record_bytes.specs.RecordBytes.{partyFrom}
 use Rattle.writer.specs.Code.{Lent, lead, led, nameCount, isName, allNames}
 
 -- the text that stands for one past the end
@@ -34,12 +34,12 @@ abbrev pub namesIn : ℕ → Party → List Used
 namesIn n p = take n (map used (p .«name_and_address»))
 
 -- how long a name's number is
-pub number-length : (f : Numbering) (d : ℕ) → length (numberOf f d) ≡ keptFrom f
+pub number-length : (f : Numbering) (d : ℕ) → length (numberOf f d) ≡ droppedPrefix f
 number-length Unnumbered d = refl
 number-length Numbered d = refl
 number-length InTurn d = refl
 
-pub marks-most : (f : Numbering) → keptFrom f ≤ 2
+pub marks-most : (f : Numbering) → droppedPrefix f ≤ 2
 marks-most Unnumbered = omega arith
 marks-most Numbered = omega arith
 marks-most InTurn = omega arith
@@ -65,14 +65,14 @@ pub used-digits : (f : Numbering) (n : ℕ) (ds : List ℕ) (us : List Used) →
 used-digits f n ds us h = lines-agree f (where-numbered f (take n ds)) ds us (λ i k. number-used f n ds i (omega arith))
 
 -- ---- the names that are used
-pub count-none : (o : PartyOption) (count : ℕ) → limitsOf o .names ≡ 0 → nameCount o count ≡ 0
+pub count-none : (o : PartyOption) (count : ℕ) → limitsOf o .«max_names» ≡ 0 → nameCount o count ≡ 0
 count-none o count e = rw (e, nameCount)
 
-pub count-some : (o : PartyOption) (count : ℕ) → (limitsOf o .names ≡ 0 → ⊥) → nameCount o count ≡ min count 4
-count-some o count h = rw (lt-ltb 0 (limitsOf o .names) (omega arith), nameCount)
+pub count-some : (o : PartyOption) (count : ℕ) → (limitsOf o .«max_names» ≡ 0 → ⊥) → nameCount o count ≡ min count 4
+count-some o count h = rw (lt-ltb 0 (limitsOf o .«max_names») (omega arith), nameCount)
 
 counted : (o : PartyOption) (count : ℕ) → nameCount o count ≤ min count 4
-counted o count = go (ltb 0 (limitsOf o .names))
+counted o count = go (ltb 0 (limitsOf o .«max_names»))
   where
     go : (t : Bool) → elim t [ true ↦ min count 4 | false ↦ 0 ] ≤ min count 4
     go true = omega arith
@@ -89,9 +89,9 @@ module _ (p : Party) (four : length (p .«name_and_address») ≡ 4) where
   names-size : length (map used (p .«name_and_address»)) ≡ 4
   names-size = length-map (p .«name_and_address») used ∙ four
 
-  said-first : said p .names ≡ namesIn (nameCount (p .option) (p .count)) p
-  unfolding said
-  said-first = go (ltb 0 (limitsOf (p .option) .names))
+  content-first : content p .names ≡ namesIn (nameCount (p .option) (p .count)) p
+  unfolding content
+  content-first = go (ltb 0 (limitsOf (p .option) .«max_names»))
     where
       go : (t : Bool) → elim t [ true ↦ namesOf (p .count) p | false ↦ [] ] ≡ namesIn (elim t [ true ↦ min (p .count) 4 | false ↦ 0 ]) p
       go true =
@@ -103,8 +103,8 @@ module _ (p : Party) (four : length (p .«name_and_address») ≡ 4) where
     pub few : n ≤ 4
     few = omega (arith, counted (p .option) (p .count))
 
-    pub said-names : said p .names ≡ namesIn n p
-    said-names = said-first ∙ ap (λ (m : ℕ). namesIn m p) (sym count)
+    pub content-names : content p .names ≡ namesIn n p
+    content-names = content-first ∙ ap (λ (m : ℕ). namesIn m p) (sym count)
 
     pub names-length : length (namesIn n p) ≡ n
     names-length = omega (arith, length-take n (map used (p .«name_and_address»)), names-size, few)
@@ -119,11 +119,11 @@ module _ (p : Party) (four : length (p .«name_and_address») ≡ 4) where
         (getD-take n (map used (p .«name_and_address»)) i (used none) h ∙ List·getD-map used (p .«name_and_address») i none)
 
     -- the lines of the names, by the record's digits
-    pub said-lines : let f = limitsOf (p .option) .numbering in nameLines f (said p .digits) (said p .names) ≡ nameLines f (p .digits) (namesIn n p)
-    unfolding said
-    said-lines =
+    pub content-lines : let f = limitsOf (p .option) .numbering in nameLines f (content p .digits) (content p .names) ≡ nameLines f (p .digits) (namesIn n p)
+    unfolding content
+    content-lines =
         let f = limitsOf (p .option) .numbering in
-        ap (nameLines f (said p .digits)) said-names
+        ap (nameLines f (content p .digits)) content-names
         ∙ used-digits f (p .count) (p .digits) (namesIn n p) (omega (arith, names-length, count, counted (p .option) (p .count)))
 
     -- what is left of the names' text, from the i-th on
@@ -138,7 +138,7 @@ module _ (p : Party) (four : length (p .«name_and_address») ≡ 4) where
     pub left-length :
         (f : Numbering) (later : Bool) (i : ℕ) → i < n →
         length (led later (nameLines f (drop i (p .digits)) (drop i (namesIn n p))))
-        ≡ length (lead later) + keptFrom f + length (used (getD (p .«name_and_address») i none) .bytes)
+        ≡ length (lead later) + droppedPrefix f + length (used (getD (p .«name_and_address») i none) .bytes)
         + length (led true (nameLines f (drop (suc i) (p .digits)) (drop (suc i) (namesIn n p))))
     left-length f later i h = rw (left-next f later i h) (simp (length-append, number-length) (omega arith))
 

@@ -13,7 +13,7 @@ use Rattle.party.specs.declared.PartyOption.{PartyOption}
 use Rattle.party.specs.declared.PartyOption.the-variants.{Field50NoOption, Field50A, Field50F, Field50K, Field50C, Field50L, Field50G, Field50H, Field59NoOption, Field59A, Field59F}
 use Rattle.party.specs.Limits.{limitsOf}
 use Rattle.party.specs.Text.{Used}
-use Rattle.party.specs.Party.{where-numbered, Said}
+use Rattle.party.specs.Party.{where-numbered, Content}
 use Rattle.party.specs.declared.First.{First}
 use Rattle.party.specs.declared.First.the-variants.{NoAccount, Identified, Account, ShortAccount, SlashAccount, AnyAccount, WholeLine}
 use Rattle.party.specs.declared.Layout.{Layout}
@@ -34,7 +34,7 @@ use Rattle.writer.specs.Given.{passes, every, isLine, textReply, isAccou
 use Rattle.writer.proofs.NamePasses.{passing, NamesPass, names-held, names-pass, again, again-same, kept-short, kept-lines}
 use Rattle.writer.specs.Sender.{readLines, Leads}
 use Rattle.writer.proofs.Relined.{All, weight, lines-are}
-use Rattle.writer.proofs.Sayings.{usedOf, Short, Fitting, saying, line-is, lines-is}
+use Rattle.writer.proofs.Contents.{usedOf, Short, Fitting, foundContent, line-is, lines-is}
 use Rattle.writer.proofs.HeadPasses.{slashBy, extra-most, text-length, There, None, first-there, first-none}
 use Rattle.writer.proofs.Facts.{Facts, are-names, small}
 use Rattle.writer.proofs.Written.{bic-any}
@@ -89,21 +89,21 @@ module _ (o : PartyOption) (l : List ℕ) (ls : List (List ℕ)) (e : byLines o 
       record { none = t; found = head-none o l ls (sym (t .head)) counted refl refl refl }
 
 -- ---- what is found is good: it fits a record, that passes the test, and its written lines, of which there are some, are the body's
-pub record Good (f : Found) (s : Said) (ls : List (List ℕ)) : Type 0 where
+pub record Good (f : Found) (s : Content) (ls : List (List ℕ)) : Type 0 where
   pub reply : f .reply ≡ accepted
   pub fits : Fitting f
   pub facts : Facts s
   pub some : 0 < length (writtenLines s)
   pub lines : Leads (s .option) (writtenLines s) ls
 
-pub light : {f : Found} {s : Said} {ls : List (List ℕ)} → Good f s ls → weight (writtenLines s) ≤ weight ls
+pub light : {f : Found} {s : Content} {ls : List (List ℕ)} → Good f s ls → weight (writtenLines s) ≤ weight ls
 light {s = s} {ls = ls} g = omega (arith, ap weight (g .lines .are), weight-append (writtenLines s) (g .lines .rest))
 
 -- all of the lines, or those up to the BIC
 all-lines : (o : PartyOption) {ws ls : List (List ℕ)} → ls ≡ ws → Leads o ws ls
 all-lines o {ws} e = record { rest = []; are = e ∙ sym (append-nil ws); all = λ z. refl }
 
-to-bic : (o : PartyOption) {ws ls : List (List ℕ)} (rest : List (List ℕ)) → limitsOf o .names ≡ 0 → ls ≡ ws ++ rest → Leads o ws ls
+to-bic : (o : PartyOption) {ws ls : List (List ℕ)} (rest : List (List ℕ)) → limitsOf o .«max_names» ≡ 0 → ls ≡ ws ++ rest → Leads o ws ls
 to-bic o rest z e = record { rest = rest; are = e; all = λ n. absurd (n z) }
 
 -- the parts
@@ -132,8 +132,8 @@ account-none o = both (isAccount o false (usedOf [])) true (line-is [] refl) ref
 bic-there : (n : ℕ) (b : List ℕ) → Line b → parseBic n b ≡ accepted → every isBic (usedOf b ∷ []) ≡ true
 bic-there n b h e = both (isBic (usedOf b)) true (both (isLine (usedOf b)) (passes (parseBic 1 b)) (line-is b h) (passing _ (bic-any n 1 b e))) refl
 
-no-names : (o : PartyOption) → limitsOf o .names ≡ 0 → areNames o 0 [] [] ≡ true
-no-names o z = are-names o 0 [] [] (record { counted = refl; lines = refl; pass = λ n. absurd (true≢false (sym (eq-eqb (limitsOf o .names) 0 z) ∙ n)) })
+no-names : (o : PartyOption) → limitsOf o .«max_names» ≡ 0 → areNames o 0 [] [] ≡ true
+no-names o z = are-names o 0 [] [] (record { counted = refl; lines = refl; pass = λ n. absurd (true≢false (sym (eq-eqb (limitsOf o .«max_names») 0 z) ∙ n)) })
 
 module _ (o : PartyOption) (ls : List (List ℕ)) (h : All Line ls) (p : NamesPass o ls) where
   abbrev names : List (List ℕ)
@@ -144,7 +144,7 @@ module _ (o : PartyOption) (ls : List (List ℕ)) (h : All Line ls) (p : NamesPa
 
   -- the lines themselves
   written : again (limitsOf o .numbering) ls ≡ ls
-  written = again-same (limitsOf o .numbering) (limitsOf o .name) 1 ls (p .each)
+  written = again-same (limitsOf o .numbering) (limitsOf o .«name_max») 1 ls (p .each)
 
   names-there : areNames o (length names) (where-numbered (limitsOf o .numbering) digits) (map usedOf names) ≡ true
   names-there =
@@ -159,23 +159,23 @@ module _ (o : PartyOption) (ls : List (List ℕ)) (h : All Line ls) (p : NamesPa
   digits-fit = length-map ls (digitOf (limitsOf o .numbering)) ∙ sym (length-map ls (kept (limitsOf o .numbering)))
 
   names-fit : All Short names
-  names-fit = kept-short (limitsOf o .numbering) (limitsOf o .name) 1 ls (omega (arith, small o .name)) (p .each)
+  names-fit = kept-short (limitsOf o .numbering) (limitsOf o .«name_max») 1 ls (omega (arith, small o .name)) (p .each)
 
   names-few : length names ≤ 4
   names-few = omega (arith, length-map ls (kept (limitsOf o .numbering)), p .most, small o .names)
 
 -- with a BIC
-bic-of : (o : PartyOption) (n : ℕ) (h : Head) (ls : List (List ℕ)) → limitsOf o .names ≡ 0 → afterHead o n h ls .reply ≡ accepted → withBic n h ls .reply ≡ accepted
+bic-of : (o : PartyOption) (n : ℕ) (h : Head) (ls : List (List ℕ)) → limitsOf o .«max_names» ≡ 0 → afterHead o n h ls .reply ≡ accepted → withBic n h ls .reply ≡ accepted
 bic-of o n h ls z e = ap (λ (f : Found). f .reply) (sym (rest-bic o refl n h ls z)) ∙ e
 
-names-of : (o : PartyOption) (n : ℕ) (h : Head) (ls : List (List ℕ)) → (limitsOf o .names ≡ 0 → ⊥) → afterHead o n h ls .reply ≡ accepted → NamesPass o ls
+names-of : (o : PartyOption) (n : ℕ) (h : Head) (ls : List (List ℕ)) → (limitsOf o .«max_names» ≡ 0 → ⊥) → afterHead o n h ls .reply ≡ accepted → NamesPass o ls
 names-of o n h ls z e = names-held o n ls (ap (λ (f : Found). f .reply) (sym (rest-names o refl n h ls z)) ∙ e)
 
 -- what is said where there is a BIC, and where there are names
-abbrev withOne : PartyOption → Bool → List ℕ → List ℕ → Said
+abbrev withOne : PartyOption → Bool → List ℕ → List ℕ → Content
 withOne o present x b = record { option = o; present = present; count = 0; account = usedOf x ∷ []; bic = usedOf b ∷ []; names = []; digits = [] }
 
-abbrev withSome : PartyOption → Bool → List Used → List (List ℕ) → List ℕ → Said
+abbrev withSome : PartyOption → Bool → List Used → List (List ℕ) → List ℕ → Content
 withSome o present us ns ds = record {
   option = o;
   present = present;
@@ -190,7 +190,7 @@ module _ (o : PartyOption) where
   slash-is : (x l : List ℕ) → slashOf o ≡ slashBy (limitsOf o .first) → l ≡ slashBy (limitsOf o .first) ++ x → slashOf o ++ x ≡ l
   slash-is x l s e = ap (λ (w : List ℕ). w ++ x) s ∙ sym e
 
-  bic-heading : (z : limitsOf o .names ≡ 0) → isPresence o true ≡ true → slashOf o ≡ slashBy (limitsOf o .first) → (l : List ℕ) (ls : List (List ℕ)) (d : Heading o l ls)
+  bic-heading : (z : limitsOf o .«max_names» ≡ 0) → isPresence o true ≡ true → slashOf o ≡ slashBy (limitsOf o .first) → (l : List ℕ) (ls : List (List ℕ)) (d : Heading o l ls)
       → All Line (l ∷ ls) → byLines o (l ∷ ls) .reply ≡ accepted → (b : List ℕ) (rest : List (List ℕ)) → ls ≡ b ∷ rest
       → Good (withBic 2 (passedHead true (d .there .text)) (b ∷ rest)) (withOne o true (d .there .text) b) (l ∷ ls)
   unfolding writtenLines nameLines
@@ -213,7 +213,7 @@ module _ (o : PartyOption) where
         lines = to-bic o rest z (ap (λ (w : List ℕ). w ∷ ls) (sym (slash-is x l s (d .there .is))) ∙ ap (_∷_ (slashOf o ++ x)) q);
       }
 
-  bic-headless : (z : limitsOf o .names ≡ 0) → isPresence o false ≡ true → (l : List ℕ) (ls : List (List ℕ)) → All Line (l ∷ ls) → Headless o l ls → byLines o (l ∷ ls) .reply ≡ accepted
+  bic-headless : (z : limitsOf o .«max_names» ≡ 0) → isPresence o false ≡ true → (l : List ℕ) (ls : List (List ℕ)) → All Line (l ∷ ls) → Headless o l ls → byLines o (l ∷ ls) .reply ≡ accepted
       → (isTaken (limitsOf o .first) [] ≡ false) → Good (withBic 1 noHead (l ∷ ls)) (withOne o false [] l) (l ∷ ls)
   unfolding writtenLines nameLines
   bic-headless z i l ls h d e t =
@@ -226,7 +226,7 @@ module _ (o : PartyOption) where
         lines = to-bic o ls z refl;
       }
 
-  names-heading : (z : limitsOf o .names ≡ 0 → ⊥) → isPresence o true ≡ true → slashOf o ≡ slashBy (limitsOf o .first) → (l : List ℕ) (ls : List (List ℕ)) (d : Heading o l ls)
+  names-heading : (z : limitsOf o .«max_names» ≡ 0 → ⊥) → isPresence o true ≡ true → slashOf o ≡ slashBy (limitsOf o .first) → (l : List ℕ) (ls : List (List ℕ)) (d : Heading o l ls)
       → All Line (l ∷ ls) → byLines o (l ∷ ls) .reply ≡ accepted
       → Good (withNames o 2 (passedHead true (d .there .text)) ls) (withSome o true (usedOf (d .there .text) ∷ []) (map (kept (limitsOf o .numbering)) ls) (map (digitOf (limitsOf o .numbering)) ls)) (l ∷ ls)
   unfolding writtenLines
@@ -248,7 +248,7 @@ module _ (o : PartyOption) where
         lines = all-lines o (ap (λ (w : List ℕ). w ∷ ls) (sym (slash-is x l s (d .there .is))) ∙ ap (_∷_ (slashOf o ++ x)) (sym (written o ls (h .1) p)));
       }
 
-  names-headless : (z : limitsOf o .names ≡ 0 → ⊥) → isPresence o false ≡ true → (us : List Used) → every (isAccount o false) us ≡ true → (l : List ℕ) (ls : List (List ℕ))
+  names-headless : (z : limitsOf o .«max_names» ≡ 0 → ⊥) → isPresence o false ≡ true → (us : List Used) → every (isAccount o false) us ≡ true → (l : List ℕ) (ls : List (List ℕ))
       → All Line (l ∷ ls) → Headless o l ls → byLines o (l ∷ ls) .reply ≡ accepted
       → (NamesPass o (l ∷ ls) → isTaken (limitsOf o .first) (map usedOf (map (kept (limitsOf o .numbering)) (l ∷ ls))) ≡ false)
       → Good (withNames o 1 noHead (l ∷ ls)) (withSome o false us (map (kept (limitsOf o .numbering)) (l ∷ ls)) (map (digitOf (limitsOf o .numbering)) (l ∷ ls))) (l ∷ ls)
@@ -274,13 +274,13 @@ by-head o l ls a e {C} f g = go (headBy (limitsOf o .first) o l .present) refl
     go false p = g (headless o l ls e p)
 
 -- the second line is there
-second : (o : PartyOption) (h : Head) (ls : List (List ℕ)) {C : Type 0} → limitsOf o .names ≡ 0 → afterHead o 2 h ls .reply ≡ accepted
+second : (o : PartyOption) (h : Head) (ls : List (List ℕ)) {C : Type 0} → limitsOf o .«max_names» ≡ 0 → afterHead o 2 h ls .reply ≡ accepted
     → ((b : List ℕ) (rest : List (List ℕ)) → ls ≡ b ∷ rest → C) → C
 second o h [] z e f = absurd (refused≢accepted (bic-of o 2 h [] z e))
 second o h (b ∷ rest) z e f = f b rest refl
 
 abbrev pub GoodIn : PartyOption → List (List ℕ) → Found → Type 0
-GoodIn o ls f = Good f (saying o f) ls
+GoodIn o ls f = Good f (foundContent o f) ls
 
 named-not : (o : PartyOption) (l : List ℕ) (ls : List (List ℕ)) → limitsOf o .first ≡ NoAccount → Heading o l ls → ⊥
 named-not o l ls n d =
@@ -292,8 +292,8 @@ short-name : (l : List ℕ) (ls : List (List ℕ)) → NamesPass Field59NoOption
 short-name l ls p = omega (arith, p .each .0 .long, length-drop 1 l)
 
 module _ (l : List ℕ) (ls : List (List ℕ)) (h : All Line (l ∷ ls)) where
-  bic-there-good : (o : PartyOption) (z : limitsOf o .names ≡ 0) → isPresence o true ≡ true → slashOf o ≡ slashBy (limitsOf o .first)
-      → ((r : Reply) (x b : List ℕ) → saying o (record { reply = r; present = true; account = x; bic = b; names = []; digits = [] }) ≡ withOne o true x b)
+  bic-there-good : (o : PartyOption) (z : limitsOf o .«max_names» ≡ 0) → isPresence o true ≡ true → slashOf o ≡ slashBy (limitsOf o .first)
+      → ((r : Reply) (x b : List ℕ) → foundContent o (record { reply = r; present = true; account = x; bic = b; names = []; digits = [] }) ≡ withOne o true x b)
       → byLines o (l ∷ ls) .reply ≡ accepted → Heading o l ls → GoodIn o (l ∷ ls) (byLines o (l ∷ ls))
   bic-there-good o z i s same e d =
       let x = d .there .text in
@@ -301,34 +301,34 @@ module _ (l : List ℕ) (ls : List (List ℕ)) (h : All Line (l ∷ ls)) where
       second o (passedHead true x) ls z (ap (λ (f : Found). f .reply) (sym (d .found)) ∙ e)
       (λ b rest r.
       subst (GoodIn o (l ∷ ls)) (sym (q ∙ ap (withBic 2 (passedHead true x)) r))
-      (subst (λ (w : Said). Good (withBic 2 (passedHead true x) (b ∷ rest)) w (l ∷ ls)) (sym (same (parseBic 2 b) x b)) (bic-heading o z i s l ls d h e b rest r)))
+      (subst (λ (w : Content). Good (withBic 2 (passedHead true x) (b ∷ rest)) w (l ∷ ls)) (sym (same (parseBic 2 b) x b)) (bic-heading o z i s l ls d h e b rest r)))
 
-  bic-none-good : (o : PartyOption) (z : limitsOf o .names ≡ 0) → isPresence o false ≡ true → isTaken (limitsOf o .first) [] ≡ false
-      → ((r : Reply) (b : List ℕ) → saying o (record { reply = r; present = false; account = []; bic = b; names = []; digits = [] }) ≡ withOne o false [] b)
+  bic-none-good : (o : PartyOption) (z : limitsOf o .«max_names» ≡ 0) → isPresence o false ≡ true → isTaken (limitsOf o .first) [] ≡ false
+      → ((r : Reply) (b : List ℕ) → foundContent o (record { reply = r; present = false; account = []; bic = b; names = []; digits = [] }) ≡ withOne o false [] b)
       → byLines o (l ∷ ls) .reply ≡ accepted → Headless o l ls → GoodIn o (l ∷ ls) (byLines o (l ∷ ls))
   bic-none-good o z i t same e d =
       let q : byLines o (l ∷ ls) ≡ withBic 1 noHead (l ∷ ls) = d .found ∙ rest-bic o refl 1 noHead (l ∷ ls) z in
       subst (GoodIn o (l ∷ ls)) (sym q)
-      (subst (λ (w : Said). Good (withBic 1 noHead (l ∷ ls)) w (l ∷ ls)) (sym (same (parseBic 1 l) l)) (bic-headless o z i l ls h d e t))
+      (subst (λ (w : Content). Good (withBic 1 noHead (l ∷ ls)) w (l ∷ ls)) (sym (same (parseBic 1 l) l)) (bic-headless o z i l ls h d e t))
 
-  names-there-good : (o : PartyOption) (z : limitsOf o .names ≡ 0 → ⊥) → isPresence o true ≡ true → slashOf o ≡ slashBy (limitsOf o .first)
-      → ((r : Reply) (x : List ℕ) (ns : List (List ℕ)) (ds : List ℕ) → saying o (record { reply = r; present = true; account = x; bic = []; names = ns; digits = ds }) ≡ withSome o true (usedOf x ∷ []) ns ds)
+  names-there-good : (o : PartyOption) (z : limitsOf o .«max_names» ≡ 0 → ⊥) → isPresence o true ≡ true → slashOf o ≡ slashBy (limitsOf o .first)
+      → ((r : Reply) (x : List ℕ) (ns : List (List ℕ)) (ds : List ℕ) → foundContent o (record { reply = r; present = true; account = x; bic = []; names = ns; digits = ds }) ≡ withSome o true (usedOf x ∷ []) ns ds)
       → byLines o (l ∷ ls) .reply ≡ accepted → Heading o l ls → GoodIn o (l ∷ ls) (byLines o (l ∷ ls))
   names-there-good o z i s same e d =
       let x = d .there .text in
       let q : byLines o (l ∷ ls) ≡ withNames o 2 (passedHead true x) ls = d .found ∙ rest-names o refl 2 (passedHead true x) ls z in
       subst (GoodIn o (l ∷ ls)) (sym q)
-      (subst (λ (w : Said). Good (withNames o 2 (passedHead true x) ls) w (l ∷ ls)) (sym (same (parseNameAndAddress o 2 ls) x (map (kept (limitsOf o .numbering)) ls) (map (digitOf (limitsOf o .numbering)) ls)))
+      (subst (λ (w : Content). Good (withNames o 2 (passedHead true x) ls) w (l ∷ ls)) (sym (same (parseNameAndAddress o 2 ls) x (map (kept (limitsOf o .numbering)) ls) (map (digitOf (limitsOf o .numbering)) ls)))
       (names-heading o z i s l ls d h e))
 
-  names-none-good : (o : PartyOption) (z : limitsOf o .names ≡ 0 → ⊥) → isPresence o false ≡ true → (us : List Used) → every (isAccount o false) us ≡ true
-      → ((r : Reply) (ns : List (List ℕ)) (ds : List ℕ) → saying o (record { reply = r; present = false; account = []; bic = []; names = ns; digits = ds }) ≡ withSome o false us ns ds)
+  names-none-good : (o : PartyOption) (z : limitsOf o .«max_names» ≡ 0 → ⊥) → isPresence o false ≡ true → (us : List Used) → every (isAccount o false) us ≡ true
+      → ((r : Reply) (ns : List (List ℕ)) (ds : List ℕ) → foundContent o (record { reply = r; present = false; account = []; bic = []; names = ns; digits = ds }) ≡ withSome o false us ns ds)
       → (None (limitsOf o .first) o l → NamesPass o (l ∷ ls) → isTaken (limitsOf o .first) (map usedOf (map (kept (limitsOf o .numbering)) (l ∷ ls))) ≡ false)
       → byLines o (l ∷ ls) .reply ≡ accepted → Headless o l ls → GoodIn o (l ∷ ls) (byLines o (l ∷ ls))
   names-none-good o z i us a same t e d =
       let q : byLines o (l ∷ ls) ≡ withNames o 1 noHead (l ∷ ls) = d .found ∙ rest-names o refl 1 noHead (l ∷ ls) z in
       subst (GoodIn o (l ∷ ls)) (sym q)
-      (subst (λ (w : Said). Good (withNames o 1 noHead (l ∷ ls)) w (l ∷ ls)) (sym (same (parseNameAndAddress o 1 (l ∷ ls)) (map (kept (limitsOf o .numbering)) (l ∷ ls)) (map (digitOf (limitsOf o .numbering)) (l ∷ ls))))
+      (subst (λ (w : Content). Good (withNames o 1 noHead (l ∷ ls)) w (l ∷ ls)) (sym (same (parseNameAndAddress o 1 (l ∷ ls)) (map (kept (limitsOf o .numbering)) (l ∷ ls)) (map (digitOf (limitsOf o .numbering)) (l ∷ ls))))
       (names-headless o z i us a l ls h d e (t (d .none))))
 
   -- the options whose bodies are lines

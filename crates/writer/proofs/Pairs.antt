@@ -10,7 +10,7 @@ use lib.Seq.{take-length}
 use borrow.Author.Tests.{le-leb, lt-leb}
 use Rattle.errors.specs.Refusals.{must}
 use Rattle.party.specs.Text.{padded, textOf}
-use Rattle.party.specs.Party.{blank, Said, said}
+use Rattle.party.specs.Party.{blank, Content, content}
 use Rattle.field_utils.specs.Names.{parseLines, parseNameAndAddress}
 use Rattle.writer.specs.Writing.{nameLines, writtenField, fieldMost, put}
 use Rattle.writer.specs.Given.{areNames, isGiven}
@@ -24,11 +24,11 @@ pub put-start : (buffer text : List ℕ) → put buffer 0 text ≡ text ++ drop 
 put-start buffer text = rw (take-length text, zero-add (length text))
 
 -- the blank record is not given
-pub blank-not : isGiven (said blank) ≡ false
-unfolding textOf padded said isGiven areNames nameLines parseNameAndAddress parseLines
+pub blank-not : isGiven (content blank) ≡ false
+unfolding textOf padded content isGiven areNames nameLines parseNameAndAddress parseLines
 blank-not = refl
 
-module _ (s : Said) where
+module _ (s : Content) where
   abbrev field : List ℕ
   field = writtenField s
 

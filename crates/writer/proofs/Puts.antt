@@ -9,7 +9,7 @@ use mathlib.Core.Bool.{true, false}
 use borrow.Author.Tests.{le-leb, lt-leb}
 use lib.ListN.{length, take, drop, set, length-append}
 use lib.Seq.{paste, set-split, append-snoc, take-length, take-paste, drop-paste, drop-drop, length-paste, paste-zero}
-use Rattle.flat.proofs.Stores.{stores, stores-paste}
+use Rattle.record_bytes.proofs.Stores.{stores, stores-paste}
 use Rattle.writer.specs.Writing.{put, fits, placed}
 use Rattle.writer.specs.Code.{Puts}
 

@@ -13,7 +13,7 @@ use Rattle.party.specs.declared.Text.{Text}
 use Rattle.party.specs.declared.Party.{Party}
 use Rattle.party.specs.Limits.{limitsOf}
 use Rattle.party.specs.Text.{Used, used}
-use Rattle.party.specs.Party.{said, where-limit, namesOf}
+use Rattle.party.specs.Party.{content, where-limit, namesOf}
 use Rattle.party.specs.declared.Numbering.{Numbering}
 use Rattle.party.specs.declared.Numbering.the-variants.{Unnumbered, Numbered, InTurn}
 use Rattle.party.specs.declared.First.the-variants.{Account, ShortAccount, AnyAccount}
@@ -29,7 +29,7 @@ use Rattle.writer.specs.Writing.{numberOf, nameLines}
 use Rattle.writer.specs.Given.{passes, every, isLine, textReply, isPresence, isBic, areNames, isTaken, isGiven}
 use Rattle.writer.specs.Code.{lineReply, numberIn, isName, allNames, headTest, namesPass, countTest, textsTest, slashName}
 use Rattle.writer.proofs.Texts.{all-plain}
-use Rattle.writer.proofs.Names.{said-names, said-lines}
+use Rattle.writer.proofs.Names.{content-names, content-lines}
 use Rattle.writer.proofs.NamePasses.{passed, written-length}
 
 pub passes-then : (r s : Reply) → passes (r then s) ≡ (passes r && passes s)
@@ -156,7 +156,7 @@ pub names-alike : (o : PartyOption) (count : ℕ) (ds es : List ℕ) (us : List 
 unfolding areNames
 names-alike o count ds es us e =
     ap
-    (λ (ls : List (List ℕ)). eqb (length us) count && every isLine us && elim (eqb (limitsOf o .names) 0) [ true ↦ true | false ↦ passes (parseNameAndAddress o 1 ls) ])
+    (λ (ls : List (List ℕ)). eqb (length us) count && every isLine us && elim (eqb (limitsOf o .«max_names») 0) [ true ↦ true | false ↦ passes (parseNameAndAddress o 1 ls) ])
     e
 
 module _ (o : PartyOption) (count : ℕ) (ds : List ℕ) (us : List Used) where
@@ -165,22 +165,22 @@ module _ (o : PartyOption) (count : ℕ) (ds : List ℕ) (us : List Used) where
   names-other h = rw (ne-eqb (length us) count h)
 
   module _ (e : length us ≡ count) where
-    pub names-unused : limitsOf o .names ≡ 0 → us ≡ [] → areNames o count ds us ≡ true
+    pub names-unused : limitsOf o .«max_names» ≡ 0 → us ≡ [] → areNames o count ds us ≡ true
     unfolding areNames
-    names-unused z none = rw (eq-eqb (length us) count e, eq-eqb (limitsOf o .names) 0 z, areNames) (rw none)
+    names-unused z none = rw (eq-eqb (length us) count e, eq-eqb (limitsOf o .«max_names») 0 z, areNames) (rw none)
 
     pub names-used :
-        (limitsOf o .names ≡ 0 → ⊥) →
-        areNames o count ds us ≡ (allNames (limitsOf o .numbering) (limitsOf o .name) 1 ds us && passes (parseCount (limitsOf o .names) (length us)))
+        (limitsOf o .«max_names» ≡ 0 → ⊥) →
+        areNames o count ds us ≡ (allNames (limitsOf o .numbering) (limitsOf o .«name_max») 1 ds us && passes (parseCount (limitsOf o .«max_names») (length us)))
     unfolding areNames parseNameAndAddress
     names-used h =
         let f = limitsOf o .numbering in
         let ls = nameLines f ds us in
-        let lines = parseLines f (limitsOf o .name) 1 1 ls in
-        rw (eq-eqb (length us) count e, ne-eqb (limitsOf o .names) 0 h, areNames)
-        (ap (λ (b : Bool). every isLine us && b) (passes-then lines (parseCount (limitsOf o .names) (length ls)))
-        ∙ sym (and-assoc (every isLine us) (passes lines) (passes (parseCount (limitsOf o .names) (length ls))))
-        ∙ rw (lines-all f (limitsOf o .name) 1 ds us, written-length f ds us))
+        let lines = parseLines f (limitsOf o .«name_max») 1 1 ls in
+        rw (eq-eqb (length us) count e, ne-eqb (limitsOf o .«max_names») 0 h, areNames)
+        (ap (λ (b : Bool). every isLine us && b) (passes-then lines (parseCount (limitsOf o .«max_names») (length ls)))
+        ∙ sym (and-assoc (every isLine us) (passes lines) (passes (parseCount (limitsOf o .«max_names») (length ls))))
+        ∙ rw (lines-all f (limitsOf o .«name_max») 1 ds us, written-length f ds us))
 
 pub taken-account : (us : List Used) → isTaken Account us ≡ slashName us
 taken-account [] = refl
@@ -195,19 +195,19 @@ unfolding allNames
 no-more f longest k ds e = rw e
 
 -- ---- the record
-no-count : (p : Party) → p .count ≡ 0 → said p .names ≡ []
-unfolding said
-no-count p e = go (ltb 0 (limitsOf (p .option) .names))
+no-count : (p : Party) → p .count ≡ 0 → content p .names ≡ []
+unfolding content
+no-count p e = go (ltb 0 (limitsOf (p .option) .«max_names»))
   where
     go : (t : Bool) → _≡_ {A = List Used} (elim t as (λ x. List Used) [ true ↦ namesOf (p .count) p | false ↦ [] ]) []
     go true = rw e
     go false = refl
 
 pub none-pass : (p : Party) → p .count ≡ 0 → true ≡ namesPass p
-none-pass p e = sym (no-more (limitsOf (p .option) .numbering) (limitsOf (p .option) .name) 1 (p .digits) (no-count p e))
+none-pass p e = sym (no-more (limitsOf (p .option) .numbering) (limitsOf (p .option) .«name_max») 1 (p .digits) (no-count p e))
 
 abbrev pub namesTest : Party → Bool
-namesTest p = areNames (p .option) (p .count) (said p .digits) (said p .names)
+namesTest p = areNames (p .option) (p .count) (content p .digits) (content p .names)
 
 -- the test of names is that of their count and that of each
 module _ (p : Party) (four : length (p .«name_and_address») ≡ 4) where
@@ -215,31 +215,31 @@ module _ (p : Party) (four : length (p .«name_and_address») ≡ 4) where
   o = p .option
 
   abbrev us : List Used
-  us = said p .names
+  us = content p .names
 
   by-digits : namesTest p ≡ areNames o (p .count) (p .digits) us
   by-digits =
-      names-alike o (p .count) (said p .digits) (p .digits) us
-      (said-lines p four refl ∙ ap (nameLines (limitsOf o .numbering) (p .digits)) (sym (said-names p four refl)))
+      names-alike o (p .count) (content p .digits) (p .digits) us
+      (content-lines p four refl ∙ ap (nameLines (limitsOf o .numbering) (p .digits)) (sym (content-names p four refl)))
 
-  no-names : limitsOf o .names ≡ 0 → us ≡ []
-  unfolding said
+  no-names : limitsOf o .«max_names» ≡ 0 → us ≡ []
+  unfolding content
   no-names z = rw z
 
   names-parts : namesTest p ≡ (countTest p && namesPass p)
   names-parts = go (eqb (length us) (p .count)) refl
     where
-      passed : (e : length us ≡ p .count) (t : Bool) → eqb (limitsOf o .names) 0 ≡ t →
-          namesTest p ≡ (elim t as (λ x. Bool) [ true ↦ true | false ↦ passes (parseCount (limitsOf o .names) (length us)) ] && namesPass p)
+      passed : (e : length us ≡ p .count) (t : Bool) → eqb (limitsOf o .«max_names») 0 ≡ t →
+          namesTest p ≡ (elim t as (λ x. Bool) [ true ↦ true | false ↦ passes (parseCount (limitsOf o .«max_names») (length us)) ] && namesPass p)
       passed e true z =
           let none = no-names (eqb-true _ _ z) in
-          names-unused o (p .count) (said p .digits) us e (eqb-true _ _ z) none ∙ sym (no-more (limitsOf o .numbering) (limitsOf o .name) 1 (p .digits) none)
+          names-unused o (p .count) (content p .digits) us e (eqb-true _ _ z) none ∙ sym (no-more (limitsOf o .numbering) (limitsOf o .«name_max») 1 (p .digits) none)
       passed e false z =
-          by-digits ∙ names-used o (p .count) (p .digits) us e (eqb-false _ _ z) ∙ and-comm (namesPass p) (passes (parseCount (limitsOf o .names) (length us)))
+          by-digits ∙ names-used o (p .count) (p .digits) us e (eqb-false _ _ z) ∙ and-comm (namesPass p) (passes (parseCount (limitsOf o .«max_names») (length us)))
 
       go : (t : Bool) → eqb (length us) (p .count) ≡ t → namesTest p ≡ (countTest p && namesPass p)
-      go true e = passed (eqb-true _ _ e) (eqb (limitsOf o .names) 0) refl ∙ rw (e, countTest)
-      go false e = names-other o (p .count) (said p .digits) us (eqb-false _ _ e) ∙ rw (e, countTest)
+      go true e = passed (eqb-true _ _ e) (eqb (limitsOf o .«max_names») 0) refl ∙ rw (e, countTest)
+      go false e = names-other o (p .count) (content p .digits) us (eqb-false _ _ e) ∙ rw (e, countTest)
 
 -- the tests in the order of the code
 in-order : (a b c k f x : Bool) → (a && b && c && (k && f) && x) ≡ (a && c && k && (b && x && f))
@@ -253,26 +253,26 @@ in-order true true true true f x = and-comm f x
 
 module _ (o : PartyOption) (p : Party) where
   abbrev pub bicTest : Bool
-  bicTest = every isBic (where-limit (limitsOf o .bic) (used (p .bic) ∷ []))
+  bicTest = every isBic (where-limit (limitsOf o .«bic_count») (used (p .bic) ∷ []))
 
   -- the record's test by its parts
   pub given-by :
       {a b c d e : Bool} → o ≡ p .option → isPresence o (p .present) ≡ a → headTest o (p .present) p ≡ b → bicTest ≡ c → namesTest p ≡ d → p .present ≡ e →
-      (a && b && c && d && not (not e && isTaken (limitsOf o .first) (said p .names))) ≡ isGiven (said p)
-  unfolding isGiven said
+      (a && b && c && d && not (not e && isTaken (limitsOf o .first) (content p .names))) ≡ isGiven (content p)
+  unfolding isGiven content
   given-by is f g h i j = rw (← f, ← g, ← h, ← i, ← j, is)
 
   -- as the code has it, by what the first of them say
   pub given-in-order :
       {a c k e : Bool} → length (p .«name_and_address») ≡ 4 → o ≡ p .option → isPresence o (p .present) ≡ a → bicTest ≡ c → countTest p ≡ k → p .present ≡ e →
-      (a && c && k && textsTest o e p) ≡ isGiven (said p)
+      (a && c && k && textsTest o e p) ≡ isGiven (content p)
   given-in-order {a} {c} {k} {e} four is f h i j =
       by e j ∙ given-by is f (ap (λ (b : Bool). headTest o b p) j) h (names-parts p four ∙ ap (λ (b : Bool). b && namesPass p) i) j
     where
-      by : (e : Bool) → p .present ≡ e → (a && c && k && textsTest o e p) ≡ (a && headTest o e p && c && (k && namesPass p) && not (not e && isTaken (limitsOf o .first) (said p .names)))
+      by : (e : Bool) → p .present ≡ e → (a && c && k && textsTest o e p) ≡ (a && headTest o e p && c && (k && namesPass p) && not (not e && isTaken (limitsOf o .first) (content p .names)))
       by true j = ap (λ (b : Bool). a && c && k && (b && namesPass p)) (sym (and-true (headTest o true p))) ∙ sym (in-order a (headTest o true p) c k (namesPass p) true)
-      by false j = sym (in-order a (headTest o false p) c k (namesPass p) (not (isTaken (limitsOf o .first) (said p .names))))
+      by false j = sym (in-order a (headTest o false p) c k (namesPass p) (not (isTaken (limitsOf o .first) (content p .names))))
 
   -- the test of texts where there is no account or identifier
-  pub bare-by : {a b : Bool} → headTest o false p ≡ a → isTaken (limitsOf o .first) (said p .names) ≡ b → (a && not b && namesPass p) ≡ textsTest o false p
+  pub bare-by : {a b : Bool} → headTest o false p ≡ a → isTaken (limitsOf o .first) (content p .names) ≡ b → (a && not b && namesPass p) ≡ textsTest o false p
   bare-by f g = rw (← f, ← g)

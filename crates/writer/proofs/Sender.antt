@@ -10,7 +10,7 @@ use Rattle.errors.proofs.Replies.{refused≢accepted}
 use Rattle.party.specs.declared.PartyOption.{PartyOption}
 use Rattle.party.specs.declared.PartyOption.the-variants.{Field50F}
 use Rattle.party.specs.declared.Numbering.the-variants.{Numbered}
-use Rattle.party.specs.Party.{Said}
+use Rattle.party.specs.Party.{Content}
 use Rattle.party.specs.Limits.{limitsOf}
 use Rattle.field_utils.specs.Lines.{lines, isEmpty}
 use Rattle.field_utils.specs.Identifier.{isNumbered}
@@ -19,10 +19,10 @@ use Rattle.reader.specs.Options.{afterHead, read, bodyReply, byLines}
 use Rattle.reader.proofs.Bodies.{body-passed}
 use Rattle.writer.specs.Writing.{writtenLines, joined, writtenBody}
 use Rattle.writer.specs.ReadBack.{lastEmpty, earlierCr}
-use Rattle.writer.specs.Sender.{readLines, Leads, saidOf, SenderLines, Keeps50F}
+use Rattle.writer.specs.Sender.{readLines, Leads, contentOf, SenderLines, Keeps50F}
 use Rattle.writer.proofs.Relined.{lines-are, lines-joined, relined-same}
 use Rattle.writer.proofs.NamePasses.{AllPass}
-use Rattle.writer.proofs.Sayings.{usedOf, saying}
+use Rattle.writer.proofs.Contents.{usedOf, foundContent}
 use Rattle.writer.proofs.Facts.{Facts, names-are}
 use Rattle.writer.proofs.Back.{Accepted, accepted-is, back-fits}
 
@@ -30,7 +30,7 @@ use Rattle.writer.proofs.Back.{Accepted, accepted-is, back-fits}
 pub sender-lines : (o : PartyOption) (body : List ℕ) → read o body .reply ≡ accepted → SenderLines o body
 sender-lines o body e =
     let a = accepted-is o body e in
-    subst (λ (s : Said). Leads o (writtenLines s) (readLines (limitsOf o .layout) body)) (sym (a .says)) (a .good .lines)
+    subst (λ (s : Content). Leads o (writtenLines s) (readLines (limitsOf o .layout) body)) (sym (a .says)) (a .good .lines)
 
 -- ---- 50F
 -- the last of numbered lines is not empty
@@ -51,7 +51,7 @@ unfolding afterHead
 found-digits [] = refl
 found-digits (l ∷ ls) = refl
 
-found-last : (ls : List (List ℕ)) → byLines Field50F ls .reply ≡ accepted → Facts (saying Field50F (byLines Field50F ls)) → lastEmpty (writtenLines (saying Field50F (byLines Field50F ls))) ≡ false
+found-last : (ls : List (List ℕ)) → byLines Field50F ls .reply ≡ accepted → Facts (foundContent Field50F (byLines Field50F ls)) → lastEmpty (writtenLines (foundContent Field50F (byLines Field50F ls))) ≡ false
 unfolding afterHead writtenLines
 found-last [] e h = absurd (refused≢accepted e)
 found-last (l ∷ ls) e h =
@@ -62,29 +62,29 @@ module _ (body : List ℕ) (e : read Field50F body .reply ≡ accepted) where
   a : Accepted Field50F body
   a = accepted-is Field50F body e
 
-  same-lines : writtenLines (saidOf Field50F body) ≡ lines body
+  same-lines : writtenLines (contentOf Field50F body) ≡ lines body
   same-lines =
       let s = sender-lines Field50F body e in
-      let ws = writtenLines (saidOf Field50F body) in
+      let ws = writtenLines (contentOf Field50F body) in
       sym (s .are ∙ ap (λ (rest : List (List ℕ)). ws ++ rest) (s .all (λ z. omega arith)) ∙ append-nil ws)
 
   last : lastEmpty (lines body) ≡ false
   last = ap lastEmpty (sym (sym (ap writtenLines (a .says)) ∙ same-lines)) ∙ found-last (lines body) (a .good .reply) (a .good .facts)
 
-  lines-again : earlierCr (lines body) ≡ false → lines (writtenBody (saidOf Field50F body)) ≡ lines body
+  lines-again : earlierCr (lines body) ≡ false → lines (writtenBody (contentOf Field50F body)) ≡ lines body
   unfolding writtenBody
   lines-again c = ap (λ (ls : List (List ℕ)). lines (joined ls)) same-lines ∙ lines-joined (lines body) (lines-are body) ∙ relined-same (lines body) last c
 
-  fits : bodyReply (writtenBody (saidOf Field50F body)) ≡ accepted
+  fits : bodyReply (writtenBody (contentOf Field50F body)) ≡ accepted
   fits =
-      ap (λ (s : Said). bodyReply (writtenBody s)) (a .says) ∙ back-fits Field50F _ _ _ (usedOf (byLines Field50F (lines body) .bic)) _ _ (a .good .facts)
+      ap (λ (s : Content). bodyReply (writtenBody s)) (a .says) ∙ back-fits Field50F _ _ _ (usedOf (byLines Field50F (lines body) .bic)) _ _ (a .good .facts)
 
   pub keeps-50F : Keeps50F body
   keeps-50F = record {
     lines = same-lines;
-    digits = ap (λ (s : Said). s .digits) (a .says) ∙ found-digits (lines body);
+    digits = ap (λ (s : Content). s .digits) (a .says) ∙ found-digits (lines body);
     again = λ c.
-        body-passed Field50F (writtenBody (saidOf Field50F body)) fits
+        body-passed Field50F (writtenBody (contentOf Field50F body)) fits
         ∙ ap (λ (ls : List (List ℕ)). giving (byLines Field50F ls .reply) (partyOf Field50F (byLines Field50F ls))) (lines-again c)
         ∙ sym (body-passed Field50F body (a .fits));
   }

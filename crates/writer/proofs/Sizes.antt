@@ -11,7 +11,7 @@ use Rattle.party.specs.declared.PartyOption.{PartyOption}
 use Rattle.party.specs.declared.PartyOption.the-variants.{Field59F}
 use Rattle.party.specs.Limits.{limitsOf, placeOf}
 use Rattle.party.specs.Text.{Used}
-use Rattle.party.specs.Party.{where-limit, Said}
+use Rattle.party.specs.Party.{where-limit, Content}
 use Rattle.party.specs.declared.Numbering.{Numbering}
 use Rattle.party.proofs.Options.{place-one, by-option}
 use Rattle.field_utils.specs.Names.{skipOf}
@@ -21,7 +21,7 @@ use Rattle.writer.specs.Writing.{slashOf, nameLines, headLines, writtenL
 use Rattle.writer.specs.Given.{every, isAccount, isBic, areNames}
 use Rattle.writer.proofs.Fields.{tag-most}
 use Rattle.writer.proofs.Relined.{weight, closed}
-use Rattle.writer.proofs.Sayings.{saidWith, bytesOf}
+use Rattle.writer.proofs.Contents.{contentWith, bytesOf}
 use Rattle.writer.proofs.NamePasses.{AllPass}
 use Rattle.writer.proofs.HeadPasses.{extraOf, text-length}
 use Rattle.writer.proofs.Facts.{Facts, names-are, account-passes, bic-passes}
@@ -33,7 +33,7 @@ weight-append (x ∷ xs) ys = let h = weight-append xs ys in omega arith
 
 -- ---- the most that each part weighs
 abbrev headMost : PartyOption → ℕ
-headMost o = suc (length (slashOf o) + limitsOf o .longest + extraOf (limitsOf o .first))
+headMost o = suc (length (slashOf o) + limitsOf o .«account_max» + extraOf (limitsOf o .first))
 
 one-text : (limit : ℕ) (u : Used) → length (where-limit limit (u ∷ [])) ≤ 1
 one-text limit u = go (ltb 0 limit) refl
@@ -50,12 +50,12 @@ head-weight o true (u ∷ v ∷ us) n h = absurd (omega arith)
 head-weight o false us n h = omega arith
 
 abbrev bicMost : PartyOption → ℕ
-bicMost o = elim (ltb 0 (limitsOf o .bic)) [ true ↦ 12 | false ↦ 0 ]
+bicMost o = elim (ltb 0 (limitsOf o .«bic_count»)) [ true ↦ 12 | false ↦ 0 ]
 
-bic-weight : (o : PartyOption) (v : Used) → every isBic (where-limit (limitsOf o .bic) (v ∷ [])) ≡ true → weight (map bytesOf (where-limit (limitsOf o .bic) (v ∷ []))) ≤ bicMost o
-bic-weight o v h = go (ltb 0 (limitsOf o .bic)) refl
+bic-weight : (o : PartyOption) (v : Used) → every isBic (where-limit (limitsOf o .«bic_count») (v ∷ [])) ≡ true → weight (map bytesOf (where-limit (limitsOf o .«bic_count») (v ∷ []))) ≤ bicMost o
+bic-weight o v h = go (ltb 0 (limitsOf o .«bic_count»)) refl
   where
-    go : (t : Bool) → ltb 0 (limitsOf o .bic) ≡ t → weight (map bytesOf (where-limit (limitsOf o .bic) (v ∷ []))) ≤ bicMost o
+    go : (t : Bool) → ltb 0 (limitsOf o .«bic_count») ≡ t → weight (map bytesOf (where-limit (limitsOf o .«bic_count») (v ∷ []))) ≤ bicMost o
     go true e =
         let b : every isBic (v ∷ []) ≡ true = rw (e, where-limit) at h in
         rw (e, where-limit, bicMost) (omega (arith, bic-most 1 (v .bytes) (bic-passes v (both-left (isBic v) true b))))
@@ -67,7 +67,7 @@ times zero m = 0
 times (suc n) m = m + times n m
 
 abbrev namesMost : PartyOption → ℕ
-namesMost o = times (limitsOf o .names) (suc (limitsOf o .name + skipOf (limitsOf o .numbering)))
+namesMost o = times (limitsOf o .«max_names») (suc (limitsOf o .«name_max» + skipOf (limitsOf o .numbering)))
 
 lines-weight : (f : Numbering) (longest k n : ℕ) (ls : List (List ℕ)) → length ls ≤ n → AllPass f longest k ls → weight ls ≤ times n (suc (longest + skipOf f))
 lines-weight f longest k n [] h p = omega arith
@@ -75,17 +75,17 @@ lines-weight f longest k zero (l ∷ ls) h p = absurd (omega arith)
 lines-weight f longest k (suc n) (l ∷ ls) h p =
     omega (arith, lines-weight f longest (suc k) n ls (omega arith) (p .1), p .0 .long, length-drop (skipOf f) l)
 
-names-weight : (o : PartyOption) (count : ℕ) (ds : List ℕ) (us : List Used) → areNames o count ds (where-limit (limitsOf o .names) us) ≡ true
-    → weight (nameLines (limitsOf o .numbering) ds (where-limit (limitsOf o .names) us)) ≤ namesMost o
+names-weight : (o : PartyOption) (count : ℕ) (ds : List ℕ) (us : List Used) → areNames o count ds (where-limit (limitsOf o .«max_names») us) ≡ true
+    → weight (nameLines (limitsOf o .numbering) ds (where-limit (limitsOf o .«max_names») us)) ≤ namesMost o
 unfolding nameLines
-names-weight o count ds us h = go (eqb (limitsOf o .names) 0) refl
+names-weight o count ds us h = go (eqb (limitsOf o .«max_names») 0) refl
   where
-    go : (t : Bool) → eqb (limitsOf o .names) 0 ≡ t → weight (nameLines (limitsOf o .numbering) ds (where-limit (limitsOf o .names) us)) ≤ namesMost o
+    go : (t : Bool) → eqb (limitsOf o .«max_names») 0 ≡ t → weight (nameLines (limitsOf o .numbering) ds (where-limit (limitsOf o .«max_names») us)) ≤ namesMost o
     go true e = rw (names-none o us e) (omega arith)
     go false e =
-        let w = where-limit (limitsOf o .names) us in
+        let w = where-limit (limitsOf o .«max_names») us in
         let p = names-are o count ds w h .pass e in
-        lines-weight (limitsOf o .numbering) (limitsOf o .name) 1 (limitsOf o .names) (nameLines (limitsOf o .numbering) ds w) (p .most) (p .each)
+        lines-weight (limitsOf o .numbering) (limitsOf o .«name_max») 1 (limitsOf o .«max_names») (nameLines (limitsOf o .numbering) ds w) (p .most) (p .each)
 
 -- ---- together: by the table, 183, and 180 but for 59F
 table-183 : (o : PartyOption) → leb (headMost o + bicMost o + namesMost o) 183 ≡ true
@@ -115,9 +115,9 @@ unfolding joined
 joined-most [] n k = omega arith
 joined-most (l ∷ ls) n k = omega (arith, joined-length (l ∷ ls) (omega arith))
 
-module _ (o : PartyOption) (present : Bool) (count : ℕ) (u v : Used) (us : List Used) (ds : List ℕ) (h : Facts (saidWith o present count u v us ds)) where
-  abbrev S : Said
-  S = saidWith o present count u v us ds
+module _ (o : PartyOption) (present : Bool) (count : ℕ) (u v : Used) (us : List Used) (ds : List ℕ) (h : Facts (contentWith o present count u v us ds)) where
+  abbrev S : Content
+  S = contentWith o present count u v us ds
 
   parts : weight (writtenLines S) ≤ weight (headLines o present (S .account)) + bicMost o + namesMost o
   unfolding writtenLines
@@ -129,7 +129,7 @@ module _ (o : PartyOption) (present : Bool) (count : ℕ) (u v : Used) (us : Lis
       omega (arith, b, n, x, y)
 
   head-part : weight (headLines o present (S .account)) ≤ headMost o
-  head-part = head-weight o present (S .account) (one-text (limitsOf o .longest) u) (h .account)
+  head-part = head-weight o present (S .account) (one-text (limitsOf o .«account_max») u) (h .account)
 
   pub written-183 : weight (writtenLines S) ≤ 183
   written-183 = omega (arith, parts, head-part, leb-true (headMost o + bicMost o + namesMost o) 183 (table-183 o))

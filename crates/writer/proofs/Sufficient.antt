@@ -12,7 +12,7 @@ use Rattle.errors.proofs.Replies.{must-passes, then-passes}
 use Rattle.party.specs.declared.PartyOption.{PartyOption}
 use Rattle.party.specs.declared.Party.{Party}
 use Rattle.party.specs.Text.{used}
-use Rattle.party.specs.Party.{Said, said, namesOf, Same}
+use Rattle.party.specs.Party.{Content, content, namesOf, Same}
 use Rattle.party.specs.declared.Layout.{Layout}
 use Rattle.party.specs.declared.Layout.the-variants.{BicOnly, TextOnly, ByLines}
 use Rattle.party.specs.Limits.{limitsOf}
@@ -24,11 +24,11 @@ use Rattle.reader.proofs.Bodies.{body-passed}
 use Rattle.writer.specs.Writing.{writtenLines, joined}
 use Rattle.writer.specs.Given.{Given, isGiven}
 use Rattle.writer.proofs.Relined.{All, weight, closed, lines-closed}
-use Rattle.writer.proofs.Sayings.{saidWith, said-with, said-party}
+use Rattle.writer.proofs.Contents.{contentWith, content-with, content-party}
 use Rattle.writer.proofs.Ascii.{all-more}
 use Rattle.writer.proofs.Facts.{Facts, facts}
 use Rattle.writer.proofs.Written.{foundOf, Reads, written-found}
-use Rattle.writer.proofs.Witness.{Plain, saying-back, fitting, written-plain}
+use Rattle.writer.proofs.Witness.{Plain, found-content-back, fitting, written-plain}
 use Rattle.writer.proofs.Sizes.{written-183, closed-length, joined-most}
 
 -- ---- bodies of plain lines
@@ -55,7 +55,7 @@ bodyFor BicOnly ls = joined ls
 bodyFor TextOnly ls = joined ls
 bodyFor ByLines ls = closed ls
 
-bodyFor-found : (layout : Layout) (o : PartyOption) (s : Said) → Reads layout o s → All Plain (writtenLines s) → foundBy layout o (bodyFor layout (writtenLines s)) ≡ foundOf s
+bodyFor-found : (layout : Layout) (o : PartyOption) (s : Content) → Reads layout o s → All Plain (writtenLines s) → foundBy layout o (bodyFor layout (writtenLines s)) ≡ foundOf s
 unfolding bodyFor
 bodyFor-found BicOnly o s r h = r
 bodyFor-found TextOnly o s r h = r
@@ -74,11 +74,11 @@ read-found o body f b e r =
     body-passed o body b ∙ ap (λ (g : Found). giving (g .reply) (partyOf o g)) e ∙ ap (λ (w : Reply). giving w (partyOf o f)) r
 
 -- what a record says, by its parts
-abbrev pub parts : Party → Said
-parts p = saidWith (p .option) (p .present) (p .count) (used (p .account)) (used (p .bic)) (namesOf (p .count) p) (take (p .count) (p .digits))
+abbrev pub parts : Party → Content
+parts p = contentWith (p .option) (p .present) (p .count) (used (p .account)) (used (p .bic)) (namesOf (p .count) p) (take (p .count) (p .digits))
 
-pub given-facts : (p : Party) → isGiven (said p) ≡ true → Facts (parts p)
-given-facts p e = facts (parts p) (ap isGiven (sym (said-with p)) ∙ e)
+pub given-facts : (p : Party) → isGiven (content p) ≡ true → Facts (parts p)
+given-facts p e = facts (parts p) (ap isGiven (sym (content-with p)) ∙ e)
 
 -- a record in whose lines its option finds what it says is read from a body
 pub same-found : (p : Party) (body : List ℕ) → Facts (parts p) → bodyReply body ≡ accepted → foundBy (limitsOf (p .option) .layout) (p .option) body ≡ foundOf (parts p)
@@ -87,10 +87,10 @@ same-found p body h b e =
     let o = p .option in
     let r : read o body ≡ (record { reply = accepted; party = partyOf o (foundOf (parts p)) }) = read-found o body (foundOf (parts p)) b e refl in (
       ap (λ (w : Reading). w .reply) r,
-      ap (λ (w : Reading). said (w .party)) r ∙ said-party o (foundOf (parts p)) (fitting o _ _ _ _ _ _ h) ∙ saying-back o _ _ _ _ _ _ (omega (arith, length-take (p .count) (p .digits))) h ∙ sym (said-with p),
+      ap (λ (w : Reading). content (w .party)) r ∙ content-party o (foundOf (parts p)) (fitting o _ _ _ _ _ _ h) ∙ found-content-back o _ _ _ _ _ _ (omega (arith, length-take (p .count) (p .digits))) h ∙ sym (content-with p),
     )
 
-pub sufficient : (p : Party) → isGiven (said p) ≡ true → Given p
+pub sufficient : (p : Party) → isGiven (content p) ≡ true → Given p
 sufficient p e =
     let o = p .option in
     let s = parts p in

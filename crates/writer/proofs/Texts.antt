@@ -14,8 +14,8 @@ use Rattle.swift_utils.specs.Bytes.{all, among, legal}
 use Rattle.swift_utils.specs.Classes.{plain}
 use Rattle.field_utils.specs.Lines.{upto}
 use Rattle.reader.proofs.LineCounts.{among-found, among-none}
-use Rattle.flat.specs.Flat.{textSize, recordSize, textAt}
-use Rattle.flat.proofs.Laws.{text-length, text-bytes, text-size}
+use Rattle.record_bytes.specs.RecordBytes.{textSize, recordSize, textAt}
+use Rattle.record_bytes.proofs.Laws.{text-length, text-bytes, text-size}
 use Rattle.writer.specs.Given.{isLine}
 use Rattle.writer.specs.Code.{Uses}
 

@@ -12,7 +12,7 @@ use Rattle.errors.proofs.Replies.{must-held, then-first}
 use Rattle.party.specs.declared.PartyOption.{PartyOption}
 use Rattle.party.specs.Limits.{limitsOf}
 use Rattle.party.specs.Text.{Used}
-use Rattle.party.specs.Party.{where-limit, where-numbered, Said}
+use Rattle.party.specs.Party.{where-limit, where-numbered, Content}
 use Rattle.party.specs.declared.Numbering.{Numbering}
 use Rattle.party.specs.declared.Numbering.the-variants.{Unnumbered, Numbered, InTurn}
 use Rattle.party.proofs.Options.{by-option}
@@ -25,7 +25,7 @@ use Rattle.reader.specs.Options.{ascii}
 use Rattle.writer.specs.Writing.{slashOf, nameLines, headLines, writtenLines}
 use Rattle.writer.specs.Given.{every, isLine, isAccount, isBic, areNames}
 use Rattle.writer.proofs.Relined.{All}
-use Rattle.writer.proofs.Sayings.{saidWith, usedOf, bytesOf, Short, Fitting, saying, line-used, line-free, lines-used}
+use Rattle.writer.proofs.Contents.{contentWith, usedOf, bytesOf, Short, Fitting, foundContent, line-used, line-free, lines-used}
 use Rattle.writer.proofs.NamePasses.{Passes, AllPass, kept-short, kept-written, written-length, written-lines, digits-back}
 use Rattle.writer.proofs.Ascii.{digit-ascii, all-legal, text-ascii, bic-ascii}
 use Rattle.writer.proofs.HeadPasses.{text-length, extra-most}
@@ -80,35 +80,35 @@ where-twice limit us = go (ltb 0 limit) refl
     go false e = where-no limit _ e ∙ sym (where-no limit _ e)
 
 -- an option without names has no digits
-nameless-digits : (o : PartyOption) → limitsOf o .names ≡ 0 → (ds es : List ℕ) → where-numbered (limitsOf o .numbering) es ≡ where-numbered (limitsOf o .numbering) ds
+nameless-digits : (o : PartyOption) → limitsOf o .«max_names» ≡ 0 → (ds es : List ℕ) → where-numbered (limitsOf o .numbering) es ≡ where-numbered (limitsOf o .numbering) ds
 nameless-digits =
-    by-option (λ (o : PartyOption). limitsOf o .names ≡ 0 → (ds es : List ℕ) → where-numbered (limitsOf o .numbering) es ≡ where-numbered (limitsOf o .numbering) ds)
+    by-option (λ (o : PartyOption). limitsOf o .«max_names» ≡ 0 → (ds es : List ℕ) → where-numbered (limitsOf o .numbering) es ≡ where-numbered (limitsOf o .numbering) ds)
     (λ z ds es. refl) (λ z ds es. refl) (λ z ds es. absurd (omega arith)) (λ z ds es. refl) (λ z ds es. refl) (λ z ds es. refl) (λ z ds es. refl) (λ z ds es. refl)
     (λ z ds es. refl) (λ z ds es. refl) (λ z ds es. refl)
 
 -- the digits of its lines
 digits-found : (o : PartyOption) (count : ℕ) (ds : List ℕ) (us : List Used) → length ds ≤ count → areNames o count (where-numbered (limitsOf o .numbering) ds) us ≡ true
     → let f = limitsOf o .numbering in where-numbered f (map (digitOf f) (nameLines f (where-numbered f ds) us)) ≡ where-numbered f ds
-digits-found o count ds us few h = go (eqb (limitsOf o .names) 0) refl
+digits-found o count ds us few h = go (eqb (limitsOf o .«max_names») 0) refl
   where
-    go : (t : Bool) → eqb (limitsOf o .names) 0 ≡ t → let f = limitsOf o .numbering in where-numbered f (map (digitOf f) (nameLines f (where-numbered f ds) us)) ≡ where-numbered f ds
+    go : (t : Bool) → eqb (limitsOf o .«max_names») 0 ≡ t → let f = limitsOf o .numbering in where-numbered f (map (digitOf f) (nameLines f (where-numbered f ds) us)) ≡ where-numbered f ds
     go true e = nameless-digits o (eqb-true _ _ e) ds _
     go false e =
         let n = names-are o count (where-numbered (limitsOf o .numbering) ds) us h in
-        digits-back (limitsOf o .numbering) (limitsOf o .name) 1 ds us (omega (arith, n .counted)) (n .pass e .each)
+        digits-back (limitsOf o .numbering) (limitsOf o .«name_max») 1 ds us (omega (arith, n .counted)) (n .pass e .each)
 
 module _ (o : PartyOption) (present : Bool) (count : ℕ) (u v : Used) (us : List Used) (ds : List ℕ) where
-  abbrev S : Said
-  S = saidWith o present count u v us ds
+  abbrev S : Content
+  S = contentWith o present count u v us ds
 
-  pub saying-back : length ds ≤ count → Facts S → saying o (foundOf S) ≡ S
-  saying-back few h =
+  pub found-content-back : length ds ≤ count → Facts S → foundContent o (foundOf S) ≡ S
+  found-content-back few h =
       let n = names-are o count (S .digits) (S .names) (h .names) in
       let c : length (map bytesOf (S .names)) ≡ count = length-map (S .names) bytesOf ∙ n .counted in
-      let a = account-back o present (limitsOf o .longest) u (h .account) in
-      let b = bic-back (limitsOf o .bic) v (bic-lines (S .bic) (h .bic)) in
-      let m : where-limit (limitsOf o .names) (map usedOf (map bytesOf (S .names))) ≡ S .names =
-      ap (where-limit (limitsOf o .names)) (lines-used (S .names) (n .lines)) ∙ where-twice (limitsOf o .names) us in
+      let a = account-back o present (limitsOf o .«account_max») u (h .account) in
+      let b = bic-back (limitsOf o .«bic_count») v (bic-lines (S .bic) (h .bic)) in
+      let m : where-limit (limitsOf o .«max_names») (map usedOf (map bytesOf (S .names))) ≡ S .names =
+      ap (where-limit (limitsOf o .«max_names»)) (lines-used (S .names) (n .lines)) ∙ where-twice (limitsOf o .«max_names») us in
       let d = digits-found o count ds (S .names) few (h .names) in
       λ i. record { option = o; present = present; count = c i; account = a i; bic = b i; names = m i; digits = d i }
 
@@ -133,28 +133,28 @@ bic-short [] h = omega arith
 bic-short (u ∷ us) h = omega (arith, bic-most 1 (u .bytes) (bic-passes u (both-left _ _ h)))
 
 -- where an option has no names there are none
-pub names-none : (o : PartyOption) (us : List Used) → eqb (limitsOf o .names) 0 ≡ true → where-limit (limitsOf o .names) us ≡ []
-names-none o us e = where-no (limitsOf o .names) us (le-ltb 0 (limitsOf o .names) (omega (arith, eqb-true (limitsOf o .names) 0 e)))
+pub names-none : (o : PartyOption) (us : List Used) → eqb (limitsOf o .«max_names») 0 ≡ true → where-limit (limitsOf o .«max_names») us ≡ []
+names-none o us e = where-no (limitsOf o .«max_names») us (le-ltb 0 (limitsOf o .«max_names») (omega (arith, eqb-true (limitsOf o .«max_names») 0 e)))
 
-names-short : (o : PartyOption) (count : ℕ) (ds : List ℕ) (us : List Used) → areNames o count ds (where-limit (limitsOf o .names) us) ≡ true
-    → All Short (map bytesOf (where-limit (limitsOf o .names) us)) × (length (map bytesOf (where-limit (limitsOf o .names) us)) ≤ 4)
-names-short o count ds us h = go (eqb (limitsOf o .names) 0) refl
+names-short : (o : PartyOption) (count : ℕ) (ds : List ℕ) (us : List Used) → areNames o count ds (where-limit (limitsOf o .«max_names») us) ≡ true
+    → All Short (map bytesOf (where-limit (limitsOf o .«max_names») us)) × (length (map bytesOf (where-limit (limitsOf o .«max_names») us)) ≤ 4)
+names-short o count ds us h = go (eqb (limitsOf o .«max_names») 0) refl
   where
-    go : (t : Bool) → eqb (limitsOf o .names) 0 ≡ t → All Short (map bytesOf (where-limit (limitsOf o .names) us)) × (length (map bytesOf (where-limit (limitsOf o .names) us)) ≤ 4)
+    go : (t : Bool) → eqb (limitsOf o .«max_names») 0 ≡ t → All Short (map bytesOf (where-limit (limitsOf o .«max_names») us)) × (length (map bytesOf (where-limit (limitsOf o .«max_names») us)) ≤ 4)
     go true e = rw (names-none o us e) (tt, omega arith)
     go false e =
-        let w = where-limit (limitsOf o .names) us in
+        let w = where-limit (limitsOf o .«max_names») us in
         let p = names-are o count ds w h .pass e in
         let k : All Short (map (kept (limitsOf o .numbering)) (nameLines (limitsOf o .numbering) ds w)) =
-        kept-short (limitsOf o .numbering) (limitsOf o .name) 1 (nameLines (limitsOf o .numbering) ds w) (omega (arith, small o .name)) (p .each) in (
+        kept-short (limitsOf o .numbering) (limitsOf o .«name_max») 1 (nameLines (limitsOf o .numbering) ds w) (omega (arith, small o .name)) (p .each) in (
           subst (All Short) (kept-written (limitsOf o .numbering) ds w) k,
           omega (arith, length-map w bytesOf, written-length (limitsOf o .numbering) ds w, p .most, small o .names),
         )
 
-pub fitting : (o : PartyOption) (present : Bool) (count : ℕ) (u v : Used) (us : List Used) (ds : List ℕ) → Facts (saidWith o present count u v us ds)
-    → Fitting (foundOf (saidWith o present count u v us ds))
+pub fitting : (o : PartyOption) (present : Bool) (count : ℕ) (u v : Used) (us : List Used) (ds : List ℕ) → Facts (contentWith o present count u v us ds)
+    → Fitting (foundOf (contentWith o present count u v us ds))
 fitting o present count u v us ds h =
-    let s = saidWith o present count u v us ds in
+    let s = contentWith o present count u v us ds in
     let f = limitsOf o .numbering in
     let n = names-short o count (s .digits) us (h .names) in
     let d = length-map (nameLines f (s .digits) (s .names)) (digitOf f) ∙ written-length f (s .digits) (s .names) ∙ sym (length-map (s .names) bytesOf) in
@@ -212,25 +212,25 @@ names-plain f longest k [] h p = tt
 names-plain f longest k (l ∷ ls) h p = (record { line = h .0; bytes = pass-ascii f longest k l (p .0) }, names-plain f longest (suc k) ls (h .1) (p .1))
 
 -- names of an option, whether it has some or not
-names-all : (o : PartyOption) (count : ℕ) (ds : List ℕ) (us : List Used) → areNames o count ds (where-limit (limitsOf o .names) us) ≡ true
-    → All Plain (nameLines (limitsOf o .numbering) ds (where-limit (limitsOf o .names) us))
+names-all : (o : PartyOption) (count : ℕ) (ds : List ℕ) (us : List Used) → areNames o count ds (where-limit (limitsOf o .«max_names») us) ≡ true
+    → All Plain (nameLines (limitsOf o .numbering) ds (where-limit (limitsOf o .«max_names») us))
 unfolding nameLines
-names-all o count ds us h = go (eqb (limitsOf o .names) 0) refl
+names-all o count ds us h = go (eqb (limitsOf o .«max_names») 0) refl
   where
-    go : (t : Bool) → eqb (limitsOf o .names) 0 ≡ t → All Plain (nameLines (limitsOf o .numbering) ds (where-limit (limitsOf o .names) us))
+    go : (t : Bool) → eqb (limitsOf o .«max_names») 0 ≡ t → All Plain (nameLines (limitsOf o .numbering) ds (where-limit (limitsOf o .«max_names») us))
     go true e = rw (names-none o us e) tt
     go false e =
-        let w = where-limit (limitsOf o .names) us in
+        let w = where-limit (limitsOf o .«max_names») us in
         let n = names-are o count ds w h in
         let each = n .pass e .each in
-        names-plain (limitsOf o .numbering) (limitsOf o .name) 1 (nameLines (limitsOf o .numbering) ds w)
-        (written-lines (limitsOf o .numbering) (limitsOf o .name) 1 ds w (n .lines) each) each
+        names-plain (limitsOf o .numbering) (limitsOf o .«name_max») 1 (nameLines (limitsOf o .numbering) ds w)
+        (written-lines (limitsOf o .numbering) (limitsOf o .«name_max») 1 ds w (n .lines) each) each
 
-pub written-plain : (o : PartyOption) (present : Bool) (count : ℕ) (u v : Used) (us : List Used) (ds : List ℕ) → Facts (saidWith o present count u v us ds)
-    → All Plain (writtenLines (saidWith o present count u v us ds))
+pub written-plain : (o : PartyOption) (present : Bool) (count : ℕ) (u v : Used) (us : List Used) (ds : List ℕ) → Facts (contentWith o present count u v us ds)
+    → All Plain (writtenLines (contentWith o present count u v us ds))
 unfolding writtenLines
 written-plain o present count u v us ds h =
-    let s = saidWith o present count u v us ds in
+    let s = contentWith o present count u v us ds in
     all-append Plain (headLines o present (s .account) ++ map bytesOf (s .bic)) _
     (all-append Plain (headLines o present (s .account)) _ (head-plain o present (s .account) (h .account)) (bic-plain (s .bic) (h .bic)))
     (names-all o count (s .digits) us (h .names))

@@ -13,7 +13,7 @@ use Rattle.party.specs.declared.PartyOption.{PartyOption}
 use Rattle.party.specs.declared.PartyOption.the-variants.{Field50NoOption, Field50A, Field50F, Field50K, Field50C, Field50L, Field50G, Field50H, Field59NoOption, Field59A, Field59F}
 use Rattle.party.specs.Limits.{limitsOf}
 use Rattle.party.specs.Text.{Used}
-use Rattle.party.specs.Party.{Said}
+use Rattle.party.specs.Party.{Content}
 use Rattle.party.specs.declared.Numbering.the-variants.{Unnumbered}
 use Rattle.party.specs.declared.First.the-variants.{Identified, Account, ShortAccount}
 use Rattle.party.specs.declared.Layout.{Layout}
@@ -32,7 +32,7 @@ use Rattle.reader.proofs.LineCounts.{counts-open}
 use Rattle.reader.proofs.Readings.{rest-bic, rest-names, text-line}
 use Rattle.writer.specs.Writing.{numberOf, nameLines, writtenLines, joined}
 use Rattle.writer.specs.Given.{every, isAccount, isBic, areNames, isTaken}
-use Rattle.writer.proofs.Sayings.{saidWith, bytesOf, line-free}
+use Rattle.writer.proofs.Contents.{contentWith, bytesOf, line-free}
 use Rattle.writer.proofs.NamePasses.{NamesPass, names-pass, written-length, kept-written}
 use Rattle.writer.proofs.HeadPasses.{slashBy, Heads, Free, head-made, none-made}
 use Rattle.writer.proofs.Facts.{Facts, names-are, account-line, account-passes, bic-passes, small}
@@ -46,7 +46,7 @@ abbrev pub accountBytes : Bool → List Used → List ℕ
 accountBytes true us = firstBytes us
 accountBytes false us = []
 
-abbrev pub foundOf : Said → Found
+abbrev pub foundOf : Content → Found
 foundOf s = record {
   reply = accepted;
   present = s .present;
@@ -92,13 +92,13 @@ module _ (o : PartyOption) where
   abbrev Counted : ℕ → Type 0
   Counted n = isCounted o n ≡ true
 
-  bic-there : limitsOf o .names ≡ 0 → (l x : List ℕ) (v : Used) → headBy (limitsOf o .first) o l ≡ passedHead true x → Counted 2 → isBic v ≡ true
+  bic-there : limitsOf o .«max_names» ≡ 0 → (l x : List ℕ) (v : Used) → headBy (limitsOf o .first) o l ≡ passedHead true x → Counted 2 → isBic v ≡ true
       → byLines o (l ∷ v .bytes ∷ []) ≡ record { reply = accepted; present = true; account = x; bic = v .bytes; names = []; digits = [] }
   bic-there z l x v e c b =
       head-there o l (v .bytes ∷ []) (sym e) c refl refl refl ∙ rest-bic o refl 2 (passedHead true x) (v .bytes ∷ []) z
       ∙ rw (bic-any 1 2 (v .bytes) (bic-passes v b))
 
-  bic-none : limitsOf o .names ≡ 0 → (v : Used) → headBy (limitsOf o .first) o (v .bytes) ≡ noHead → Counted 1 → isBic v ≡ true
+  bic-none : limitsOf o .«max_names» ≡ 0 → (v : Used) → headBy (limitsOf o .first) o (v .bytes) ≡ noHead → Counted 1 → isBic v ≡ true
       → byLines o (v .bytes ∷ []) ≡ record { reply = accepted; present = false; account = []; bic = v .bytes; names = []; digits = [] }
   bic-none z v e c b =
       head-none o (v .bytes) [] (sym e) c refl refl refl ∙ rest-bic o refl 1 noHead (v .bytes ∷ []) z ∙ rw (bic-passes v b)
@@ -113,7 +113,7 @@ module _ (o : PartyOption) where
     digits = map (digitOf (limitsOf o .numbering)) (nameLines (limitsOf o .numbering) ds us);
   }
 
-  names-there : (limitsOf o .names ≡ 0 → ⊥) → (l x ds : List ℕ) (us : List Used) → headBy (limitsOf o .first) o l ≡ passedHead true x → Counted (suc (length us))
+  names-there : (limitsOf o .«max_names» ≡ 0 → ⊥) → (l x ds : List ℕ) (us : List Used) → headBy (limitsOf o .first) o l ≡ passedHead true x → Counted (suc (length us))
       → NamesPass o (nameLines (limitsOf o .numbering) ds us) → byLines o (l ∷ nameLines (limitsOf o .numbering) ds us) ≡ named true x ds us
   unfolding named
   names-there z l x ds us e c p =
@@ -122,7 +122,7 @@ module _ (o : PartyOption) where
       ∙ rest-names o refl 2 (passedHead true x) ls z
       ∙ rw (names-pass o 2 ls p, kept-written (limitsOf o .numbering) ds us)
 
-  names-none : (limitsOf o .names ≡ 0 → ⊥) → (ds : List ℕ) (u : Used) (us : List Used) → Counted (suc (length us))
+  names-none : (limitsOf o .«max_names» ≡ 0 → ⊥) → (ds : List ℕ) (u : Used) (us : List Used) → Counted (suc (length us))
       → ((l : List ℕ) (ls : List (List ℕ)) → nameLines (limitsOf o .numbering) ds (u ∷ us) ≡ l ∷ ls → headBy (limitsOf o .first) o l ≡ noHead)
       → NamesPass o (nameLines (limitsOf o .numbering) ds (u ∷ us)) → byLines o (nameLines (limitsOf o .numbering) ds (u ∷ us)) ≡ named false [] ds (u ∷ us)
   unfolding named nameLines
@@ -134,7 +134,7 @@ module _ (o : PartyOption) where
       ∙ rw (names-pass o 1 (l ∷ ls) p, kept-written (limitsOf o .numbering) ds (u ∷ us))
 
   -- with names, by the test of them
-  module _ (z : limitsOf o .names ≡ 0 → ⊥) (count : ℕ) (ds : List ℕ) (us : List Used) (h : areNames o count ds us ≡ true) where
+  module _ (z : limitsOf o .«max_names» ≡ 0 → ⊥) (count : ℕ) (ds : List ℕ) (us : List Used) (h : areNames o count ds us ≡ true) where
     abbrev written : List (List ℕ)
     written = nameLines (limitsOf o .numbering) ds us
 
@@ -149,7 +149,7 @@ module _ (o : PartyOption) where
     true-names : (l x : List ℕ) → headBy (limitsOf o .first) o l ≡ passedHead true x → ((n : ℕ) → 1 ≤ n → n ≤ 4 → Counted (suc n)) → byLines o (l ∷ written) ≡ named true x ds us
     true-names l x e c = names-there z l x ds us e (c (length us) (few .0) (few .1)) pass
 
-  false-names : (limitsOf o .names ≡ 0 → ⊥) → (count : ℕ) (ds : List ℕ) (us : List Used) → areNames o count ds us ≡ true → ((n : ℕ) → 1 ≤ n → n ≤ 4 → Counted n)
+  false-names : (limitsOf o .«max_names» ≡ 0 → ⊥) → (count : ℕ) (ds : List ℕ) (us : List Used) → areNames o count ds us ≡ true → ((n : ℕ) → 1 ≤ n → n ≤ 4 → Counted n)
       → ((l : List ℕ) (ls : List (List ℕ)) → nameLines (limitsOf o .numbering) ds us ≡ l ∷ ls → NamesPass o (l ∷ ls) → Free (limitsOf o .first) o l)
       → byLines o (nameLines (limitsOf o .numbering) ds us) ≡ named false [] ds us
   unfolding nameLines
@@ -173,7 +173,7 @@ untaken-short [] h = refl
 untaken-short (u ∷ us) h = h
 
 -- the reading of the lines of a record, by the layout of its option
-abbrev pub Reads : Layout → PartyOption → Said → Type 0
+abbrev pub Reads : Layout → PartyOption → Content → Type 0
 Reads BicOnly o s = bicOnly (joined (writtenLines s)) ≡ foundOf s
 Reads TextOnly o s = textOnly o (joined (writtenLines s)) ≡ foundOf s
 Reads ByLines o s = byLines o (writtenLines s) ≡ foundOf s
@@ -182,8 +182,8 @@ one : (f : Used → Bool) (u : Used) → every f (u ∷ []) ≡ true → f u ≡
 one f u e = both-left (f u) true e
 
 module _ (count : ℕ) (u v : Used) (us : List Used) (ds : List ℕ) where
-  abbrev S : PartyOption → Bool → Said
-  S o present = saidWith o present count u v us ds
+  abbrev S : PartyOption → Bool → Content
+  S o present = contentWith o present count u v us ds
 
   abbrev Goal : PartyOption → Bool → Type 0
   Goal o present = Facts (S o present) → Reads (limitsOf o .layout) o (S o present)

@@ -11,12 +11,12 @@ use Rattle.party.specs.declared.Text.{Text}
 use Rattle.party.specs.declared.Party.{Party}
 use Rattle.party.specs.Limits.{limitsOf}
 use Rattle.party.specs.Text.{textMost, Used, used}
-use Rattle.party.specs.Party.{where-limit, said}
+use Rattle.party.specs.Party.{where-limit, content}
 use Rattle.party.specs.declared.Numbering.{Numbering}
 use Rattle.swift_utils.specs.Bytes.{among}
 use Rattle.field_utils.specs.Lines.{starts}
-use Rattle.field_utils.specs.Names.{skipOf, keptFrom, parseLine, parseCount}
-use Rattle.flat.specs.Flat.{recordSize, partyFrom}
+use Rattle.field_utils.specs.Names.{skipOf, droppedPrefix, parseLine, parseCount}
+use Rattle.record_bytes.specs.RecordBytes.{recordSize, partyFrom}
 use Rattle.writer.specs.Writing.{slashOf, numberOf, nameLines, put}
 use Rattle.writer.specs.Given.{passes, every, isLine, isAccount, isTaken}
 
@@ -52,11 +52,11 @@ led later (l ∷ ls) = (lead later ++ l) ++ led true ls
 
 -- whether an account or identifier is written
 abbrev pub hasHead : PartyOption → Bool → Bool
-hasHead o present = present && ltb 0 (limitsOf o .longest)
+hasHead o present = present && ltb 0 (limitsOf o .«account_max»)
 
 -- how many names are used
 abbrev pub nameCount : PartyOption → ℕ → ℕ
-nameCount o count = elim (ltb 0 (limitsOf o .names)) [ true ↦ min count 4 | false ↦ 0 ]
+nameCount o count = elim (ltb 0 (limitsOf o .«max_names»)) [ true ↦ min count 4 | false ↦ 0 ]
 
 -- an account or identifier, where it is written
 abbrev pub headOf : PartyOption → Bool → Used → List ℕ
@@ -65,11 +65,11 @@ headOf o false u = []
 
 -- a record's names as they are written
 abbrev pub namesOn : Bool → Party → List ℕ
-namesOn later p = led later (nameLines (limitsOf (p .option) .numbering) (said p .digits) (said p .names))
+namesOn later p = led later (nameLines (limitsOf (p .option) .numbering) (content p .digits) (content p .names))
 
 -- its BIC and its names; an option has at most one of the two
 abbrev pub restOn : Bool → Party → List ℕ
-restOn later p = led later (map (λ (u : Used). u .bytes) (said p .bic) ++ nameLines (limitsOf (p .option) .numbering) (said p .digits) (said p .names))
+restOn later p = led later (map (λ (u : Used). u .bytes) (content p .bic) ++ nameLines (limitsOf (p .option) .numbering) (content p .digits) (content p .names))
 
 -- whether a text without an LF passes
 abbrev pub lineReply : Reply → List ℕ → Bool
@@ -77,7 +77,7 @@ lineReply r x = not (among x 10) && passes r
 
 -- how many bytes of a name's text are its number: 59F's names are kept with it
 abbrev pub numberIn : Numbering → ℕ
-numberIn f = skipOf f - keptFrom f
+numberIn f = skipOf f - droppedPrefix f
 
 -- whether a text with a digit passes as the k-th name
 unfoldable pub isName : Numbering → ℕ → ℕ → ℕ → Used → Bool
@@ -90,22 +90,22 @@ allNames f longest k digits (u ∷ us) = isName f longest k (getD digits 0 0) u 
 
 -- whether a record's names pass as those of its option
 abbrev pub namesPass : Party → Bool
-namesPass p = allNames (limitsOf (p .option) .numbering) (limitsOf (p .option) .name) 1 (p .digits) (said p .names)
+namesPass p = allNames (limitsOf (p .option) .numbering) (limitsOf (p .option) .«name_max») 1 (p .digits) (content p .names)
 
 -- whether they are as many as the count says, and as many as the option may have
 abbrev pub countTest : Party → Bool
 countTest p =
-    let n = length (said p .names) in
-    eqb n (p .count) && elim (eqb (limitsOf (p .option) .names) 0) [ true ↦ true | false ↦ passes (parseCount (limitsOf (p .option) .names) n) ]
+    let n = length (content p .names) in
+    eqb n (p .count) && elim (eqb (limitsOf (p .option) .«max_names») 0) [ true ↦ true | false ↦ passes (parseCount (limitsOf (p .option) .«max_names») n) ]
 
 -- whether an account or identifier, that is there or not, passes as the option's, where it has one
 abbrev pub headTest : PartyOption → Bool → Party → Bool
-headTest o present p = every (isAccount o present) (where-limit (limitsOf o .longest) (used (p .account) ∷ []))
+headTest o present p = every (isAccount o present) (where-limit (limitsOf o .«account_max») (used (p .account) ∷ []))
 
 -- and the names pass with it
 abbrev pub textsTest : PartyOption → Bool → Party → Bool
 textsTest o true p = headTest o true p && namesPass p
-textsTest o false p = headTest o false p && not (isTaken (limitsOf o .first) (said p .names)) && namesPass p
+textsTest o false p = headTest o false p && not (isTaken (limitsOf o .first) (content p .names)) && namesPass p
 
 -- whether there is a first name, and it starts with `/`
 abbrev pub slashName : List Used → Bool

@@ -10,7 +10,7 @@ use Rattle.party.specs.declared.PartyOption.{PartyOption}
 use Rattle.party.specs.declared.Party.{Party}
 use Rattle.party.specs.Limits.{limitsOf}
 use Rattle.party.specs.Text.{Used}
-use Rattle.party.specs.Party.{Said, Same}
+use Rattle.party.specs.Party.{Content, Same}
 use Rattle.party.specs.declared.First.{First}
 use Rattle.party.specs.declared.First.the-variants.{NoAccount, Identified, Account, ShortAccount, SlashAccount, AnyAccount, WholeLine}
 use Rattle.swift_utils.specs.Bytes.{all, among}
@@ -44,7 +44,7 @@ isLine u = eqb (u .len) (length (u .bytes)) && not (among (u .bytes) 10)
 -- what the option's reader asks of an account or identifier; of 50H's bytes, that they are at most 127
 abbrev pub textReply : First → PartyOption → List ℕ → Reply
 textReply NoAccount o x = accountReply o x
-textReply Identified o x = identifierReply (limitsOf o .longest) 1 x
+textReply Identified o x = identifierReply (limitsOf o .«account_max») 1 x
 textReply Account o x = accountReply o x
 textReply ShortAccount o x = accountReply o x
 textReply SlashAccount o x = accountReply o x
@@ -58,8 +58,8 @@ isAccount o false u = eqb (u .len) 0 && isLine u
 
 -- there is one only where the option has one, and always in 50F, 50G, 50H and 50L, whose shortest has a byte
 abbrev pub isPresence : PartyOption → Bool → Bool
-isPresence o true = ltb 0 (limitsOf o .longest)
-isPresence o false = eqb (limitsOf o .shortest) 0
+isPresence o true = ltb 0 (limitsOf o .«account_max»)
+isPresence o false = eqb (limitsOf o .«account_min») 0
 
 -- a BIC
 abbrev pub isBic : Used → Bool
@@ -71,7 +71,7 @@ unfoldable pub areNames : PartyOption → ℕ → List ℕ → List Used → Boo
 areNames o count digits us =
     eqb (length us) count
     && every isLine us
-    && elim (eqb (limitsOf o .names) 0) [ true ↦ true | false ↦ passes (parseNameAndAddress o 1 (nameLines (limitsOf o .numbering) digits us)) ]
+    && elim (eqb (limitsOf o .«max_names») 0) [ true ↦ true | false ↦ passes (parseNameAndAddress o 1 (nameLines (limitsOf o .numbering) digits us)) ]
 
 -- 50K and 59 without an account: a first name with `/` would be taken for one
 abbrev pub isTaken : First → List Used → Bool
@@ -86,7 +86,7 @@ isTaken AnyAccount us = false
 isTaken WholeLine us = false
 
 -- the test for 22, of what a record says
-unfoldable pub isGiven : Said → Bool
+unfoldable pub isGiven : Content → Bool
 isGiven s =
     isPresence (s .option) (s .present)
     && every (isAccount (s .option) (s .present)) (s .account)

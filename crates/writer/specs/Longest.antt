@@ -7,7 +7,7 @@ use lib.ListN.{length, replicate}
 use Rattle.errors.specs.Refusals.{accepted}
 use Rattle.party.specs.declared.PartyOption.the-variants.{Field59F}
 use Rattle.party.specs.declared.Party.{Party}
-use Rattle.party.specs.Party.{said}
+use Rattle.party.specs.Party.{content}
 use Rattle.swift_utils.specs.Bytes.{bytes}
 use Rattle.reader.specs.Reading.{partyOf}
 use Rattle.writer.specs.Writing.{writtenField}
@@ -23,5 +23,5 @@ longest =
 pub record IsLongest (n : ℕ) : Type 0 where
   pub shown : Party
   pub given : Given shown
-  pub reached : length (writtenField (said shown)) ≡ n
-  pub most : (p : Party) → Given p → length (writtenField (said p)) ≤ n
+  pub reached : length (writtenField (content shown)) ≡ n
+  pub most : (p : Party) → Given p → length (writtenField (content p)) ≤ n

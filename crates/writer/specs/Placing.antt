@@ -4,7 +4,7 @@ use mathlib.Core.Path.{_≡_}
 use mathlib.Core.List.{List, _++_}
 use lib.ListN.{length, drop}
 use Rattle.errors.specs.Refusals.{Reply, accepted, refused, must, _then_, refusalOf}
-use Rattle.party.specs.Party.{Said}
+use Rattle.party.specs.Party.{Content}
 use Rattle.writer.specs.declared.Measured.{Measured as MeasuredAs}
 use Rattle.writer.specs.declared.Measured.the-variants.{Length, Refused}
 use Rattle.writer.specs.Writing.{writtenField, fieldMost, put, fits}
@@ -31,11 +31,11 @@ placing accepted text buffer = record { answer = measuring accepted text; buffer
 placing (refused k n) text buffer = record { answer = measuring (refused k n) text; buffer = buffer }
 
 -- measuring: 22, and no other
-unfoldable pub measure : Said → Measured
+unfoldable pub measure : Content → Measured
 measure s = measuring (must (isGiven s) 22 0) (writtenField s)
 
 -- placing: 22, then 24 where the field passes the buffer
-unfoldable pub place : Said → List ℕ → Placing
+unfoldable pub place : Content → List ℕ → Placing
 place s buffer = placing (must (isGiven s) 22 0 then must (fits buffer 0 (writtenField s)) 24 0) (writtenField s) buffer
 
 -- what the code's answer says
@@ -48,13 +48,13 @@ abbrev pub toldPlacing : MeasuredAs → List ℕ → Placing
 toldPlacing r buffer = record { answer = toldMeasured r; buffer = buffer }
 
 -- a length n that was measured: the field has n bytes; n bytes of space are enough, and the first n are the field then; fewer are 24
-pub record Space (s : Said) (n : ℕ) (buffer : List ℕ) : Type 0 where
+pub record Space (s : Content) (n : ℕ) (buffer : List ℕ) : Type 0 where
   pub exact : n ≡ length (writtenField s)
   pub enough : n ≤ length buffer → place s buffer ≡ record { answer = lengthIs n; buffer = writtenField s ++ drop n buffer }
   pub short : length buffer < n → place s buffer ≡ record { answer = refusedWith 24 0; buffer = buffer }
 
 -- the pair: what placing does in a buffer, by what measuring answers
-pub record Pair (s : Said) (buffer : List ℕ) : Type 0 where
+pub record Pair (s : Content) (buffer : List ℕ) : Type 0 where
   pub measured : {n : ℕ} → measure s ≡ lengthIs n → Space s n buffer
   -- a refusal to measure is 22, and that of placing, whatever the buffer
   pub unmeasured : {k l : ℕ} → measure s ≡ refusedWith k l → (k ≡ 22) × (l ≡ 0) × (place s buffer ≡ record { answer = refusedWith k l; buffer = buffer })

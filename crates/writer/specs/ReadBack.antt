@@ -7,7 +7,7 @@ use mathlib.Core.List.{List, [], _∷_}
 use lib.Dec.{eqb}
 use Rattle.errors.specs.Refusals.{accepted}
 use Rattle.party.specs.declared.Party.{Party}
-use Rattle.party.specs.Party.{Said, said, Same}
+use Rattle.party.specs.Party.{Content, content, Same}
 use Rattle.field_utils.specs.Lines.{isEmpty}
 use Rattle.reader.specs.Options.{read}
 use Rattle.writer.specs.Writing.{writtenBody, pieces}
@@ -31,10 +31,10 @@ earlierCr (l ∷ []) = false
 earlierCr (l ∷ m ∷ ls) = endsCr l || earlierCr (m ∷ ls)
 
 -- neither of the two
-unfoldable pub isReadBack : Said → Bool
+unfoldable pub isReadBack : Content → Bool
 isReadBack s = not (lastEmpty (pieces (writtenBody s))) && not (earlierCr (pieces (writtenBody s)))
 
 -- its written body is read as the same record
 pub record ReadsBack (p : Party) : Type 0 where
-  pub accepts : read (p .option) (writtenBody (said p)) .reply ≡ accepted
-  pub same : Same (read (p .option) (writtenBody (said p)) .party) p
+  pub accepts : read (p .option) (writtenBody (content p)) .reply ≡ accepted
+  pub same : Same (read (p .option) (writtenBody (content p)) .party) p

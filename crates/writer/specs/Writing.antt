@@ -8,7 +8,7 @@ use lib.Seq.{paste}
 use Rattle.party.specs.declared.PartyOption.{PartyOption}
 use Rattle.party.specs.declared.PartyOption.the-variants.{Field59F}
 use Rattle.party.specs.Text.{Used}
-use Rattle.party.specs.Party.{Said}
+use Rattle.party.specs.Party.{Content}
 use Rattle.party.specs.declared.Numbering.{Numbering}
 use Rattle.party.specs.declared.Numbering.the-variants.{Unnumbered, Numbered, InTurn}
 use Rattle.party.specs.Limits.{limitsOf, placeOf}
@@ -37,7 +37,7 @@ headLines o true us = map (λ (u : Used). slashOf o ++ u .bytes) us
 headLines o false us = []
 
 -- the written lines: account or identifier, BIC, names
-unfoldable pub writtenLines : Said → List (List ℕ)
+unfoldable pub writtenLines : Content → List (List ℕ)
 writtenLines s =
     headLines (s .option) (s .present) (s .account)
     ++ map (λ (u : Used). u .bytes) (s .bic)
@@ -50,11 +50,11 @@ joined (l ∷ []) = l
 joined (l ∷ m ∷ ls) = l ++ 10 ∷ joined (m ∷ ls)
 
 -- the written body: its lines with an LF between them
-unfoldable pub writtenBody : Said → List ℕ
+unfoldable pub writtenBody : Content → List ℕ
 writtenBody s = joined (writtenLines s)
 
 -- tag and body
-unfoldable pub writtenField : Said → List ℕ
+unfoldable pub writtenField : Content → List ℕ
 writtenField s = tagOf (s .option) ++ writtenBody s
 
 -- the longest written field is 187 bytes (document 02, Six); proofs/Theorems.antt has `written-most`
@@ -62,7 +62,7 @@ abbrev pub fieldMost : ℕ
 fieldMost = 187
 
 -- 59F with an identifier, the form whose field can pass 184 bytes (document 02, Six, 'this form'); `written-less` is of all others
-unfoldable pub identified59F : Said → Bool
+unfoldable pub identified59F : Content → Bool
 identified59F s = eqb (placeOf (s .option)) (placeOf Field59F) && s .present
 
 -- the pieces of a text between LFs ('written lines being the pieces of its written body between LFs')

@@ -2,20 +2,14 @@
 // for each option; here the parts are a tag, an account or identifier, a BIC and names, as the option has them.
 use errors::Outcome;
 use errors::ParseError;
+use field_utils::dropped_prefix;
 use field_utils::is_numbered_line;
-use field_utils::kept_from;
 use field_utils::lines::find_lf;
 use field_utils::lines::is_ascii;
 use field_utils::parse_count;
 use field_utils::parse_remaining;
 use field_utils::skip_of;
 use field_utils::starts_with_slash;
-use flat::DIGITS_AT;
-use flat::RECORD_SIZE;
-use flat::TEXT_SIZE;
-use flat::copies::copy;
-use flat::is_flat;
-use flat::store;
 use party::First;
 use party::Numbering;
 use party::Party;
@@ -24,6 +18,12 @@ use party::TEXT_MOST;
 use party::limits_of;
 use party::option_at;
 use reader::account_length;
+use record_bytes::DIGITS_AT;
+use record_bytes::RECORD_SIZE;
+use record_bytes::TEXT_SIZE;
+use record_bytes::copies::copy;
+use record_bytes::holds_record;
+use record_bytes::store;
 use swift_utils::DIGIT;
 use swift_utils::PLAIN;
 use swift_utils::all_in;
@@ -38,14 +38,14 @@ ghost use lib.ListN.{length, getD};
 ghost use Rattle.errors.specs.Refusals.{told};
 ghost use Rattle.party.specs.Limits.{limitsOf};
 ghost use Rattle.party.specs.Text.{textMost, used};
-ghost use Rattle.party.specs.Party.{said, where-limit};
+ghost use Rattle.party.specs.Party.{content, where-limit};
 ghost use Rattle.party.specs.declared.First.the-variants.{Identified, AnyAccount};
 ghost use Rattle.swift_utils.specs.Bytes.{among};
 ghost use Rattle.swift_utils.specs.Classes.{classTable};
 ghost use Rattle.field_utils.specs.Names.{parseNumber};
 ghost use Rattle.field_utils.specs.Tags.{tagOf};
 ghost use Rattle.reader.specs.Options.{accountReply};
-ghost use Rattle.flat.specs.Flat.{digitsAt, recordSize, textAt, partyFrom, unflatten};
+ghost use Rattle.record_bytes.specs.RecordBytes.{digitsAt, recordSize, textAt, partyFrom, decoded};
 ghost use Rattle.writer.specs.Writing.{slashOf, numberOf, writtenField, fits, placed};
 ghost use Rattle.writer.specs.Given.{passes, every, textReply, isPresence, isBic, isTaken, isGiven};
 ghost use Rattle.writer.specs.Placing.{measure as measureOf, place as placeIn, toldMeasured, toldPlacing};
@@ -90,7 +90,7 @@ fn name_count(option: PartyOption, count: usize) -> usize
     ensures { λ r. ⌜ r ≡ nameCount option count ⌝ }
 {
     let limits = limits_of(option);
-    if limits.names == 0 {
+    if limits.max_names == 0 {
         return 0;
     }
     if count < 4 { count } else { 4 }
@@ -109,7 +109,7 @@ fn has_head(option: PartyOption, present: bool) -> bool
     ensures { λ r. ⌜ r ≡ hasHead option present ⌝ }
 {
     let limits = limits_of(option);
-    if limits.longest == 0 {
+    if limits.account_max == 0 {
         return false;
     }
     present
@@ -150,7 +150,7 @@ fn names_length(record: &[u8], option: PartyOption, later: bool) -> usize
     let n = name_count(option, record[2] as usize);
     let limits = limits_of(option);
     let numbering = limits.numbering;
-    let mark = kept_from(numbering);
+    let mark = dropped_prefix(numbering);
     let mut after = later;
     let mut total = 0;
     let mut i = 0;
@@ -169,7 +169,7 @@ fn rest_length(record: &[u8], option: PartyOption, later: bool) -> usize
     ensures { λ r. ⌜ Counted 164 (restOn later (partyFrom (now («record» .entry)))) r ⌝ }
 {
     let limits = limits_of(option);
-    if limits.bic == 0 {
+    if limits.bic_count == 0 {
         return names_length(record, option, later);
     }
     let text = used_text(record, 1);
@@ -179,14 +179,14 @@ fn rest_length(record: &[u8], option: PartyOption, later: bool) -> usize
 // The length of the written field.
 fn written_length(record: &[u8], option: PartyOption) -> usize
     requires { ⌜ Lent (now «record») option ⌝ }
-    ensures { λ r. ⌜ r ≡ length (writtenField (said (partyFrom (now («record» .entry))))) ⌝ }
+    ensures { λ r. ⌜ r ≡ length (writtenField (content (partyFrom (now («record» .entry))))) ⌝ }
 {
     let later = has_head(option, record[1] == 1);
     tag_length(option) + head_length(record, option, later) + rest_length(record, option, later)
 }
 
 // Puts a slice into the buffer at a place, and gives the place after it, as each function with `Puts` in its contract does.
-fn put_bytes(buf: &mut [u8], at: usize, s: &[u8]) -> usize
+fn append_bytes(buf: &mut [u8], at: usize, s: &[u8]) -> usize
     requires { ⌜ at + length (now s) ≤ length (now buf) ⌝ }
     ensures { λ r. ⌜ Puts (now (buf .entry)) at (now (s .entry)) (now (buf .exit)) r ⌝ }
 {
@@ -244,7 +244,7 @@ fn put_line(
 {
     let start = put_lf(buf, at, later);
     let from = put_number(buf, start, numbering, digit);
-    put_bytes(buf, from, text)
+    append_bytes(buf, from, text)
 }
 
 // Puts the option's tag.
@@ -280,7 +280,13 @@ fn put_slash(buf: &mut [u8], at: usize, option: PartyOption) -> usize
 }
 
 // Puts an account or identifier, where it is written.
-fn put_head(buf: &mut [u8], at: usize, record: &[u8], option: PartyOption, written: bool) -> usize
+fn put_account(
+    buf: &mut [u8],
+    at: usize,
+    record: &[u8],
+    option: PartyOption,
+    written: bool,
+) -> usize
     requires { ⌜ recordSize ≤ length (now «record») ⌝ }
     requires { ⌜ at + length (headOf option written (used (partyFrom (now «record») .account))) ≤ length (now buf) ⌝ }
     ensures { λ r. ⌜ Puts (now (buf .entry)) at (headOf option written (used (partyFrom (now («record» .entry)) .account))) (now (buf .exit)) r ⌝ }
@@ -289,7 +295,7 @@ fn put_head(buf: &mut [u8], at: usize, record: &[u8], option: PartyOption, writt
         return at;
     }
     let from = put_slash(buf, at, option);
-    put_bytes(buf, from, used_text(record, 0))
+    append_bytes(buf, from, used_text(record, 0))
 }
 
 // Puts the names, each with the digit of its line where the option has it beside the name.
@@ -321,22 +327,22 @@ fn put_rest(buf: &mut [u8], at: usize, later: bool, record: &[u8], option: Party
     ensures { λ r. ⌜ Puts (now (buf .entry)) at (restOn later (partyFrom (now («record» .entry)))) (now (buf .exit)) r ⌝ }
 {
     let limits = limits_of(option);
-    if limits.bic == 0 {
+    if limits.bic_count == 0 {
         return put_names(buf, at, later, record, option);
     }
     let from = put_lf(buf, at, later);
-    put_bytes(buf, from, used_text(record, 1))
+    append_bytes(buf, from, used_text(record, 1))
 }
 
 // Puts the whole field.
 fn put_parts(buf: &mut [u8], at: usize, record: &[u8], option: PartyOption) -> usize
     requires { ⌜ Lent (now «record») option ⌝ }
-    requires { ⌜ at + length (writtenField (said (partyFrom (now «record»)))) ≤ length (now buf) ⌝ }
-    ensures { λ r. ⌜ Puts (now (buf .entry)) at (writtenField (said (partyFrom (now («record» .entry))))) (now (buf .exit)) r ⌝ }
+    requires { ⌜ at + length (writtenField (content (partyFrom (now «record»)))) ≤ length (now buf) ⌝ }
+    ensures { λ r. ⌜ Puts (now (buf .entry)) at (writtenField (content (partyFrom (now («record» .entry))))) (now (buf .exit)) r ⌝ }
 {
     let later = has_head(option, record[1] == 1);
     let head = put_tag(buf, at, option);
-    let rest = put_head(buf, head, record, option, later);
+    let rest = put_account(buf, head, record, option, later);
     put_rest(buf, rest, later, record, option)
 }
 
@@ -356,9 +362,9 @@ fn is_presence(option: PartyOption, present: bool) -> bool
 {
     let limits = limits_of(option);
     if present {
-        return 0 < limits.longest;
+        return 0 < limits.account_max;
     }
-    limits.shortest == 0
+    limits.account_min == 0
 }
 
 // Whether no byte is an LF.
@@ -404,7 +410,7 @@ fn is_identifier(option: PartyOption, text: &[u8]) -> bool
         return false;
     }
     let limits = limits_of(option);
-    is_accepted(parse_remaining(text, limits.longest, 1))
+    is_accepted(parse_remaining(text, limits.account_max, 1))
 }
 
 // Whether the option's reader takes a line for an account or identifier.
@@ -427,7 +433,7 @@ fn is_account(record: &[u8], option: PartyOption, classes: &[u8; 256]) -> bool
     ensures { λ r. ⌜ r ≡ headTest option true (partyFrom (now («record» .entry))) ⌝ }
 {
     let limits = limits_of(option);
-    if limits.longest == 0 {
+    if limits.account_max == 0 {
         return true;
     }
     if !is_whole(record, 0) {
@@ -442,7 +448,7 @@ fn is_no_account(record: &[u8], option: PartyOption) -> bool
     ensures { λ r. ⌜ r ≡ headTest option false (partyFrom (now («record» .entry))) ⌝ }
 {
     let limits = limits_of(option);
-    if limits.longest == 0 {
+    if limits.account_max == 0 {
         return true;
     }
     record[3] == 0
@@ -451,10 +457,10 @@ fn is_no_account(record: &[u8], option: PartyOption) -> bool
 // Whether the BIC, where the option has one, is one. A BIC has no LF.
 fn is_bic(record: &[u8], option: PartyOption) -> bool
     requires { ⌜ recordSize ≤ length (now «record») ⌝ }
-    ensures { λ r. ⌜ r ≡ every isBic (where-limit (limitsOf option .bic) (used (partyFrom (now («record» .entry)) .bic) ∷ [])) ⌝ }
+    ensures { λ r. ⌜ r ≡ every isBic (where-limit (limitsOf option .«bic_count») (used (partyFrom (now («record» .entry)) .bic) ∷ [])) ⌝ }
 {
     let limits = limits_of(option);
-    if limits.bic == 0 {
+    if limits.bic_count == 0 {
         return true;
     }
     if !is_whole(record, 1) {
@@ -493,7 +499,7 @@ fn is_in_turn(
 fn number_length(numbering: Numbering) -> usize
     ensures { λ r. ⌜ r ≡ numberIn numbering ⌝ }
 {
-    skip_of(numbering) - kept_from(numbering)
+    skip_of(numbering) - dropped_prefix(numbering)
 }
 
 // Whether a name of a lent record, by its place from 0 on, is one of an option with such names, as its reader gives them.
@@ -531,7 +537,7 @@ fn all_names(record: &[u8], option: PartyOption, classes: &[u8; 256]) -> bool
     let n = name_count(option, record[2] as usize);
     let mut i = 0;
     while i < n {
-        if !is_name(record, i, numbering, limits.name, classes) {
+        if !is_name(record, i, numbering, limits.name_max, classes) {
             return false;
         }
         i += 1;
@@ -550,16 +556,16 @@ fn is_counted(record: &[u8], option: PartyOption) -> bool
     if n != count {
         return false;
     }
-    if limits.names == 0 {
+    if limits.max_names == 0 {
         return true;
     }
-    is_accepted(parse_count(n, limits.names))
+    is_accepted(parse_count(n, limits.max_names))
 }
 
 // Whether there is a first name, and it starts with a slash.
 fn has_slash_name(record: &[u8], option: PartyOption) -> bool
     requires { ⌜ Lent (now «record») option ⌝ }
-    ensures { λ r. ⌜ r ≡ slashName (said (partyFrom (now («record» .entry))) .names) ⌝ }
+    ensures { λ r. ⌜ r ≡ slashName (content (partyFrom (now («record» .entry))) .names) ⌝ }
 {
     if name_count(option, record[2] as usize) == 0 {
         return false;
@@ -570,7 +576,7 @@ fn has_slash_name(record: &[u8], option: PartyOption) -> bool
 // Whether the first name would be taken for an account.
 fn is_taken(record: &[u8], option: PartyOption) -> bool
     requires { ⌜ Lent (now «record») option ⌝ }
-    ensures { λ r. ⌜ r ≡ isTaken (limitsOf option .first) (said (partyFrom (now («record» .entry))) .names) ⌝ }
+    ensures { λ r. ⌜ r ≡ isTaken (limitsOf option .first) (content (partyFrom (now («record» .entry))) .names) ⌝ }
 {
     let limits = limits_of(option);
     let first = limits.first;
@@ -621,7 +627,7 @@ fn are_bare_texts(record: &[u8], option: PartyOption) -> bool
 // Whether a lent record is the same as one that an accepted body gives.
 fn is_given(record: &[u8], option: PartyOption) -> bool
     requires { ⌜ Lent (now «record») option ⌝ }
-    ensures { λ r. ⌜ r ≡ isGiven (said (partyFrom (now («record» .entry)))) ⌝ }
+    ensures { λ r. ⌜ r ≡ isGiven (content (partyFrom (now («record» .entry)))) ⌝ }
 {
     let present = record[1] == 1;
     if !is_presence(option, present) {
@@ -641,10 +647,10 @@ fn is_given(record: &[u8], option: PartyOption) -> bool
 
 // Measures a lent record, and puts its field at the start of the buffer where it fits. The answer is that of measuring, whatever the space.
 fn put_measured(record: &[u8], buf: &mut [u8]) -> Measured
-    ensures { λ r. ⌜ toldMeasured r ≡ measureOf (said (unflatten (now («record» .entry)))) ⌝ }
-    ensures { λ _. ⌜ now (buf .exit) ≡ placeIn (said (unflatten (now («record» .entry)))) (now (buf .entry)) .buffer ⌝ }
+    ensures { λ r. ⌜ toldMeasured r ≡ measureOf (content (decoded (now («record» .entry)))) ⌝ }
+    ensures { λ _. ⌜ now (buf .exit) ≡ placeIn (content (decoded (now («record» .entry)))) (now (buf .entry)) .buffer ⌝ }
 {
-    if !is_flat(record) {
+    if !holds_record(record) {
         return Measured::Refused(ParseError::NoSuchRecord);
     }
     let option = option_at(record[0] as usize);
@@ -658,10 +664,10 @@ fn put_measured(record: &[u8], buf: &mut [u8]) -> Measured
     Measured::Length(n)
 }
 
-// Measures a lent record, as crate flat lays it out: the length of its written field, or 22 for one that no reader gives. No space is
+// Measures a lent record, as crate record_bytes lays it out: the length of its written field, or 22 for one that no reader gives. No space is
 // lent for it.
 pub fn measure_record(record: &[u8]) -> Measured
-    ensures { λ r. ⌜ toldMeasured r ≡ measureOf (said (unflatten (now («record» .entry)))) ⌝ }
+    ensures { λ r. ⌜ toldMeasured r ≡ measureOf (content (decoded (now («record» .entry)))) ⌝ }
 {
     let mut none = [0u8; 0];
     put_measured(record, &mut none)
@@ -669,7 +675,7 @@ pub fn measure_record(record: &[u8]) -> Measured
 
 // Places the field of a lent record at the start of the buffer, and measures for itself: 22, 24. A refusal changes no byte.
 pub fn place_record(record: &[u8], buf: &mut [u8]) -> Measured
-    ensures { λ r. ⌜ toldPlacing r (now (buf .exit)) ≡ placeIn (said (unflatten (now («record» .entry)))) (now (buf .entry)) ⌝ }
+    ensures { λ r. ⌜ toldPlacing r (now (buf .exit)) ≡ placeIn (content (decoded (now («record» .entry)))) (now (buf .entry)) ⌝ }
 {
     match put_measured(record, buf) {
         Measured::Length(n) => {
@@ -684,7 +690,7 @@ pub fn place_record(record: &[u8], buf: &mut [u8]) -> Measured
 
 // Measures a record, through its bytes.
 pub fn measure(p: Party) -> Measured
-    ensures { λ r. ⌜ toldMeasured r ≡ measureOf (said p) ⌝ }
+    ensures { λ r. ⌜ toldMeasured r ≡ measureOf (content p) ⌝ }
 {
     let mut record = [0u8; RECORD_SIZE];
     store(p, &mut record);
@@ -693,7 +699,7 @@ pub fn measure(p: Party) -> Measured
 
 // Places the field of a record, through its bytes.
 pub fn place(p: Party, buf: &mut [u8]) -> Measured
-    ensures { λ r. ⌜ toldPlacing r (now (buf .exit)) ≡ placeIn (said p) (now (buf .entry)) ⌝ }
+    ensures { λ r. ⌜ toldPlacing r (now (buf .exit)) ≡ placeIn (content p) (now (buf .entry)) ⌝ }
 {
     let mut record = [0u8; RECORD_SIZE];
     store(p, &mut record);

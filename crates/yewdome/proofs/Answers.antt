@@ -12,11 +12,11 @@ use Rattle.errors.specs.Refusals.{Reply, accepted, refused, must, _then_, told}
 use Rattle.errors.proofs.Replies.{refused≢accepted, must-held, then-first}
 use Rattle.party.specs.declared.PartyOption.{PartyOption}
 use Rattle.party.specs.declared.Party.{Party}
-use Rattle.party.specs.Party.{said}
+use Rattle.party.specs.Party.{content}
 use Rattle.reader.specs.declared.Answer.{Answer}
 use Rattle.swift_utils.specs.Bytes.{all}
 use Rattle.field_utils.specs.Lines.{lines}
-use Rattle.reader.specs.Reading.{Reading, toldAnswer, Into, storing as readingInto, roomReply, readInto, toldInto}
+use Rattle.reader.specs.Reading.{Reading, toldAnswer, Into, storing, roomReply, readInto, toldInto}
 use Rattle.reader.specs.Options.{ascii, bodyMost, bodyReply, read}
 use Rattle.reader.proofs.LineCounts.{lines-most}
 use Rattle.reader.specs.declared.choices.Choice.{Choice}
@@ -29,22 +29,22 @@ use Rattle.writer.specs.Given.{isGiven}
 use Rattle.writer.specs.Placing.{Placing, measuring, placing, measure, place, toldMeasured, toldPlacing}
 use Rattle.writer.proofs.Back.{accepted-is}
 use Rattle.writer.proofs.Theorems.{given-exact, written-most}
-use Rattle.page_writer.specs.Beside.{Beside}
-use Rattle.flat.specs.Flat.{recordSize, unflatten}
-use Rattle.yewdome.specs.Interface.{Called, codeOf, lentReply, recordReply, asked, askedBeside, storing, given, measuredCode, codeOr, partyMeasure, placedCall, partyPlace}
+use Rattle.page_writer.specs.IndexState.{IndexState}
+use Rattle.record_bytes.specs.RecordBytes.{recordSize, decoded}
+use Rattle.yewdome.specs.Interface.{Called, codeOf, argumentsReply, argumentReply, afterChecks, indexAfterChecks, storedCall, given, measuredCode, codeOr, partyMeasure, placedCall, partyPlace}
 use Rattle.yewdome.specs.Code.{Named, Measurable}
 use Rattle.yewdome.proofs.LineBounds.{must-line, must-then, giving-line, read-line}
 
 -- ---- the tests of a lent record
-pub empty-lent : (bytes : List ℕ) → length bytes ≡ 0 → codeOf (refused 42 0) ≡ codeOf (recordReply bytes)
+pub empty-lent : (bytes : List ℕ) → length bytes ≡ 0 → codeOf (refused 42 0) ≡ codeOf (argumentReply bytes)
 empty-lent [] e = refl
 empty-lent (b ∷ bytes) e = absurd (omega (arith, e))
 
-pub refuses : (t : Reply) {r : ℕ} → r ≡ codeOf t → (r ≡ 0 → ⊥) → (c : Called) (bytes : List ℕ) → (record { code = r; bytes = bytes }) ≡ asked t c bytes
+pub refuses : (t : Reply) {r : ℕ} → r ≡ codeOf t → (r ≡ 0 → ⊥) → (c : Called) (bytes : List ℕ) → (record { code = r; bytes = bytes }) ≡ afterChecks t c bytes
 refuses accepted e h c bytes = absurd (h e)
 refuses (refused k n) e h c bytes = ap {B = Called} (λ (r : ℕ). record { code = r; bytes = bytes }) e
 
-pub refuses-index : (t : Reply) {r : ℕ} → r ≡ codeOf t → (r ≡ 0 → ⊥) → (after b : Beside) → b ≡ askedBeside t after b
+pub refuses-index : (t : Reply) {r : ℕ} → r ≡ codeOf t → (r ≡ 0 → ⊥) → (after b : IndexState) → b ≡ indexAfterChecks t after b
 refuses-index accepted e h after b = absurd (h e)
 refuses-index (refused k n) e h after b = refl
 
@@ -52,7 +52,7 @@ pub refuses-code : (t : Reply) {r : ℕ} → r ≡ codeOf t → (r ≡ 0 → ⊥
 refuses-code accepted e h n = absurd (h e)
 refuses-code (refused k l) e h n = e
 
-pub passes : (len : ℕ) (known : Bool) {r : ℕ} → r ≡ codeOf (lentReply len known) → r ≡ 0 → lentReply len known ≡ accepted
+pub passes : (len : ℕ) (known : Bool) {r : ℕ} → r ≡ codeOf (argumentsReply len known) → r ≡ 0 → argumentsReply len known ≡ accepted
 passes len known e z = go (leb recordSize len) known (sym e ∙ z)
   where
     go : (a b : Bool) → codeOf (must a 42 0 then must b 41 0) ≡ 0 → (must a 42 0 then must b 41 0) ≡ accepted
@@ -61,23 +61,23 @@ passes len known e z = go (leb recordSize len) known (sym e ∙ z)
     go false b h = absurd (omega (arith, h))
 
 -- ---- reading
-pub stores : (known : Bool) (a : Answer) (bytes : List ℕ) {o : Outcome} → lentReply (length bytes) known ≡ accepted → a .outcome ≡ o
-    → storing (told o) (a .party) bytes ≡ given known (toldAnswer a) bytes
+pub stores : (known : Bool) (a : Answer) (bytes : List ℕ) {o : Outcome} → argumentsReply (length bytes) known ≡ accepted → a .outcome ≡ o
+    → storedCall (told o) (a .party) bytes ≡ given known (toldAnswer a) bytes
 stores known a bytes p e = rw (p, e)
 
 -- a reading into lent bytes, after the tests of the lent record
-into : (r : Reply) (p : Party) (bytes : List ℕ) → _≡_ {A = Called} (record { code = codeOf (readingInto r p bytes .reply); bytes = readingInto r p bytes .bytes }) (storing r p bytes)
+into : (r : Reply) (p : Party) (bytes : List ℕ) → _≡_ {A = Called} (record { code = codeOf (storing r p bytes .reply); bytes = storing r p bytes .bytes }) (storedCall r p bytes)
 into accepted p bytes = refl
 into (refused k n) p bytes = refl
 
-pub reads : (known : Bool) (r : Reading) (bytes : List ℕ) (o : Outcome) {out : List ℕ} {n : ℕ} → lentReply (length bytes) known ≡ accepted → toldInto o out ≡ readInto r bytes → n ≡ codeOf (told o)
+pub reads : (known : Bool) (r : Reading) (bytes : List ℕ) (o : Outcome) {out : List ℕ} {n : ℕ} → argumentsReply (length bytes) known ≡ accepted → toldInto o out ≡ readInto r bytes → n ≡ codeOf (told o)
     → _≡_ {A = Called} (record { code = n; bytes = out }) (given known r bytes)
 reads known r bytes o {out} {n} e i c =
     ap {B = Called} (λ (k : ℕ). record { code = k; bytes = out }) c
     ∙ ap {B = Called} (λ (x : Into). record { code = codeOf (x .reply); bytes = x .bytes })
-    (i ∙ ap (λ (t : Reply). readingInto (t then r .reply) (r .party) bytes) (then-first (roomReply (length bytes)) (must known 41 0) e))
+    (i ∙ ap (λ (t : Reply). storing (t then r .reply) (r .party) bytes) (then-first (roomReply (length bytes)) (must known 41 0) e))
     ∙ into (r .reply) (r .party) bytes
-    ∙ sym (ap (λ (t : Reply). asked t (storing (r .reply) (r .party) bytes) bytes) e)
+    ∙ sym (ap (λ (t : Reply). afterChecks t (storedCall (r .reply) (r .party) bytes) bytes) e)
 
 -- and what is said of it is 42, or what the reading says
 pub reads-named : (r : Reading) (bytes : List ℕ) (o : Outcome) {out : List ℕ} → toldInto o out ≡ readInto r bytes → Named (r .reply) → Named (told o)
@@ -85,7 +85,7 @@ reads-named r bytes o i h =
     subst Named (sym (ap (λ (x : Into). x .reply) i ∙ by (roomReply (length bytes) then r .reply)))
     (must-then (leb recordSize (length bytes)) 42 0 (r .reply) (omega arith) (omega arith) h)
   where
-    by : (t : Reply) → readingInto t (r .party) bytes .reply ≡ t
+    by : (t : Reply) → storing t (r .party) bytes .reply ≡ t
     by accepted = refl
     by (refused k n) = refl
 
@@ -150,31 +150,31 @@ placing-answers (refused k l) text buffer = refl
 
 module _ (p : Party) where
   abbrev given-test : Reply
-  given-test = must (isGiven (said p)) 22 0
+  given-test = must (isGiven (content p)) 22 0
 
-  most : given-test ≡ accepted → length (writtenField (said p)) ≤ fieldMost
-  most e = written-most p (given-exact p .yes (must-held (isGiven (said p)) 22 0 e))
+  most : given-test ≡ accepted → length (writtenField (content p)) ≤ fieldMost
+  most e = written-most p (given-exact p .yes (must-held (isGiven (content p)) 22 0 e))
 
-  pub measure-within : Measurable (measure (said p))
+  pub measure-within : Measurable (measure (content p))
   unfolding measure
-  measure-within = measuring-within given-test (writtenField (said p)) (must-line (isGiven (said p)) 22 0 (omega arith) (omega arith)) most
+  measure-within = measuring-within given-test (writtenField (content p)) (must-line (isGiven (content p)) 22 0 (omega arith) (omega arith)) most
 
-  pub place-within : (buffer : List ℕ) → Measurable (place (said p) buffer .answer)
+  pub place-within : (buffer : List ℕ) → Measurable (place (content p) buffer .answer)
   unfolding place
   place-within buffer =
-      let space = fits buffer 0 (writtenField (said p)) in
+      let space = fits buffer 0 (writtenField (content p)) in
       let r = given-test then must space 24 0 in
-      subst Measurable (placing-answers r (writtenField (said p)) buffer)
-      (measuring-within r (writtenField (said p))
-      (must-then (isGiven (said p)) 22 0 (must space 24 0) (omega arith) (omega arith) (must-line space 24 0 (omega arith) (omega arith)))
+      subst Measurable (placing-answers r (writtenField (content p)) buffer)
+      (measuring-within r (writtenField (content p))
+      (must-then (isGiven (content p)) 22 0 (must space 24 0) (omega arith) (omega arith) (must-line space 24 0 (omega arith) (omega arith)))
       (λ e. most (then-first given-test (must space 24 0) e)))
 
 -- the record that was lent is the one that was measured or placed
-module _ (flat : List ℕ) (a : recordReply flat ≡ accepted) where
-  pub measures : measuredCode (measure (said (unflatten flat))) ≡ partyMeasure flat
+module _ (recordBytes : List ℕ) (a : argumentReply recordBytes ≡ accepted) where
+  pub measures : measuredCode (measure (content (decoded recordBytes))) ≡ partyMeasure recordBytes
   measures = rw a
 
-  pub places : (buffer : List ℕ) → placedCall (place (said (unflatten flat)) buffer) ≡ partyPlace flat buffer
+  pub places : (buffer : List ℕ) → placedCall (place (content (decoded recordBytes)) buffer) ≡ partyPlace recordBytes buffer
   places buffer = rw a
 
 -- what placing answered is told

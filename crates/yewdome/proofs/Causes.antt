@@ -12,7 +12,7 @@ use Rattle.errors.specs.Refusals.{Reply, accepted, refused}
 use Rattle.party.specs.declared.PartyOption.{PartyOption}
 use Rattle.party.specs.declared.Party.{Party}
 use Rattle.party.specs.Limits.{optionAt}
-use Rattle.party.specs.Party.{said}
+use Rattle.party.specs.Party.{content}
 use Rattle.reader.specs.Reading.{Reading}
 use Rattle.writer.specs.Writing.{writtenField}
 use Rattle.page_reader.specs.Pages.{runs, ReadOutcome, aRecord, readAt}
@@ -22,8 +22,8 @@ use Rattle.kept.specs.declared.Causes.{Causes}
 use Rattle.kept.specs.Kept.{causesOf, isNone, Kept, keeping, keptOf}
 use Rattle.kept.specs.Fields.{fieldCauses, causesBy}
 use Rattle.kept.proofs.FieldExact.{field-less}
-use Rattle.flat.specs.Flat.{bit}
-use Rattle.flat.proofs.Theorems.{bit-small, bit-back}
+use Rattle.record_bytes.specs.RecordBytes.{bit}
+use Rattle.record_bytes.proofs.Theorems.{bit-small, bit-back}
 use Rattle.yewdome.specs.Interface.{codeOf, cause, causesCode, keptCode}
 use Rattle.yewdome.specs.Code.{Named, WasRead, WasFiled}
 
@@ -130,4 +130,4 @@ module _ (page : List ℕ) (at : ℕ) (bytes : List ℕ) (moved written : ℕ) (
       go true n = eqb-true (causesCode (causesBy page at (aRecord p))) 0 (code-none (causesBy page at (aRecord p)) ∙ n)
       go false n =
           let k = field-less page at p (f .was .read) n in
-          absurd (omega (arith, k, h, e, f .moves, f .writes, record-gave page at p (f .was .read) .next, length-append (writtenField (said p)) (10 ∷ []), length-take-le (runs s) s (runs-most s)))
+          absurd (omega (arith, k, h, e, f .moves, f .writes, record-gave page at p (f .was .read) .next, length-append (writtenField (content p)) (10 ∷ []), length-take-le (runs s) s (runs-most s)))

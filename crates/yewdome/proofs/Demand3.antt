@@ -10,26 +10,26 @@ use lib.ListN.{length, getD, take}
 use Rattle.errors.specs.Refusals.{Reply, accepted, refused, must, _then_}
 use Rattle.errors.proofs.Replies.{refused≢accepted}
 use Rattle.party.specs.declared.Party.{Party}
-use Rattle.party.specs.Party.{blank, said, Same}
+use Rattle.party.specs.Party.{blank, content, Same}
 use Rattle.field_utils.specs.Names.{parseLines, parseNameAndAddress}
 use Rattle.writer.specs.Writing.{writtenField, nameLines}
 use Rattle.writer.specs.Given.{areNames, isGiven}
 use Rattle.page_reader.specs.Pages.{ReadOutcome, aRecord, theEnd, PageRead, readAt}
 use Rattle.page_reader.proofs.Entries.{found-here}
 use Rattle.page_reader.proofs.Moves.{next-most}
-use Rattle.page_writer.specs.Beside.{Beside, noIndex, anIndex, noting}
+use Rattle.page_writer.specs.IndexState.{IndexState, noIndex, anIndex, noting}
 use Rattle.page_writer.specs.Adding.{writable, endLine, Filed, positionAfter, refusal, Call, putting, withLf, asked, recordReply, addReply, add, entryFor, addIndex}
 use Rattle.page_writer.specs.Fold.{Step, Run, run, acceptedOf}
 use Rattle.page_writer.specs.WholePage.{OpenPage, lastGiven as lastOf, addStep as addParty, isAccepted, Field, kept, new, pageOf, readNew, Gives as GivesField, ReadsAs, Overwrites}
-use Rattle.page_writer.specs.Indexed.{IsEmpty, IndexedBeside}
+use Rattle.page_writer.specs.Indexed.{IsEmpty, IndexHolds}
 use Rattle.page_writer.specs.Demand3.{adds as partyAdds, acceptedAdds, closing as closingOf, ListedPage}
 use Rattle.page_writer.proofs.Fold.{run-map, alike, accepted-map}
 use Rattle.page_writer.proofs.Theorems.{whole-page}
-use Rattle.flat.specs.Flat.{recordSize, isFlat, unflatten}
-use Rattle.flat.proofs.Laws.{loaded-not}
-use Rattle.yewdome.specs.Interface.{Called, codeOf, recordReply as lentRecord, asked as askedCall, codeOr, readCode, readInto, pageRead, filedCode, filed, pageAdd, pageAddIndex, pageClose}
+use Rattle.record_bytes.specs.RecordBytes.{recordSize, holdsRecord, decoded}
+use Rattle.record_bytes.proofs.Laws.{loaded-not}
+use Rattle.yewdome.specs.Interface.{Called, codeOf, argumentReply, afterChecks, codeOr, readCode, readCall, pageRead, filedCode, filed, pageAdd, pageAddIndex, pageClose}
 use Rattle.yewdome.specs.Code.{Named, Within}
-use Rattle.yewdome.specs.Demand3.{isPosition, lastGiven, addStep, adds, records, closing, page, movedBy, Gives, Reads, ExportedBeside, answersOf, ExportedPage}
+use Rattle.yewdome.specs.Demand3.{isPosition, lastGiven, addStep, adds, records, closing, page, movedBy, Gives, Reads, ExportedIndexState, answersOf, ExportedPage}
 use Rattle.yewdome.proofs.Pages.{add-within, close-within, onward-from}
 use Rattle.yewdome.proofs.Looks.{look-read}
 use Rattle.yewdome.proofs.Theorems.{lent-named, page-loads, read-moved}
@@ -51,28 +51,28 @@ code-tells (positionAfter n) w = (below n (omega (arith, w)), refl)
 code-tells (refusal k n) w = above (codeOf (refused k n)) (omega (arith, w .0))
 
 -- with the bytes that it left, and the index
-abbrev Agrees : Called → Call → Beside → Beside → Type 0
+abbrev Agrees : Called → Call → IndexState → IndexState → Type 0
 Agrees c f after index = Tells (c .code) (f .answer) × (c .bytes ≡ f .buffer) × (after ≡ index)
 
 -- no reader gives the blank record, as which bytes that are no record load
-blank-not : isGiven (said blank) ≡ false
-unfolding isGiven said areNames nameLines parseNameAndAddress parseLines
+blank-not : isGiven (content blank) ≡ false
+unfolding isGiven content areNames nameLines parseNameAndAddress parseLines
 blank-not = refl
 
-blank-agrees : (code : ℕ) → isPosition code ≡ false → (buffer : List ℕ) (at : ℕ) (b : Beside)
-    → Agrees (record { code = code; bytes = buffer }) (add buffer at b (said blank)) b (addIndex buffer at b (said blank))
+blank-agrees : (code : ℕ) → isPosition code ≡ false → (buffer : List ℕ) (at : ℕ) (b : IndexState)
+    → Agrees (record { code = code; bytes = buffer }) (add buffer at b (content blank)) b (addIndex buffer at b (content blank))
 unfolding add addIndex addReply recordReply asked
 blank-agrees code h buffer at b = rw blank-not (go (writable buffer at))
   where
     go : (t : Bool)
-        → Agrees (record { code = code; bytes = buffer }) (putting (must t 21 0 then refused 22 0) buffer at (withLf (writtenField (said blank)))) b
-        (noting (must t 21 0 then refused 22 0) (entryFor at (said blank)) b)
+        → Agrees (record { code = code; bytes = buffer }) (putting (must t 21 0 then refused 22 0) buffer at (withLf (writtenField (content blank)))) b
+        (noting (must t 21 0 then refused 22 0) (entryFor at (content blank)) b)
     go true = (h, refl, refl)
     go false = (h, refl, refl)
 
 -- bytes that 41 or 42 refuses are no record
-no-record : (l : List ℕ) {k n : ℕ} → lentRecord l ≡ refused k n → isFlat l ≡ false
-unfolding isFlat
+no-record : (l : List ℕ) {k n : ℕ} → argumentReply l ≡ refused k n → holdsRecord l ≡ false
+unfolding holdsRecord
 no-record l e = go (leb recordSize (length l)) (leb (getD l 0 0) 10) e
   where
     go : (a b : Bool) {k n : ℕ} → (must a 42 0 then must b 41 0) ≡ refused k n → (a && b && leb (getD l 1 0) 1) ≡ false
@@ -80,24 +80,24 @@ no-record l e = go (leb recordSize (length l)) (leb (getD l 0 0) 10) e
     go true false q = refl
     go false b q = refl
 
-pub add-agrees : (l buffer : List ℕ) (at : ℕ) (b : Beside)
-    → Agrees (pageAdd l buffer at b) (add buffer at b (said (unflatten l))) (pageAddIndex l buffer at b) (addIndex buffer at b (said (unflatten l)))
-add-agrees l buffer at b = go (lentRecord l) refl
+pub add-agrees : (l buffer : List ℕ) (at : ℕ) (b : IndexState)
+    → Agrees (pageAdd l buffer at b) (add buffer at b (content (decoded l))) (pageAddIndex l buffer at b) (addIndex buffer at b (content (decoded l)))
+add-agrees l buffer at b = go (argumentReply l) refl
   where
     f : Call
-    f = add buffer at b (said (unflatten l))
+    f = add buffer at b (content (decoded l))
 
-    go : (t : Reply) → lentRecord l ≡ t → Agrees (pageAdd l buffer at b) f (pageAddIndex l buffer at b) (addIndex buffer at b (said (unflatten l)))
-    go accepted e = rw e (code-tells (f .answer) (add-within buffer at b (said (unflatten l))), refl, refl)
+    go : (t : Reply) → argumentReply l ≡ t → Agrees (pageAdd l buffer at b) f (pageAddIndex l buffer at b) (addIndex buffer at b (content (decoded l)))
+    go accepted e = rw e (code-tells (f .answer) (add-within buffer at b (content (decoded l))), refl, refl)
     go (refused k n) e =
         let named : Named (refused k n) = subst Named e (lent-named (length l) (leb (getD l 0 0) 10)) in
         rw (e, loaded-not l (no-record l e)) (blank-agrees (codeOf (refused k n)) (above (codeOf (refused k n)) (omega (arith, named .0))) buffer at b)
 
 -- ---- a run of lent records is the run of their records
 abbrev partyStep : OpenPage → List ℕ → Step OpenPage Filed
-partyStep s l = addParty s (unflatten l)
+partyStep s l = addParty s (decoded l)
 
-agreed : (code : ℕ) {bytes buffer : List ℕ} {after index : Beside} (at : ℕ) (a : Filed) → Tells code a → bytes ≡ buffer → after ≡ index
+agreed : (code : ℕ) {bytes buffer : List ℕ} {after index : IndexState} (at : ℕ) (a : Filed) → Tells code a → bytes ≡ buffer → after ≡ index
     → _≡_ {A = OpenPage} (record { buffer = bytes; position = lastGiven code at; index = after }) (record { buffer = buffer; position = lastOf a at; index = index }) × (isPosition code ≡ isAccepted a)
 agreed code at (positionAfter n) t e f = let k : lastGiven code at ≡ code = rw (t .0, lastGiven) in (λ i. record { buffer = e i; position = (k ∙ t .1) i; index = f i }, t .0)
 agreed code at (refusal k n) t e f = let m : lastGiven code at ≡ at = rw (t, lastGiven) in (λ i. record { buffer = e i; position = m i; index = f i }, t)
@@ -106,16 +106,16 @@ step-alike : (s t : OpenPage) (l : List ℕ) → s ≡ t → (addStep s l .state
 step-alike s t l e =
     subst (λ (x : OpenPage). (addStep s l .state ≡ partyStep x l .state) × (isPosition (addStep s l .answer) ≡ isAccepted (partyStep x l .answer))) e
     (let h = add-agrees l (s .buffer) (s .position) (s .index) in
-    agreed (pageAdd l (s .buffer) (s .position) (s .index) .code) (s .position) (add (s .buffer) (s .position) (s .index) (said (unflatten l)) .answer) (h .0) (h .1) (h .2))
+    agreed (pageAdd l (s .buffer) (s .position) (s .index) .code) (s .position) (add (s .buffer) (s .position) (s .index) (content (decoded l)) .answer) (h .0) (h .1) (h .2))
 
 -- the number of an add, by what the record's add answers
-code-by : (l : List ℕ) (s : OpenPage) → addStep s l .answer ≡ codeOr (lentRecord l) (filedCode (partyStep s l .answer))
-code-by l s = go (lentRecord l)
+code-by : (l : List ℕ) (s : OpenPage) → addStep s l .answer ≡ codeOr (argumentReply l) (filedCode (partyStep s l .answer))
+code-by l s = go (argumentReply l)
   where
     c : Called
-    c = filed (add (s .buffer) (s .position) (s .index) (said (unflatten l)))
+    c = filed (add (s .buffer) (s .position) (s .index) (content (decoded l)))
 
-    go : (t : Reply) → askedCall t c (s .buffer) .code ≡ codeOr t (c .code)
+    go : (t : Reply) → afterChecks t c (s .buffer) .code ≡ codeOr t (c .code)
     go accepted = refl
     go (refused k n) = refl
 
@@ -130,7 +130,7 @@ answers-are s (l ∷ ls) =
 
 -- ---- reading
 module _ (page : List ℕ) (at : ℕ) (into : List ℕ) (i : recordSize ≤ length into) where
-  read-is : {r : PageRead} → readAt page at ≡ r → pageRead page at into ≡ readInto r at into
+  read-is : {r : PageRead} → readAt page at ≡ r → pageRead page at into ≡ readCall r at into
   read-is e = rw (le-leb recordSize (length into) i, e)
 
   -- the bytes moved past lead to the next position
@@ -143,7 +143,7 @@ module _ (page : List ℕ) (at : ℕ) (into : List ℕ) (i : recordSize ≤ leng
   record-given : (q p : Party) → readAt page at .outcome ≡ aRecord q → Same q p → Gives (pageRead page at into) at into (kept p)
   record-given q p e s =
       let n : pageRead page at into .code ≡ readAt page at .next - at = ap (λ (c : Called). c .code) (read-is refl) ∙ ap (λ (x : ReadOutcome). readCode x (readAt page at .next - at)) e in
-      (below (pageRead page at into .code) (omega (arith, n, next-most page at)), ap said (page-loads page at into q i e) ∙ s)
+      (below (pageRead page at into .code) (omega (arith, n, next-most page at)), ap content (page-loads page at into q i e) ∙ s)
 
   field-given : (f : Field) → GivesField (readAt page at) f → Gives (pageRead page at into) at into f
   field-given (kept p) g = record-given (g .0) p (g .1) (g .2)
@@ -156,7 +156,7 @@ reads page at (f ∷ fs) h = λ into i.
     (field-given page at into i f (h .0), subst (λ (k : ℕ). Reads page k fs) (sym (next-is page at into i)) (reads page (readAt page at .next) fs (h .1)))
 
 -- ---- looking up
-looks-as : (b : Beside) (page : List ℕ) (list : List Party) → IndexedBeside b page list → ExportedBeside b page list
+looks-as : (b : IndexState) (page : List ℕ) (list : List Party) → IndexHolds b page list → ExportedIndexState b page list
 looks-as noIndex page list h = tt
 looks-as (anIndex d) page list h = record {
   indexed = h;
@@ -166,14 +166,14 @@ looks-as (anIndex d) page list h = record {
       let r = g .0 in
       let k = suc (length before) in
       let f = found-here page d k (g .1) in
-      subst (λ (c : Called). (isPosition (c .code) ≡ true) × Same (unflatten (c .bytes)) p) (sym (look-read page d k into r (g .1)))
+      subst (λ (c : Called). (isPosition (c .code) ≡ true) × Same (decoded (c .bytes)) p) (sym (look-read page d k into r (g .1)))
       (record-given page (r .at) into i (g .2 .0) p (ap (λ (x : PageRead). x .outcome) (sym f) ∙ g .2 .1) (g .2 .2));
 }
 
 -- ---- demand 3
-module _ (b : Beside) (empty : IsEmpty b) (lents : List (List ℕ)) (buffer : List ℕ) where
+module _ (b : IndexState) (empty : IsEmpty b) (lents : List (List ℕ)) (buffer : List ℕ) where
   abbrev ps : List Party
-  ps = map unflatten lents
+  ps = map decoded lents
 
   abbrev left : OpenPage
   left = partyAdds b ps buffer .state
@@ -182,11 +182,11 @@ module _ (b : Beside) (empty : IsEmpty b) (lents : List (List ℕ)) (buffer : Li
   alike-run =
       let start : OpenPage = record { buffer = buffer; position = 0; index = b } in
       let r = alike addStep partyStep isPosition isAccepted (λ (s t : OpenPage). s ≡ t) step-alike start start refl lents in
-      let m = run-map addParty unflatten start lents in
+      let m = run-map addParty decoded start lents in
       (r .0 ∙ ap (λ (x : Run OpenPage Filed). x .state) m, r .1 ∙ ap (λ (x : Run OpenPage Filed). map isAccepted (x .answers)) m)
 
   list : records b lents buffer ≡ acceptedAdds b ps buffer
-  list = accepted-map unflatten lents (map isPosition (adds b lents buffer .answers)) ∙ ap (acceptedOf ps) (alike-run .1)
+  list = accepted-map decoded lents (map isPosition (adds b lents buffer .answers)) ∙ ap (acceptedOf ps) (alike-run .1)
 
   closing-is : closing b lents buffer ≡ filed (closingOf b ps buffer)
   closing-is = ap (λ (x : OpenPage). pageClose (x .buffer) (x .position)) (alike-run .0)
@@ -214,20 +214,20 @@ module _ (b : Beside) (empty : IsEmpty b) (lents : List (List ℕ)) (buffer : Li
     state = alike-run .0;
     accepted-adds = list;
     answers = answers-are (record { buffer = buffer; position = 0; index = b }) lents
-        ∙ ap (λ (r : Run OpenPage Filed). answersOf lents (r .answers)) (run-map addParty unflatten (record { buffer = buffer; position = 0; index = b }) lents);
+        ∙ ap (λ (r : Run OpenPage Filed). answersOf lents (r .answers)) (run-map addParty decoded (record { buffer = buffer; position = 0; index = b }) lents);
     listed = listed;
     reads = λ h.
         let c = closed h in
         subst (λ (x : List ℕ). Reads x 0 (map kept (records b lents buffer))) (sym (c .2))
         (reads _ 0 (map kept (records b lents buffer)) (subst (λ (x : List Party). ReadsAs (take (c .0) (closingOf b ps buffer .buffer)) 0 (map kept x) theEnd) (sym list) (whole-page b empty ps buffer .listed .closed (c .1) .reads)));
-    open-looks = subst (λ (s : OpenPage). ExportedBeside (s .index) (take (s .position) (s .buffer)) (records b lents buffer)) (sym (alike-run .0))
-        (subst (λ (x : List Party). ExportedBeside (left .index) (take (left .position) (left .buffer)) x) (sym list)
+    open-looks = subst (λ (s : OpenPage). ExportedIndexState (s .index) (take (s .position) (s .buffer)) (records b lents buffer)) (sym (alike-run .0))
+        (subst (λ (x : List Party). ExportedIndexState (left .index) (take (left .position) (left .buffer)) x) (sym list)
         (looks-as (left .index) _ (acceptedAdds b ps buffer) (whole-page b empty ps buffer .listed .opened .indexed)));
     looks = λ h.
         let c = closed h in
-        subst (λ (s : OpenPage). ExportedBeside (s .index) (page b lents buffer) (records b lents buffer)) (sym (alike-run .0))
-        (subst (λ (x : List ℕ). ExportedBeside (left .index) x (records b lents buffer)) (sym (c .2))
-        (subst (λ (x : List Party). ExportedBeside (left .index) (take (c .0) (closingOf b ps buffer .buffer)) x) (sym list)
+        subst (λ (s : OpenPage). ExportedIndexState (s .index) (page b lents buffer) (records b lents buffer)) (sym (alike-run .0))
+        (subst (λ (x : List ℕ). ExportedIndexState (left .index) x (records b lents buffer)) (sym (c .2))
+        (subst (λ (x : List Party). ExportedIndexState (left .index) (take (c .0) (closingOf b ps buffer .buffer)) x) (sym list)
         (looks-as (left .index) _ (acceptedAdds b ps buffer) (whole-page b empty ps buffer .listed .closed (c .1) .indexed))));
     closes = λ n.
         let e = whole-page b empty ps buffer .listed .closes n in

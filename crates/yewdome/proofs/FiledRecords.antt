@@ -7,12 +7,12 @@ use native.Mathlib.Omega.{arith}
 use borrow.Author.Tests.{lt-ltb, le-ltb}
 use lib.ListN.{length}
 use Rattle.party.specs.declared.Party.{Party}
-use Rattle.party.specs.Party.{said}
+use Rattle.party.specs.Party.{content}
 use Rattle.page_reader.specs.Pages.{ReadOutcome, aRecord, theEnd, aRefusal, readAt}
 use Rattle.page_reader.specs.Reads.{Read, readHere, isLast, readsFrom, reads}
 use Rattle.page_reader.proofs.Moves.{next-most}
 use Rattle.page_writer.specs.Adding.{Filed, positionAfter, refusal}
-use Rattle.page_writer.specs.Beside.{noIndex}
+use Rattle.page_writer.specs.IndexState.{noIndex}
 use Rattle.page_writer.specs.Fold.{run, acceptedOf}
 use Rattle.page_writer.specs.WholePage.{OpenPage, addStep, isAccepted}
 use Rattle.page_writer.specs.Demand3.{adds, acceptedAdds, ListedPage}
@@ -66,7 +66,7 @@ module _ (page : List ℕ) where
 
     by : (x : ReadOutcome) → By x
     unfolding run
-    by (aRecord p) = by-add p (addStep s p .answer) (add-within (s .buffer) (s .position) (s .index) (said p)) refl
+    by (aRecord p) = by-add p (addStep s p .answer) (add-within (s .buffer) (s .position) (s .index) (content p)) refl
     by theEnd = none (tellsFiling (causedNumber page (readHere page at) theEnd))
     by (aRefusal k n) = none (tellsFiling (causedNumber page (readHere page at) (aRefusal k n)))
 

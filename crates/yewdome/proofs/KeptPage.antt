@@ -12,7 +12,7 @@ use Rattle.errors.specs.Refusals.{Reply, accepted}
 use Rattle.party.specs.declared.PartyOption.{PartyOption}
 use Rattle.party.specs.declared.Party.{Party}
 use Rattle.party.specs.Decides.{Decides}
-use Rattle.party.specs.Party.{Said, said}
+use Rattle.party.specs.Party.{Content, content}
 use Rattle.field_utils.specs.Lines.{withoutCr}
 use Rattle.field_utils.proofs.Tests.{both-left, both-right, both, either-left}
 use Rattle.reader.specs.Options.{read}
@@ -23,14 +23,14 @@ use Rattle.writer.proofs.Sizes.{joined-length}
 use Rattle.writer.proofs.Back.{accepted-is}
 use Rattle.writer.proofs.Theorems.{necessary}
 use Rattle.page_reader.specs.Pages.{pageMost, lessCr, runs, ReadOutcome, aRecord, theEnd, aRefusal, PageRead, readField, readAt}
-use Rattle.page_reader.specs.Reads.{Read, readHere, isEnd, isLast, readsFrom, reads}
+use Rattle.page_reader.specs.Reads.{Read, readHere, isTheEnd, isLast, readsFrom, reads}
 use Rattle.page_reader.proofs.Cases.{runs-most}
 use Rattle.page_reader.proofs.Runs.{Closed, runs-closed}
 use Rattle.page_reader.proofs.Moves.{fieldAt, next-most}
 use Rattle.page_reader.proofs.Records.{Gave, refusal≢record, end≢record, record-gave, end-gave, end-first}
 use Rattle.page_writer.specs.Adding.{anyBoundary, isCarried, hasSpace, withLf, endLine, Filed, positionAfter, refusal, asked, Tally, tallied, recordReply}
 use Rattle.page_writer.specs.WholePage.{OpenPage, addStep, isAccepted, Model, modelBy, modelStep, kept, pageOf}
-use Rattle.page_writer.specs.Beside.{noIndex}
+use Rattle.page_writer.specs.IndexState.{noIndex}
 use Rattle.page_writer.specs.Fold.{Step, run, acceptedOf}
 use Rattle.page_writer.specs.Demand3.{adds, acceptedAdds, closing, ListedPage}
 use Rattle.page_writer.proofs.Pieces.{upToBoundary, runs-cut}
@@ -54,10 +54,10 @@ use Rattle.yewdome.proofs.Causes.{code-none}
 
 -- ---- a record that a reader gave is one that a reader can give
 given-by : (o : PartyOption) (body : List ℕ) {p : Party} → read o body .reply ≡ accepted → read o body .party ≡ p → Given p
-unfolding said
+unfolding content
 given-by o body {p} e q =
-    let option : p .option ≡ o = ap (λ (x : Party). x .option) (sym q) ∙ ap (λ (s : Said). s .option) (accepted-is o body e .says) in
-    record { body = body; accepts = ap (λ (k : PartyOption). read k body .reply) option ∙ e; same = ap (λ (k : PartyOption). said (read k body .party)) option ∙ ap said q }
+    let option : p .option ≡ o = ap (λ (x : Party). x .option) (sym q) ∙ ap (λ (s : Content). s .option) (accepted-is o body e .says) in
+    record { body = body; accepts = ap (λ (k : PartyOption). read k body .reply) option ∙ e; same = ap (λ (k : PartyOption). content (read k body .party)) option ∙ ap content q }
 
 -- ---- a field that is kept, and closed by an LF
 module _ (page : List ℕ) (at : ℕ) (p : Party) (q : readAt page at .outcome ≡ aRecord p) (n : isNone (causesBy page at (aRecord p)) ≡ true) (c : at + runs (drop at page) < length page) where
@@ -68,7 +68,7 @@ module _ (page : List ℕ) (at : ℕ) (p : Party) (q : readAt page at .outcome �
   g = record-gave page at p q
 
   abbrev field : List ℕ
-  field = writtenField (said p)
+  field = writtenField (content p)
 
   abbrev rest : List ℕ
   rest = drop (suc (runs s)) s
@@ -89,8 +89,8 @@ module _ (page : List ℕ) (at : ℕ) (p : Party) (q : readAt page at .outcome �
   splits = closed .splits ∙ ap (λ (l : List ℕ). l ++ 10 ∷ rest) (sym same)
 
   lined : Lined field
-  unfolding writtenField said
-  lined = tagged-lined (p .option) (writtenBody (said p))
+  unfolding writtenField content
+  lined = tagged-lined (p .option) (writtenBody (content p))
 
   -- no line of it after the first is an opening or end line, or it would have run less far
   bounded : anyBoundary (lined .later) ≡ false
@@ -119,9 +119,9 @@ module _ (page : List ℕ) (at : ℕ) (p : Party) (q : readAt page at .outcome �
 
   -- so a page carries its record
   pub field-fit : Fit p
-  field-fit = record { given = necessary p given; carried = go (isCarried (said p)) refl }
+  field-fit = record { given = necessary p given; carried = go (isCarried (content p)) refl }
     where
-      go : (t : Bool) → isCarried (said p) ≡ t → isCarried (said p) ≡ true
+      go : (t : Bool) → isCarried (content p) ≡ t → isCarried (content p) ≡ true
       go true e = e
       go false e = absurd (alone-exact p given .no e (sound-reads (ending []) refl (kept p ∷ []) (alone-most p given) (sound, tt)))
 
@@ -142,12 +142,12 @@ record Came (page : List ℕ) (at : ℕ) (rs : List Read) : Type 0 where
   onward : at ≤ lastAt rs
   ended : readAt page (lastAt rs) .outcome ≡ theEnd
 
-ended-is : (x : ReadOutcome) → isEnd x ≡ true → x ≡ theEnd
+ended-is : (x : ReadOutcome) → isTheEnd x ≡ true → x ≡ theEnd
 ended-is (aRecord p) e = absurd (false≢true e)
 ended-is theEnd e = refl
 ended-is (aRefusal k n) e = absurd (false≢true e)
 
-came-last : (page : List ℕ) (at : ℕ) → isEnd (readAt page at .outcome) ≡ true → Came page at (readHere page at ∷ [])
+came-last : (page : List ℕ) (at : ℕ) → isTheEnd (readAt page at .outcome) ≡ true → Came page at (readHere page at ∷ [])
 unfolding recordsIn lastAt pageOf
 came-last page at e =
     let q = ended-is (readAt page at .outcome) e in
@@ -172,7 +172,7 @@ came-next page at e r rs w = go (readAt page at .outcome) refl
         let c : at + runs (drop at page) < length page = omega (arith, w .onward, end-gave page last (w .ended) .within, record-gave page at p q .next) in
         let some : recordsIn (readHere page at ∷ r ∷ rs) ≡ p ∷ recordsIn (r ∷ rs) = ap (λ (x : ReadOutcome). recordOf x (recordsIn (r ∷ rs))) q in
         record {
-          fields = ap fieldsOf some ∙ ap (_++_ (withLf (writtenField (said p)))) (w .fields) ∙ field-part page at p q told c last (w .onward);
+          fields = ap fieldsOf some ∙ ap (_++_ (withLf (writtenField (content p)))) (w .fields) ∙ field-part page at p q told c last (w .onward);
           fit = subst (All Fit) (sym some) (field-fit page at p q told c, w .fit);
           onward = omega (arith, w .onward, next-is page at p q told c);
           ended = w .ended;
@@ -193,7 +193,7 @@ came (suc n) page at e = go (isLast r at) refl (readsFrom n page (r .next)) refl
         → Came page at (readHere page at ∷ elim l as (λ x. List Read) [ true ↦ [] | false ↦ readsFrom n page (r .next) ])
     go true l rs q ih k = came-last page at k
     go false l [] q ih k =
-        absurd (true≢false (sym (ap (λ (x : List Read). areKept page (readHere page at ∷ x)) (sym q) ∙ k) ∙ either-left (isEnd (r .outcome)) (eqb (r .next) at) l))
+        absurd (true≢false (sym (ap (λ (x : List Read). areKept page (readHere page at ∷ x)) (sym q) ∙ k) ∙ either-left (isTheEnd (r .outcome)) (eqb (r .next) at) l))
     go false l (x ∷ rs) q ih k =
         let both : (isKeptAt page at && areKept page (x ∷ rs)) ≡ true = ap (λ (y : List Read). areKept page (readHere page at ∷ y)) (sym q) ∙ k in
         let w : Came page (r .next) (x ∷ rs) = subst (Came page (r .next)) q (ih (ap (areKept page) q ∙ both-right (isKeptAt page at) (areKept page (x ∷ rs)) both)) in
@@ -201,17 +201,17 @@ came (suc n) page at e = go (isLast r at) refl (readsFrom n page (r .next)) refl
 
 -- ---- the adds of records that a page carries, with room for all of them, are all accepted
 module _ (len : ℕ) where
-  fit-accepted : (p : Party) (t : Tally) → Fit p → t .position + length (withLf (writtenField (said p))) + 2 ≤ min len pageMost → recordReply len false t (said p) ≡ accepted
+  fit-accepted : (p : Party) (t : Tally) → Fit p → t .position + length (withLf (writtenField (content p))) + 2 ≤ min len pageMost → recordReply len false t (content p) ≡ accepted
   unfolding recordReply asked
-  fit-accepted p t f h = rw (f .given, f .carried, le-leb (t .position + length (withLf (writtenField (said p))) + 2) (min len pageMost) h)
+  fit-accepted p t f h = rw (f .given, f .carried, le-leb (t .position + length (withLf (writtenField (content p))) + 2) (min len pageMost) h)
 
   model-all : (ps : List Party) (m : Model) → All Fit ps → m .tally .position + length (fieldsOf ps) + 2 ≤ min len pageMost → run (modelStep len false) m ps .state .list ≡ m .list ++ ps
   unfolding run pageOf
   model-all [] m f h = sym (append-nil (m .list))
   model-all (p ∷ ps) m f h =
-      let text = withLf (writtenField (said p)) in
+      let text = withLf (writtenField (content p)) in
       let n = length-append text (fieldsOf ps) in
-      let next : Model = record { list = m .list ++ p ∷ []; tally = tallied (m .tally) (said p) } in
+      let next : Model = record { list = m .list ++ p ∷ []; tally = tallied (m .tally) (content p) } in
       let step : modelStep len false m p .state ≡ next = ap (λ (r : Reply). modelBy r m p .state) (fit-accepted p (m .tally) (f .0) (omega (arith, h, n))) in
       ap (λ (x : Model). run (modelStep len false) x ps .state .list) step ∙ model-all ps next (f .1) (omega (arith, h, n)) ∙ append-assoc (m .list) (p ∷ []) ps
 
@@ -347,7 +347,7 @@ module _ (page : List ℕ) (s : OpenPage) (at : ℕ) (p : Party) where
     reads : readAt page at .outcome ≡ aRecord p
     position : ℕ
     adds-it : addStep s p .answer ≡ positionAfter position
-    puts : step (readAt page at .outcome) .state .buffer ≡ put (s .buffer) (s .position) (withLf (writtenField (said p)))
+    puts : step (readAt page at .outcome) .state .buffer ≡ put (s .buffer) (s .position) (withLf (writtenField (content p)))
 
   took : step (readAt page at .outcome) .answer ≡ aRecord p → Took
   took e = go (readAt page at .outcome) refl e
@@ -359,7 +359,7 @@ module _ (page : List ℕ) (s : OpenPage) (at : ℕ) (p : Party) where
             reads = r ∙ ap aRecord same;
             position = n;
             adds-it = ap (λ (x : Party). addStep s x .answer) (sym same) ∙ a;
-            puts = ap (λ (x : ReadOutcome). step x .state .buffer) r ∙ add-taken (s .buffer) (s .position) (s .index) (said q) a .1 ∙ ap (λ (x : Party). put (s .buffer) (s .position) (withLf (writtenField (said x)))) same;
+            puts = ap (λ (x : ReadOutcome). step x .state .buffer) r ∙ add-taken (s .buffer) (s .position) (s .index) (content q) a .1 ∙ ap (λ (x : Party). put (s .buffer) (s .position) (withLf (writtenField (content x)))) same;
           }
       added q r (refusal k n) a t = absurd (refusal≢record t)
 
@@ -375,7 +375,7 @@ module _ (page : List ℕ) (s : OpenPage) (at : ℕ) (p : Party) where
       record {
         puts = t .puts;
         tells = ap (λ (x : ReadOutcome). causedNumber page (readHere page at) x / 131072) e ∙ high 131072 k (readAt page at .next - at) (omega (arith, next-most page at));
-        exact = subst (λ (b : Bool). Decides b (writtenField (said p) ≡ cameAt page at)) (sym (code-none (causesBy page at (aRecord p)))) (field-decided page at p (t .reads));
+        exact = subst (λ (b : Bool). Decides b (writtenField (content p) ≡ cameAt page at)) (sym (code-none (causesBy page at (aRecord p)))) (field-decided page at p (t .reads));
       }
 
 -- a step of filing tells by its answer whether the field that it puts on the new page is the field as it came
@@ -388,7 +388,7 @@ module _ (page : List ℕ) where
     kept-all : areKept page rs ≡ true
     all-added : acceptedOf (recordsIn rs) (map isAccepted (run addStep s (recordsIn rs) .answers)) ≡ recordsIn rs
 
-  plain-last : (s : OpenPage) (at : ℕ) → isEnd (readAt page at .outcome) ≡ true → Plain s (readHere page at ∷ [])
+  plain-last : (s : OpenPage) (at : ℕ) → isTheEnd (readAt page at .outcome) ≡ true → Plain s (readHere page at ∷ [])
   unfolding recordsIn areKept run acceptedOf
   plain-last s at e =
       let none : recordsIn (readHere page at ∷ []) ≡ [] = ap (λ (x : ReadOutcome). recordOf x []) (ended-is (readAt page at .outcome) e) in
@@ -424,7 +424,7 @@ module _ (page : List ℕ) where
       go theEnd e = absurd (omega (arith, h, number e))
       go (aRefusal k n) e = absurd (omega (arith, h, number e, subst (λ (x : ReadOutcome). Named (replyOf x)) e (named-by true s (readAt page at .outcome) (page-line page at)) .0))
 
-  plain-end : (s : OpenPage) (at : ℕ) → eqb (numberStep page s (readHere page at) .answer / 65536) 1 ≡ true → isEnd (readAt page at .outcome) ≡ true
+  plain-end : (s : OpenPage) (at : ℕ) → eqb (numberStep page s (readHere page at) .answer / 65536) 1 ≡ true → isTheEnd (readAt page at .outcome) ≡ true
   plain-end s at h =
       sym (ended-by true s (readAt page at .outcome))
       ∙ answer-end page at true (fileStep s (readHere page at) .answer) (named-by true s (readAt page at .outcome) (page-line page at)) (eqb-true (numberStep page s (readHere page at) .answer / 65536) 1 h)

@@ -106,9 +106,9 @@ after-line : (o : PartyOption) (n : ℕ) (d : Head) (ls : List (List ℕ)) → n
 unfolding afterHead parseNameAndAddress
 after-line o n d ls h =
     let m = limitsOf o in
-    by-test FoundNamed (withBic n d ls) (withNames o n d ls) (eqb (m .names) 0) (bics-line n d ls h)
-    (then-line (parseLines (m .numbering) (m .name) n 1 ls) (parseCount (m .names) (length ls)) (names-line (m .numbering) (m .name) n 1 ls h)
-    (must-line (between 1 (m .names) (length ls)) 7 0 (omega arith) (omega arith)))
+    by-test FoundNamed (withBic n d ls) (withNames o n d ls) (eqb (m .«max_names») 0) (bics-line n d ls h)
+    (then-line (parseLines (m .numbering) (m .«name_max») n 1 ls) (parseCount (m .«max_names») (length ls)) (names-line (m .numbering) (m .«name_max») n 1 ls h)
+    (must-line (between 1 (m .«max_names») (length ls)) 7 0 (omega arith) (omega arith)))
 
 -- ---- the first line
 module _ (o : PartyOption) where
@@ -116,7 +116,7 @@ module _ (o : PartyOption) where
   HeadNamed d = Named (d .reply)
 
   option-line : (l : List ℕ) → Named (accountReply o l)
-  option-line l = account-line 1 (omega arith) (limitsOf o .shortest) (limitsOf o .longest) l
+  option-line l = account-line 1 (omega arith) (limitsOf o .«account_min») (limitsOf o .«account_max») l
 
   account-head : (l : List ℕ) → HeadNamed (accountHead o l)
   unfolding accountHead
@@ -126,7 +126,7 @@ module _ (o : PartyOption) where
   unfolding parsePartyIdentifier
   identified-head [] = tt
   identified-head (b ∷ l) =
-      let longest = limitsOf o .longest in
+      let longest = limitsOf o .«account_max» in
       by-test (λ (x : Identifier). HeadNamed (identifierHead x)) (given l (identifierReply longest 1 l)) absent (eqb b 47) (identifier-line 1 (omega arith) longest l) tt
 
   head-line : (f : First) (l : List ℕ) → HeadNamed (headBy f o l)
@@ -134,10 +134,10 @@ module _ (o : PartyOption) where
   head-line NoAccount l = tt
   head-line Identified l = identified-head l
   head-line Account l = account-head l
-  head-line ShortAccount l = by-test HeadNamed (accountHead o l) noHead (leb (length (drop 1 l)) (limitsOf o .longest)) (account-head l) tt
+  head-line ShortAccount l = by-test HeadNamed (accountHead o l) noHead (leb (length (drop 1 l)) (limitsOf o .«account_max»)) (account-head l) tt
   head-line SlashAccount l = must-then (starts 47 l) 2 1 (accountReply o (drop 1 l)) (omega arith) (omega arith) (option-line (drop 1 l))
   head-line AnyAccount l =
-      let fits = between (limitsOf o .shortest) (limitsOf o .longest) (length (drop 1 l)) in
+      let fits = between (limitsOf o .«account_min») (limitsOf o .«account_max») (length (drop 1 l)) in
       must-then (starts 47 l) 2 1 (must fits 2 1) (omega arith) (omega arith) (must-line fits 2 1 (omega arith) (omega arith))
   head-line WholeLine l = option-line l
 

@@ -7,7 +7,7 @@ use lib.Dec.{leb}
 use lib.ListN.{length}
 use Rattle.errors.specs.Refusals.{Reply, accepted, refused, must, _then_, refusalOf}
 use Rattle.party.specs.declared.Party.{Party}
-use Rattle.flat.specs.Flat.{recordSize}
+use Rattle.record_bytes.specs.RecordBytes.{recordSize}
 use Rattle.reader.specs.Reading.{roomReply}
 use Rattle.page_reader.specs.declared.ReadOutcome.the-variants.{Record as AtRecord, Refused as AtRefused}
 use Rattle.page_reader.specs.declared.index.LookOutcome.{LookOutcome}
@@ -17,7 +17,7 @@ use Rattle.page_reader.specs.Reads.{Read}
 use Rattle.page_reader.specs.Index.{Looked, found, notFound, fieldAt, isThere, hasEntry, entryOf, lookUp, bodyOf, lookedBy, lookLent, lookBytes, partyLooked, lookOutline, toldLooked}
 use Rattle.page_reader.proofs.Moves.{next-most}
 use Rattle.page_reader.proofs.Entries.{found-here, refusal-of}
-use Rattle.yewdome.specs.Interface.{Called, codeOf, readInto, pageRead, lookedInto, pageLookUp}
+use Rattle.yewdome.specs.Interface.{Called, codeOf, readCall, pageRead, lookedInto, pageLookUp}
 use Rattle.yewdome.specs.Code.{Named}
 use Rattle.yewdome.proofs.LineBounds.{must-line, must-then}
 use Rattle.yewdome.proofs.Pages.{told-outcome, replyOf, page-line, onward-from}
@@ -26,8 +26,8 @@ use Rattle.yewdome.proofs.Pages.{told-outcome, replyOf, page-line, onwa
 pub look-read : (page index : List ℕ) (k : ℕ) (into : List ℕ) (r : Read) → lookUp page index k ≡ found r → pageLookUp page index k into ≡ pageRead page (r .at) into
 look-read page index k into r e = go (roomReply (length into))
   where
-    go : (t : Reply) → lookedInto (lookedBy t (lookUp page index k)) into ≡ readInto (lentBy t (readAt page (r .at)) (r .at)) (r .at) into
-    go accepted = ap (λ (x : Looked). lookedInto x into) e ∙ ap (λ (x : PageRead). readInto x (r .at) into) (found-here page index k e)
+    go : (t : Reply) → lookedInto (lookedBy t (lookUp page index k)) into ≡ readCall (lentBy t (readAt page (r .at)) (r .at)) (r .at) into
+    go accepted = ap (λ (x : Looked). lookedInto x into) e ∙ ap (λ (x : PageRead). readCall x (r .at) into) (found-here page index k e)
     go (refused i n) =
         let z : codeOf (refused i n) * 4294967296 ≡ codeOf (refused i n) * 4294967296 + (r .at - r .at) = omega arith in
         ap {B = Called} (λ (c : ℕ). record { code = c; bytes = into }) z

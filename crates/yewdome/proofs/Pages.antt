@@ -10,7 +10,7 @@ use lib.ListN.{length}
 use Rattle.errors.specs.Refusals.{Reply, accepted, refused, must, _then_, refusalOf}
 use Rattle.errors.proofs.Replies.{must-held, then-second, then-assoc}
 use Rattle.party.specs.declared.Party.{Party}
-use Rattle.party.specs.Party.{Said, said}
+use Rattle.party.specs.Party.{Content, content}
 use Rattle.reader.specs.Reading.{roomReply}
 use Rattle.reader.specs.Options.{read}
 use Rattle.writer.specs.Writing.{writtenField, put}
@@ -18,14 +18,14 @@ use Rattle.writer.specs.Given.{isGiven}
 use Rattle.page_reader.specs.declared.ReadInto.{ReadInto}
 use Rattle.page_reader.specs.declared.ReadOutcome.{ReadOutcome as OutcomeAt}
 use Rattle.page_reader.specs.declared.ReadOutcome.the-variants.{Record, End, Refused}
-use Rattle.page_reader.specs.Pages.{pageMost, ReadOutcome, aRecord, theEnd, aRefusal, outcomeOf, readAt, lentBy, readLent, readBytes, partyBeside, kindOf, Outline, outline, toldKind, toldInto}
+use Rattle.page_reader.specs.Pages.{pageMost, ReadOutcome, aRecord, theEnd, aRefusal, outcomeOf, readAt, lentBy, readLent, readBytes, partyBeside, kindOf, Outline, outline, toldKind, toldReadInto}
 use Rattle.page_reader.proofs.Moves.{stays-or-moves, next-most, every-read}
 use Rattle.page_writer.specs.declared.Filed.{Filed as FiledAt}
-use Rattle.page_writer.specs.Beside.{Beside, isIndexed}
-use Rattle.page_writer.specs.Adding.{isCarried, writable, hasSpace, withLf, endLine, positionAfter, Call, putting, recordSpace, asked, recordReply, tallyOf, freeBeside, addReply, add, addIndex, close, toldFiled, toldCall}
+use Rattle.page_writer.specs.IndexState.{IndexState, isIndexed}
+use Rattle.page_writer.specs.Adding.{isCarried, writable, hasSpace, withLf, endLine, positionAfter, Call, putting, recordSpace, asked, recordReply, tallyOf, hasFreeEntry, addReply, add, addIndex, close, toldFiled, toldCall}
 use Rattle.page_writer.proofs.Addings.{position≢refusal, reply-space}
-use Rattle.flat.specs.Flat.{recordSize, unflatten}
-use Rattle.yewdome.specs.Interface.{Called, recordReply as lentRecordReply, readCode, pageRead, filedCode, filed, pageAdd, pageAddIndex}
+use Rattle.record_bytes.specs.RecordBytes.{recordSize, decoded}
+use Rattle.yewdome.specs.Interface.{Called, argumentReply, readCode, pageRead, filedCode, filed, pageAdd, pageAddIndex}
 use Rattle.yewdome.specs.Code.{Named, Within}
 use Rattle.yewdome.proofs.LineBounds.{must-line, must-then, read-line}
 
@@ -34,21 +34,21 @@ putting-within : (r : Reply) (buffer : List ℕ) (at : ℕ) (text : List ℕ) �
 putting-within accepted buffer at text n h = h refl
 putting-within (refused k n) buffer at text m h = m
 
-pub add-within : (buffer : List ℕ) (at : ℕ) (b : Beside) (s : Said) → Within (add buffer at b s .answer)
+pub add-within : (buffer : List ℕ) (at : ℕ) (b : IndexState) (s : Content) → Within (add buffer at b s .answer)
 unfolding add addReply recordReply asked
 add-within buffer at b s =
     let space = recordSpace (length buffer) at s in
-    let last = must space 24 0 then must (freeBeside b) 31 0 in
+    let last = must space 24 0 then must (hasFreeEntry b) 31 0 in
     putting-within (must (writable buffer at) 21 0 then recordReply (length buffer) (isIndexed b) (tallyOf at b) s) buffer at (withLf (writtenField s))
     (subst (λ (r : Reply). Named (must (writable buffer at) 21 0 then r)) (sym (then-assoc (must (isGiven s) 22 0) (must (isCarried s) 23 0) last))
     (must-then (writable buffer at) 21 0 (must (isGiven s) 22 0 then must (isCarried s) 23 0 then last) (omega arith) (omega arith)
     (must-then (isGiven s) 22 0 (must (isCarried s) 23 0 then last) (omega arith) (omega arith)
     (must-then (isCarried s) 23 0 last (omega arith) (omega arith)
-    (must-then space 24 0 (must (freeBeside b) 31 0) (omega arith) (omega arith) (must-line (freeBeside b) 31 0 (omega arith) (omega arith)))))))
+    (must-then space 24 0 (must (hasFreeEntry b) 31 0) (omega arith) (omega arith) (must-line (hasFreeEntry b) 31 0 (omega arith) (omega arith)))))))
     (λ e. omega (arith, reply-space (length buffer) (isIndexed b) (tallyOf at b) s (then-second (must (writable buffer at) 21 0) _ e)))
 
 -- an accepted add puts the field and its LF, and is past them
-pub add-taken : (buffer : List ℕ) (at : ℕ) (b : Beside) (s : Said) {to : ℕ} → add buffer at b s .answer ≡ positionAfter to → let text = withLf (writtenField s) in (to ≡ at + length text) × (add buffer at b s .buffer ≡ put buffer at text)
+pub add-taken : (buffer : List ℕ) (at : ℕ) (b : IndexState) (s : Content) {to : ℕ} → add buffer at b s .answer ≡ positionAfter to → let text = withLf (writtenField s) in (to ≡ at + length text) × (add buffer at b s .buffer ≡ put buffer at text)
 unfolding add
 add-taken buffer at b s {to} e = go (addReply buffer at b s) e
   where
@@ -76,12 +76,12 @@ module _ (r : FiledAt) {last : List ℕ} {f : Call} (e : toldCall r last ≡ f) 
   filed-told q = ap {B = Called} (λ (k : ℕ). record { code = k; bytes = last }) q ∙ ap filed e
 
 -- the record that was loaded is the one that was added
-module _ (flat buffer : List ℕ) (at : ℕ) (b : Beside) {p : Party} (a : lentRecordReply flat ≡ accepted) (l : p ≡ unflatten flat) where
-  pub adds : filed (add buffer at b (said p)) ≡ pageAdd flat buffer at b
-  adds = ap (λ (x : Party). filed (add buffer at b (said x))) l ∙ rw a
+module _ (recordBytes buffer : List ℕ) (at : ℕ) (b : IndexState) {p : Party} (a : argumentReply recordBytes ≡ accepted) (l : p ≡ decoded recordBytes) where
+  pub adds : filed (add buffer at b (content p)) ≡ pageAdd recordBytes buffer at b
+  adds = ap (λ (x : Party). filed (add buffer at b (content x))) l ∙ rw a
 
-  pub adds-index : addIndex buffer at b (said p) ≡ pageAddIndex flat buffer at b
-  adds-index = ap (λ (x : Party). addIndex buffer at b (said x)) l ∙ rw a
+  pub adds-index : addIndex buffer at b (content p) ≡ pageAddIndex recordBytes buffer at b
+  adds-index = ap (λ (x : Party). addIndex buffer at b (content x)) l ∙ rw a
 
 -- ---- reading
 -- an outcome of the code, with the record beside it
@@ -129,7 +129,7 @@ module _ (page : List ℕ) (at : ℕ) where
     lent-bounded = by-lent (roomReply (length bytes)) (must-line (leb recordSize (length bytes)) 42 0 (omega arith) (omega arith))
 
     -- the read of the code, and what it stored
-    module _ (r : ReadInto) {out : List ℕ} (e : toldInto r ≡ outline (readLent page at bytes)) (o : out ≡ readBytes (readLent page at bytes .outcome) bytes) where
+    module _ (r : ReadInto) {out : List ℕ} (e : toldReadInto r ≡ outline (readLent page at bytes)) (o : out ≡ readBytes (readLent page at bytes .outcome) bytes) where
       abbrev p : Party
       p = partyBeside (readLent page at bytes .outcome)
 

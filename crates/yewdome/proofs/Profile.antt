@@ -11,7 +11,7 @@ use Rattle.party.specs.declared.PartyOption.{PartyOption}
 use Rattle.party.specs.declared.PartyOption.the-variants.{Field50C, Field50L}
 use Rattle.party.specs.declared.Party.{Party}
 use Rattle.party.specs.Limits.{limitsOf}
-use Rattle.party.specs.Party.{Said, said}
+use Rattle.party.specs.Party.{Content, content}
 use Rattle.party.proofs.Options.{by-option}
 use Rattle.swift_utils.specs.Bytes.{among}
 use Rattle.field_utils.specs.Lines.{lines}
@@ -28,7 +28,7 @@ use Rattle.writer.specs.Writing.{writtenLines, writtenBody, writtenField}
 use Rattle.writer.specs.Given.{isGiven}
 use Rattle.writer.specs.ReadBack.{endsCr}
 use Rattle.writer.proofs.Relined.{lines-rest, pieces-joined}
-use Rattle.writer.proofs.Sayings.{saying}
+use Rattle.writer.proofs.Contents.{foundContent}
 use Rattle.writer.proofs.Facts.{is-given}
 use Rattle.writer.proofs.Witness.{written-plain}
 use Rattle.writer.proofs.Sufficient.{lines-of}
@@ -46,16 +46,16 @@ module _ (o : PartyOption) (text : List ℕ) (e : read o text .reply ≡ accepte
   abbrev p : Party
   p = read o text .party
 
-  abbrev s : Said
-  s = saying o (foundBy (limitsOf o .layout) o text)
+  abbrev s : Content
+  s = foundContent o (foundBy (limitsOf o .layout) o text)
 
-  says : said p ≡ s
+  says : content p ≡ s
   says = accepted-is o text e .says
 
-  pub read-given : isGiven (said p) ≡ true
+  pub read-given : isGiven (content p) ≡ true
   read-given = ap isGiven says ∙ is-given s (accepted-is o text e .good .facts)
 
-  read-carried : Carried (readLines (limitsOf o .layout) text) → isCarried (said p) ≡ true
+  read-carried : Carried (readLines (limitsOf o .layout) text) → isCarried (content p) ≡ true
   unfolding isCarried writtenBody
   read-carried h =
       let g = accepted-is o text e .good in
@@ -88,8 +88,8 @@ lined =
 
 -- ---- a reading of a body that passes the profile: a page carries its record
 pub record Takes (p : Party) : Type 0 where
-  pub given : isGiven (said p) ≡ true
-  pub carried : isCarried (said p) ≡ true
+  pub given : isGiven (content p) ≡ true
+  pub carried : isCarried (content p) ≡ true
 
 module _ (body : List ℕ) where
   abbrev pub Taken : Reading → Type 0
@@ -134,7 +134,7 @@ module _ (body : List ℕ) where
 pub page-accepts : (p : Party) → Takes p → PageAccepts p
 page-accepts p t = record {
   adds = λ buffer at b w space free.
-      let c : add buffer at b (said p) ≡ putting accepted buffer at (withLf (writtenField (said p))) = add-asked buffer at b (said p) w (asked-by (said p) (t .given) (t .carried)) ∙ rw (space, free) in
+      let c : add buffer at b (content p) ≡ putting accepted buffer at (withLf (writtenField (content p))) = add-asked buffer at b (content p) w (asked-by (content p) (t .given) (t .carried)) ∙ rw (space, free) in
       ap (λ (x : Call). x .answer) c;
 }
 

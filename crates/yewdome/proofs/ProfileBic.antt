@@ -15,7 +15,7 @@ use Rattle.party.specs.declared.PartyOption.the-variants.{Field50C, Field50L}
 use Rattle.party.specs.declared.Party.{Party}
 use Rattle.party.specs.Limits.{limitsOf}
 use Rattle.party.specs.Text.{Used, used}
-use Rattle.party.specs.Party.{Said, said}
+use Rattle.party.specs.Party.{Content, content}
 use Rattle.party.proofs.Options.{by-option}
 use Rattle.swift_utils.specs.Bytes.{all, letter, digit, alphanumeric}
 use Rattle.swift_utils.specs.Checks.{bicLength, parseBic}
@@ -29,7 +29,7 @@ use Rattle.profile.specs.Profile.{isSame, holdsBic}
 use Rattle.writer.specs.Writing.{headLines, writtenLines}
 use Rattle.writer.specs.Given.{every, isBic}
 use Rattle.writer.proofs.Relined.{lines-rest}
-use Rattle.writer.proofs.Sayings.{usedOf, saying}
+use Rattle.writer.proofs.Contents.{usedOf, foundContent}
 use Rattle.writer.proofs.Facts.{bic-passes}
 use Rattle.writer.proofs.Witness.{where-yes}
 use Rattle.writer.specs.Sender.{readLines}
@@ -127,7 +127,7 @@ module _ (x : List ℕ) (e : parseBic 1 x ≡ accepted) where
   bic-trimmed = plain-trimmed x (all-more alphanumeric (λ (b : ℕ). not (white b)) (λ b h. rw (alphanumeric-kept b h)) x bic-all)
 
 -- ---- among the lines that are written of a record is its BIC
-bic-in : (s : Said) (v : Used) → s .bic ≡ v ∷ [] → Some (λ w. v .bytes ≡ w) (writtenLines s)
+bic-in : (s : Content) (v : Used) → s .bic ≡ v ∷ [] → Some (λ w. v .bytes ≡ w) (writtenLines s)
 unfolding writtenLines
 bic-in s v e =
     some-left (λ w. v .bytes ≡ w) (headLines (s .option) (s .present) (s .account) ++ map (λ (u : Used). u .bytes) (s .bic)) _
@@ -248,23 +248,23 @@ module _ (o : PartyOption) (text : List ℕ) (e : read o text .reply ≡ accepte
   abbrev f : Found
   f = foundBy (limitsOf o .layout) o text
 
-  says : said p ≡ saying o f
+  says : content p ≡ foundContent o f
   says = accepted-is o text e .says
 
   option-is : p .option ≡ o
-  unfolding said
-  option-is = ap (λ (s : Said). s .option) says
+  unfolding content
+  option-is = ap (λ (s : Content). s .option) says
 
-  module _ (b : ltb 0 (limitsOf (p .option) .bic) ≡ true) where
-    has : ltb 0 (limitsOf o .bic) ≡ true
-    has = ap (λ (x : PartyOption). ltb 0 (limitsOf x .bic)) (sym option-is) ∙ b
+  module _ (b : ltb 0 (limitsOf (p .option) .«bic_count») ≡ true) where
+    has : ltb 0 (limitsOf o .«bic_count») ≡ true
+    has = ap (λ (x : PartyOption). ltb 0 (limitsOf x .«bic_count»)) (sym option-is) ∙ b
 
-    one : saying o f .bic ≡ usedOf (f .bic) ∷ []
-    one = where-yes (limitsOf o .bic) (usedOf (f .bic) ∷ []) has
+    one : foundContent o f .bic ≡ usedOf (f .bic) ∷ []
+    one = where-yes (limitsOf o .«bic_count») (usedOf (f .bic) ∷ []) has
 
     bic-used : used (p .bic) ≡ usedOf (f .bic)
-    unfolding said
-    bic-used = head-eq-of-cons-eq (sym (where-yes (limitsOf (p .option) .bic) (used (p .bic) ∷ []) b) ∙ ap (λ (s : Said). s .bic) says ∙ one)
+    unfolding content
+    bic-used = head-eq-of-cons-eq (sym (where-yes (limitsOf (p .option) .«bic_count») (used (p .bic) ∷ []) b) ∙ ap (λ (s : Content). s .bic) says ∙ one)
 
     pub bic-accepted : parseBic 1 (f .bic) ≡ accepted
     bic-accepted = bic-passes (usedOf (f .bic)) (both-left (isBic (usedOf (f .bic))) true (subst (λ (us : List Used). every isBic us ≡ true) one (accepted-is o text e .good .facts .bic)))
@@ -274,7 +274,7 @@ module _ (o : PartyOption) (text : List ℕ) (e : read o text .reply ≡ accepte
     unfolding holdsBic
     holds-it l q =
         let s : isSame (trimmed l) (used (p .bic) .bytes) ≡ isSame (f .bic) (f .bic) = λ i. isSame (q i) (bic-used i .bytes) in
-        both (ltb 0 (limitsOf (p .option) .bic)) (isSame (trimmed l) (used (p .bic) .bytes)) b (s ∙ same-refl (f .bic))
+        both (ltb 0 (limitsOf (p .option) .«bic_count»)) (isSame (trimmed l) (used (p .bic) .bytes)) b (s ∙ same-refl (f .bic))
 
     -- among the lines that were read there is one
     pub read-holds : Some (λ l. holdsBic p l ≡ true) (readLines (limitsOf o .layout) text)
@@ -282,14 +282,14 @@ module _ (o : PartyOption) (text : List ℕ) (e : read o text .reply ≡ accepte
         let ls = readLines (limitsOf o .layout) text in
         let first = accepted-is o text e .good .lines in
         some-as (λ l. f .bic ≡ l) (λ l. holdsBic p l ≡ true) (λ l r. holds-it l (ap trimmed (sym r) ∙ bic-trimmed (f .bic) bic-accepted)) ls
-        (subst (Some (λ l. f .bic ≡ l)) (sym (first .are)) (some-left (λ l. f .bic ≡ l) (writtenLines (saying o f)) (first .rest) (bic-in (saying o f) (usedOf (f .bic)) one)))
+        (subst (Some (λ l. f .bic ≡ l)) (sym (first .are)) (some-left (λ l. f .bic ≡ l) (writtenLines (foundContent o f)) (first .rest) (bic-in (foundContent o f) (usedOf (f .bic)) one)))
 
 -- of a body that is one line, that line
 abbrev Holds : Party → List (List ℕ) → Type 0
 Holds p ls = Some (λ l. holdsBic p l ≡ true) ls
 
 abbrev Lined : PartyOption → Type 0
-Lined o = (text : List ℕ) (p : Party) → ltb 0 (limitsOf o .bic) ≡ true → foundBy (limitsOf o .layout) o text .reply ≡ accepted → Holds p (readLines (limitsOf o .layout) text)
+Lined o = (text : List ℕ) (p : Party) → ltb 0 (limitsOf o .«bic_count») ≡ true → foundBy (limitsOf o .layout) o text .reply ≡ accepted → Holds p (readLines (limitsOf o .layout) text)
     → Holds p (lines text)
 
 bic-only : Lined Field50C
@@ -304,7 +304,7 @@ lined =
 
 -- a reading of a body: where its record has a BIC, a line of the body holds it
 abbrev pub Held : List ℕ → Reading → Type 0
-Held body r = r .reply ≡ accepted → ltb 0 (limitsOf (r .party .option) .bic) ≡ true → anyHolds (r .party) (lines body) ≡ true
+Held body r = r .reply ≡ accepted → ltb 0 (limitsOf (r .party .option) .«bic_count») ≡ true → anyHolds (r .party) (lines body) ≡ true
 
 pub read-held : (body : List ℕ) (o : PartyOption) → Held body (read o body)
 read-held body o e b =

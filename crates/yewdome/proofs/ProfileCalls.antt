@@ -8,7 +8,7 @@ use lib.ListN.{length, getD}
 use Rattle.errors.specs.Refusals.{accepted}
 use Rattle.party.specs.declared.Party.{Party}
 use Rattle.party.specs.Limits.{optionAt}
-use Rattle.party.specs.Party.{blank, said}
+use Rattle.party.specs.Party.{blank, content}
 use Rattle.field_utils.specs.Names.{parseLines, parseNameAndAddress}
 use Rattle.field_utils.proofs.Tests.{both-left, both-right}
 use Rattle.reader.specs.Reading.{Reading}
@@ -17,8 +17,8 @@ use Rattle.reader.specs.Choices.{parse, parseWithVariant}
 use Rattle.profile.specs.Profile.{profiled}
 use Rattle.writer.specs.Writing.{nameLines}
 use Rattle.writer.specs.Given.{areNames, isGiven}
-use Rattle.flat.specs.Flat.{recordSize, isFlat, unflatten}
-use Rattle.yewdome.specs.Interface.{Called, recordReply, given, choiceAt, filedCode}
+use Rattle.record_bytes.specs.RecordBytes.{recordSize, holdsRecord, decoded}
+use Rattle.yewdome.specs.Interface.{Called, argumentReply, given, choiceAt, filedCode}
 use Rattle.yewdome.specs.Code.{Named}
 use Rattle.yewdome.specs.Profile.{CallPromise, ExportedProfile}
 use Rattle.yewdome.proofs.Answers.{profile-read-line, profile-parse-line, profile-variant-line}
@@ -28,19 +28,19 @@ use Rattle.yewdome.proofs.Theorems.{parse-loads, variant-loads, accepts
 use Rattle.yewdome.proofs.Profile.{Taken, read-taken, parse-taken, variant-taken, under-accepted, under-same, page-accepts}
 
 -- a lent record that a reader can give passes the tests of a lent one, since the blank record is none
-blank-not : isGiven (said blank) ≡ false
-unfolding said isGiven areNames nameLines parseNameAndAddress parseLines
+blank-not : isGiven (content blank) ≡ false
+unfolding content isGiven areNames nameLines parseNameAndAddress parseLines
 blank-not = refl
 
-given-passes : (flat : List ℕ) → isGiven (said (unflatten flat)) ≡ true → recordReply flat ≡ accepted
-unfolding unflatten isFlat
-given-passes flat e = go (isFlat flat) refl
+given-passes : (recordBytes : List ℕ) → isGiven (content (decoded recordBytes)) ≡ true → argumentReply recordBytes ≡ accepted
+unfolding decoded holdsRecord
+given-passes recordBytes e = go (holdsRecord recordBytes) refl
   where
-    go : (t : Bool) → isFlat flat ≡ t → recordReply flat ≡ accepted
+    go : (t : Bool) → holdsRecord recordBytes ≡ t → argumentReply recordBytes ≡ accepted
     go true f =
-        let two = both-left (leb recordSize (length flat) && leb (getD flat 0 0) 10) (leb (getD flat 1 0) 1) f in
-        rw (both-left (leb recordSize (length flat)) (leb (getD flat 0 0) 10) two, both-right (leb recordSize (length flat)) (leb (getD flat 0 0) 10) two)
-    go false f = absurd (false≢true (sym blank-not ∙ (rw (f, unflatten) at e)))
+        let two = both-left (leb recordSize (length recordBytes) && leb (getD recordBytes 0 0) 10) (leb (getD recordBytes 1 0) 1) f in
+        rw (both-left (leb recordSize (length recordBytes)) (leb (getD recordBytes 0 0) 10) two, both-right (leb recordSize (length recordBytes)) (leb (getD recordBytes 0 0) 10) two)
+    go false f = absurd (false≢true (sym blank-not ∙ (rw (f, decoded) at e)))
 
 -- a call by its reading under the profile
 module _ (known : Bool) (r : Reading) (body bytes : List ℕ) (n : Named (profiled r body .reply)) (l : Loads (r .party)) (t : Taken body r) where
@@ -51,7 +51,7 @@ module _ (known : Bool) (r : Reading) (body bytes : List ℕ) (n : Named (profil
     took : profiled r body .reply ≡ accepted
     took = accepts known (profiled r body) bytes n e
 
-    loaded : unflatten (call .bytes) ≡ r .party
+    loaded : decoded (call .bytes) ≡ r .party
     loaded = let q = under-same r body took in loads known (profiled r body) bytes n e (subst (λ (x : Reading). Loads (x .party)) q l) ∙ ap (λ (x : Reading). x .party) (sym q)
 
   exported : CallPromise r call
@@ -60,7 +60,7 @@ module _ (known : Bool) (r : Reading) (body bytes : List ℕ) (n : Named (profil
     adds = λ e buffer at b w space free.
         let h = under-accepted r body (took e) in
         let k = t (h .0) (h .1) in
-        let g : recordReply (call .bytes) ≡ accepted = given-passes (call .bytes) (ap (λ (p : Party). isGiven (said p)) (loaded e) ∙ k .given) in
+        let g : argumentReply (call .bytes) ≡ accepted = given-passes (call .bytes) (ap (λ (p : Party). isGiven (content p)) (loaded e) ∙ k .given) in
         ap (λ (c : Called). c .code) (sym (adds (call .bytes) buffer at b g (sym (loaded e)))) ∙ ap filedCode (page-accepts (r .party) k .adds buffer at b w space free);
   }
 

@@ -9,33 +9,33 @@ use lib.Dec.{eqb}
 use lib.ListN.{length, drop, getD}
 use Rattle.errors.specs.Refusals.{accepted}
 use Rattle.party.specs.declared.Party.{Party}
-use Rattle.party.specs.Party.{said}
+use Rattle.party.specs.Party.{content}
 use Rattle.party.specs.Limits.{optionAt}
 use Rattle.party.proofs.Options.{placed, place-most}
 use Rattle.writer.specs.Writing.{writtenField}
 use Rattle.page_reader.specs.Pages.{ReadOutcome, aRecord, theEnd, aRefusal, PageRead, readAt, readBytes}
 use Rattle.page_reader.proofs.Moves.{next-most}
 use Rattle.page_reader.specs.Reads.{readHere}
-use Rattle.page_writer.specs.Beside.{noIndex}
+use Rattle.page_writer.specs.IndexState.{noIndex}
 use Rattle.page_writer.specs.Adding.{withLf, Filed, positionAfter, refusal, Call, add}
 use Rattle.page_writer.specs.Fold.{Step}
 use Rattle.page_writer.specs.WholePage.{OpenPage, lastGiven}
 use Rattle.page_writer.proofs.Addings.{index-none}
 use Rattle.kept.specs.Fields.{causesBy}
-use Rattle.flat.specs.Flat.{recordSize, flatten, stored, unflatten}
-use Rattle.flat.proofs.Laws.{stored-whole}
-use Rattle.flat.proofs.Theorems.{bit-back}
+use Rattle.record_bytes.specs.RecordBytes.{recordSize, encoded, stored, decoded}
+use Rattle.record_bytes.proofs.Laws.{stored-whole}
+use Rattle.record_bytes.proofs.Theorems.{bit-back}
 use Rattle.yewdome.specs.Filing.{openPage, filedAs}
-use Rattle.yewdome.specs.Interface.{Called, recordReply, readCode, readInto, pageRead, causesCode, causedNumber, pageKept, filedCode, filed, pageAdd}
+use Rattle.yewdome.specs.Interface.{Called, argumentReply, readCode, readCall, pageRead, causesCode, causedNumber, pageKept, filedCode, filed, pageAdd}
 use Rattle.yewdome.specs.Code.{Named, Within, stepBy, WasRead, WasFiled}
 use Rattle.yewdome.proofs.Pages.{add-within, add-taken, adds, replyOf, page-line, onward-from}
 use Rattle.yewdome.proofs.Theorems.{page-loads}
 
 -- a record that was stored passes the tests of a lent one
-stored-passes : (p : Party) (bytes : List ℕ) {into : List ℕ} → recordSize ≤ length bytes → recordSize ≤ length into → into ≡ stored p bytes → recordReply into ≡ accepted
-unfolding flatten
+stored-passes : (p : Party) (bytes : List ℕ) {into : List ℕ} → recordSize ≤ length bytes → recordSize ≤ length into → into ≡ stored p bytes → argumentReply into ≡ accepted
+unfolding encoded
 stored-passes p bytes {into} h i e =
-    let first : getD into 0 0 ≡ getD (flatten p) 0 0 = ap (λ (l : List ℕ). getD l 0 0) (e ∙ stored-whole p bytes h) in
+    let first : getD into 0 0 ≡ getD (encoded p) 0 0 = ap (λ (l : List ℕ). getD l 0 0) (e ∙ stored-whole p bytes h) in
     rw (le-leb recordSize (length into) i, le-leb (getD into 0 0) 10 (omega (arith, first, place-most (p .option))))
 
 -- what a call of `yewdome_page_read` gave, with room for a record
@@ -51,7 +51,7 @@ module _ {page : List ℕ} {at n : ℕ} {into : List ℕ} (g : Given page at n i
   abbrev moved : ℕ
   moved = r .next - at
 
-  given : (record { code = n; bytes = into }) ≡ readInto r at (g .bytes)
+  given : (record { code = n; bytes = into }) ≡ readCall r at (g .bytes)
   given = g .call ∙ rw (le-leb recordSize (length (g .bytes)) (g .room))
 
   -- the number of a read, by its outcome
@@ -72,7 +72,7 @@ module _ {page : List ℕ} {at n : ℕ} {into : List ℕ} (g : Given page at n i
   stores l = ap (λ (x : Called). x .bytes) given ∙ ap (λ (x : ReadOutcome). readBytes x (g .bytes)) (is-record l .1)
 
   pub was-read : n < 65536 → recordSize ≤ length into → WasRead page at into
-  unfolding flatten
+  unfolding encoded
   was-read l i = record {
     party = is-record l .0;
     read = is-record l .1;
@@ -81,7 +81,7 @@ module _ {page : List ℕ} {at n : ℕ} {into : List ℕ} (g : Given page at n i
     present = ap (λ (b : ℕ). eqb b 1) (byte 1) ∙ bit-back (is-record l .0 .present);
   }
     where
-      byte : (j : ℕ) → getD into j 0 ≡ getD (flatten (is-record l .0) ++ drop recordSize (g .bytes)) j 0
+      byte : (j : ℕ) → getD into j 0 ≡ getD (encoded (is-record l .0) ++ drop recordSize (g .bytes)) j 0
       byte j = ap (λ (b : List ℕ). getD b j 0) (stores l ∙ stored-whole (is-record l .0) (g .bytes) (g .room))
 
   -- a read with the causes beside it
@@ -127,11 +127,11 @@ module _ {page : List ℕ} {at n : ℕ} {into : List ℕ} (g : Given page at n i
       p = is-record l .0
 
       abbrev c : Call
-      c = add now position noIndex (said p)
+      c = add now position noIndex (content p)
 
       filed-is : (record { code = added; bytes = left }) ≡ filed c
       filed-is =
-          let loads : p ≡ unflatten into = sym (page-loads page at (g .bytes) p (g .room) (is-record l .1)) ∙ ap (λ (x : Called). unflatten (x .bytes)) (sym (g .call)) in
+          let loads : p ≡ decoded into = sym (page-loads page at (g .bytes) p (g .room) (is-record l .1)) ∙ ap (λ (x : Called). decoded (x .bytes)) (sym (g .call)) in
           a ∙ sym (adds into now position noIndex (stored-passes p (g .bytes) (g .room) i (stores l)) loads)
 
       -- the step, by what the add answered
@@ -142,14 +142,14 @@ module _ {page : List ℕ} {at n : ℕ} {into : List ℕ} (g : Given page at n i
       is-after q =
           let kept : left ≡ c .buffer = ap (λ (x : Called). x .bytes) filed-is in
           let told : after (c .answer) ≡ stepBy true page s (record { at = at; gave = record { outcome = aRecord p; body = r .body; next = r .next } }) =
-          λ j. record { state = record { buffer = kept j; position = lastGiven (c .answer) position; index = sym (index-none now position (said p)) j }; answer = causedNumber page (readHere page at) (filedAs (c .answer) p) } in
+          λ j. record { state = record { buffer = kept j; position = lastGiven (c .answer) position; index = sym (index-none now position (content p)) j }; answer = causedNumber page (readHere page at) (filedAs (c .answer) p) } in
           ap after (sym q) ∙ told ∙ (λ j. stepBy (sym t j) page s (record { at = at; gave = record { outcome = sym (is-record l .1) j; body = r .body; next = r .next } }))
 
       code : {f : Filed} → c .answer ≡ f → added ≡ filedCode f
       code q = ap (λ (x : Called). x .code) filed-is ∙ ap filedCode q
 
       within : {f : Filed} → c .answer ≡ f → Within f
-      within q = subst Within q (add-within now position noIndex (said p))
+      within q = subst Within q (add-within now position noIndex (content p))
 
       -- it was filed: how many bytes were written, and what the step answers
       pub filed-as : added < 65536 → (position ≤ added) × WasFiled page at into n (added - position)
@@ -157,11 +157,11 @@ module _ {page : List ℕ} {at n : ℕ} {into : List ℕ} (g : Given page at n i
         where
           go : (f : Filed) → c .answer ≡ f → (position ≤ added) × WasFiled page at into n (added - position)
           go (positionAfter to) q =
-              let w : to ≡ position + length (withLf (writtenField (said p))) = add-taken now position noIndex (said p) q .0 in
+              let w : to ≡ position + length (withLf (writtenField (content p))) = add-taken now position noIndex (content p) q .0 in
               let f = was-read l i in
               let one : aRecord p ≡ aRecord (f .party) = sym (is-record l .1) ∙ f .read in
               let same : p ≡ f .party = cc in
-              (omega (arith, code q, w), record { was = f; moves = omega (arith, number (is-record l .1), onward-from page at); writes = omega (arith, code q, w, ap (λ (x : Party). length (withLf (writtenField (said x)))) same) })
+              (omega (arith, code q, w), record { was = f; moves = omega (arith, number (is-record l .1), onward-from page at); writes = omega (arith, code q, w, ap (λ (x : Party). length (withLf (writtenField (content x)))) same) })
           go (refusal a b) q = absurd (omega (arith, m, code q, within q .0))
 
       pub was-filed : added < 65536 → {k : ℕ} → k ≡ causesCode (causesBy page at (r .outcome)) → (record { state = openPage left added; answer = k * 131072 + n }) ≡ stepBy files page s (readHere page at)

@@ -12,7 +12,7 @@ use Rattle.errors.specs.Refusals.{Reply, accepted, refused, must}
 use Rattle.errors.proofs.Replies.{must-held, then-first}
 use Rattle.party.specs.declared.Party.{Party}
 use Rattle.party.specs.Limits.{optionAt}
-use Rattle.party.specs.Party.{said}
+use Rattle.party.specs.Party.{content}
 use Rattle.reader.specs.Reading.{Reading}
 use Rattle.reader.specs.Options.{read}
 use Rattle.reader.specs.declared.choices.Choice.{Choice}
@@ -24,8 +24,8 @@ use Rattle.writer.proofs.Theorems.{measure-and-place}
 use Rattle.page_reader.specs.Pages.{pageMost, ReadOutcome, aRecord, theEnd, aRefusal, outcomeOf, readAt, bodyPlace}
 use Rattle.page_reader.proofs.Moves.{every-read}
 use Rattle.page_reader.proofs.Bodies.{body-there, body-most}
-use Rattle.flat.specs.Flat.{recordSize, stored, unflatten}
-use Rattle.yewdome.specs.Interface.{Called, codeOf, lentReply, recordReply, asked, storing, given, partyRead, choiceAt, partyParse, partyParseWithVariant, measuredCode, codeOr, partyMeasure, placedCall, partyPlace, readCode, pageRead, pageBody}
+use Rattle.record_bytes.specs.RecordBytes.{recordSize, stored, decoded}
+use Rattle.yewdome.specs.Interface.{Called, codeOf, argumentsReply, argumentReply, afterChecks, storedCall, given, partyRead, choiceAt, partyParse, partyParseWithVariant, measuredCode, codeOr, partyMeasure, placedCall, partyPlace, readCode, pageRead, pageBody}
 use Rattle.yewdome.specs.Code.{Named, Measurable}
 use Rattle.yewdome.proofs.LineBounds.{must-line, must-then, read-line}
 use Rattle.reader.proofs.Loading.{Loads, blank-loads, read-loads, stored-loads}
@@ -43,10 +43,10 @@ pub no-refusal : (r : Reply) → Named r → codeOf r < 65536 → r ≡ accepted
 no-refusal accepted n h = refl
 no-refusal (refused k l) n h = absurd (omega (arith, n .0, h))
 
-pub lent-named : (len : ℕ) (known : Bool) → Named (lentReply len known)
+pub lent-named : (len : ℕ) (known : Bool) → Named (argumentsReply len known)
 lent-named len known = must-then (leb recordSize len) 42 0 (must known 41 0) (omega arith) (omega arith) (must-line known 41 0 (omega arith) (omega arith))
 
-pub asked-passed : (r : Reply) (c : Called) (bytes : List ℕ) → Named r → asked r c bytes .code < 65536 → r ≡ accepted
+pub asked-passed : (r : Reply) (c : Called) (bytes : List ℕ) → Named r → afterChecks r c bytes .code < 65536 → r ≡ accepted
 asked-passed accepted c bytes n h = refl
 asked-passed (refused k l) c bytes n h = no-refusal (refused k l) n h
 
@@ -54,16 +54,16 @@ code-passed : (r : Reply) (code : ℕ) → Named r → codeOr r code < 65536 →
 code-passed accepted code n h = refl
 code-passed (refused k l) code n h = no-refusal (refused k l) n h
 
-pub lent-size : (len : ℕ) (known : Bool) → lentReply len known ≡ accepted → recordSize ≤ len
+pub lent-size : (len : ℕ) (known : Bool) → argumentsReply len known ≡ accepted → recordSize ≤ len
 lent-size len known e = leb-true recordSize len (must-held (leb recordSize len) 42 0 (then-first _ (must known 41 0) e))
 
 -- ---- what a call leaves
 module _ (known : Bool) (r : Reading) (bytes : List ℕ) (n : Named (r .reply)) (e : given known r bytes .code ≡ 0) where
   abbrev c : Called
-  c = storing (r .reply) (r .party) bytes
+  c = storedCall (r .reply) (r .party) bytes
 
-  a : lentReply (length bytes) known ≡ accepted
-  a = asked-passed (lentReply (length bytes) known) c bytes (lent-named (length bytes) known) (omega (arith, e))
+  a : argumentsReply (length bytes) known ≡ accepted
+  a = asked-passed (argumentsReply (length bytes) known) c bytes (lent-named (length bytes) known) (omega (arith, e))
 
   gave : given known r bytes ≡ c
   gave = rw a
@@ -72,20 +72,20 @@ module _ (known : Bool) (r : Reading) (bytes : List ℕ) (n : Named (r .reply)) 
   pub accepts : r .reply ≡ accepted
   accepts = no-refusal (r .reply) n (omega (arith, e, ap (λ (x : Called). x .code) gave))
 
-  pub loads : Loads (r .party) → unflatten (given known r bytes .bytes) ≡ r .party
+  pub loads : Loads (r .party) → decoded (given known r bytes .bytes) ≡ r .party
   loads l =
       let is : c .bytes ≡ stored (r .party) bytes = rw accepts in
-      ap (λ (x : Called). unflatten (x .bytes)) gave ∙ (ap unflatten is ∙ stored-loads (r .party) bytes l (lent-size (length bytes) known a))
+      ap (λ (x : Called). decoded (x .bytes)) gave ∙ (ap decoded is ∙ stored-loads (r .party) bytes l (lent-size (length bytes) known a))
 
 -- where a call's number is 0, the bytes load as the record that was read
-pub party-read-loads : (option : ℕ) (body bytes : List ℕ) → partyRead option body bytes .code ≡ 0 → unflatten (partyRead option body bytes .bytes) ≡ read (optionAt option) body .party
+pub party-read-loads : (option : ℕ) (body bytes : List ℕ) → partyRead option body bytes .code ≡ 0 → decoded (partyRead option body bytes .bytes) ≡ read (optionAt option) body .party
 party-read-loads option body bytes e = loads (leb option 10) (read (optionAt option) body) bytes (read-line (optionAt option) body) e (read-loads (optionAt option) body)
 
-pub party-parse-loads : (choice : ℕ) (body bytes : List ℕ) → partyParse choice body bytes .code ≡ 0 → unflatten (partyParse choice body bytes .bytes) ≡ parse (choiceAt choice) body .party
+pub party-parse-loads : (choice : ℕ) (body bytes : List ℕ) → partyParse choice body bytes .code ≡ 0 → decoded (partyParse choice body bytes .bytes) ≡ parse (choiceAt choice) body .party
 party-parse-loads choice body bytes e = loads (leb choice 6) (parse (choiceAt choice) body) bytes (parse-line (choiceAt choice) body) e (parse-loads (choiceAt choice) body)
 
 pub party-variant-loads : (choice : ℕ) (body : List ℕ) (letter : ℕ) (bytes : List ℕ) → partyParseWithVariant choice body letter bytes .code ≡ 0
-    → unflatten (partyParseWithVariant choice body letter bytes .bytes) ≡ parseWithVariant (choiceAt choice) body letter .party
+    → decoded (partyParseWithVariant choice body letter bytes .bytes) ≡ parseWithVariant (choiceAt choice) body letter .party
 party-variant-loads choice body letter bytes e =
     loads (leb choice 6) (parseWithVariant (choiceAt choice) body letter) bytes (variant-line (choiceAt choice) body letter) e (variant-loads (choiceAt choice) body letter)
 
@@ -100,11 +100,11 @@ outcome-loads accepted p l = l
 outcome-loads (refused k n) p l = tt
 
 -- where a read gives a record and there is room for it, the bytes load as that record
-pub page-loads : (page : List ℕ) (at : ℕ) (bytes : List ℕ) (p : Party) → recordSize ≤ length bytes → readAt page at .outcome ≡ aRecord p → unflatten (pageRead page at bytes .bytes) ≡ p
+pub page-loads : (page : List ℕ) (at : ℕ) (bytes : List ℕ) (p : Party) → recordSize ≤ length bytes → readAt page at .outcome ≡ aRecord p → decoded (pageRead page at bytes .bytes) ≡ p
 page-loads page at bytes p h e =
     let l : Loads p = subst OutcomeLoads e (every-read OutcomeLoads (λ o body. outcome-loads (read o body .reply) (read o body .party) (read-loads o body)) (λ k i. tt) tt page at) in
     let is : pageRead page at bytes .bytes ≡ stored p bytes = rw (le-leb recordSize (length bytes) h, e) in
-    ap unflatten is ∙ stored-loads p bytes l h
+    ap decoded is ∙ stored-loads p bytes l h
 
 -- ---- what was measured and written
 told-length : (m : Measured) → Measurable m → measuredCode m < 65536 → m ≡ lengthIs (measuredCode m)
@@ -112,38 +112,38 @@ told-length (lengthIs n) w h = refl
 told-length (refusedWith k l) w h = absurd (omega (arith, w .0, h))
 
 -- a number below 65,536 says that the lent record passes, and that its field was written, with so many bytes
-pub record Writes (flat buffer : List ℕ) : Type 0 where
-  pub passes : recordReply flat ≡ accepted
-  pub accepts : place (said (unflatten flat)) buffer .answer ≡ lengthIs (partyPlace flat buffer .code)
+pub record Writes (recordBytes buffer : List ℕ) : Type 0 where
+  pub passes : argumentReply recordBytes ≡ accepted
+  pub accepts : place (content (decoded recordBytes)) buffer .answer ≡ lengthIs (partyPlace recordBytes buffer .code)
 
-pub write-accepts : (flat buffer : List ℕ) → partyPlace flat buffer .code < 65536 → Writes flat buffer
-write-accepts flat buffer h =
-    let p = unflatten flat in
-    let c = place (said p) buffer in
-    let a : recordReply flat ≡ accepted = asked-passed (recordReply flat) (placedCall c) buffer (lent-named (length flat) (leb (getD flat 0 0) 10)) h in
-    let is : measuredCode (c .answer) ≡ partyPlace flat buffer .code = ap (λ (x : Called). x .code) (places flat a buffer) in
+pub write-accepts : (recordBytes buffer : List ℕ) → partyPlace recordBytes buffer .code < 65536 → Writes recordBytes buffer
+write-accepts recordBytes buffer h =
+    let p = decoded recordBytes in
+    let c = place (content p) buffer in
+    let a : argumentReply recordBytes ≡ accepted = asked-passed (argumentReply recordBytes) (placedCall c) buffer (lent-named (length recordBytes) (leb (getD recordBytes 0 0) 10)) h in
+    let is : measuredCode (c .answer) ≡ partyPlace recordBytes buffer .code = ap (λ (x : Called). x .code) (places recordBytes a buffer) in
     record { passes = a; accepts = told-length (c .answer) (place-within p buffer) (omega (arith, is, h)) ∙ ap lengthIs is }
 
 -- one that measuring gave says that too, and is the length of the field: so many bytes are enough to place it, and it takes no other;
 -- fewer are 24
-pub record Measures (flat buffer : List ℕ) : Type 0 where
-  pub passes : recordReply flat ≡ accepted
-  pub exact : partyMeasure flat ≡ length (writtenField (said (unflatten flat)))
-  pub enough : partyMeasure flat ≤ length buffer
-      → partyPlace flat buffer ≡ record { code = partyMeasure flat; bytes = writtenField (said (unflatten flat)) ++ drop (partyMeasure flat) buffer }
-  pub short : length buffer < partyMeasure flat → partyPlace flat buffer ≡ record { code = codeOf (refused 24 0); bytes = buffer }
+pub record Measures (recordBytes buffer : List ℕ) : Type 0 where
+  pub passes : argumentReply recordBytes ≡ accepted
+  pub exact : partyMeasure recordBytes ≡ length (writtenField (content (decoded recordBytes)))
+  pub enough : partyMeasure recordBytes ≤ length buffer
+      → partyPlace recordBytes buffer ≡ record { code = partyMeasure recordBytes; bytes = writtenField (content (decoded recordBytes)) ++ drop (partyMeasure recordBytes) buffer }
+  pub short : length buffer < partyMeasure recordBytes → partyPlace recordBytes buffer ≡ record { code = codeOf (refused 24 0); bytes = buffer }
 
-pub measure-accepts : (flat buffer : List ℕ) → partyMeasure flat < 65536 → Measures flat buffer
-measure-accepts flat buffer h =
-    let p = unflatten flat in
-    let a : recordReply flat ≡ accepted = code-passed (recordReply flat) (measuredCode (measure (said p))) (lent-named (length flat) (leb (getD flat 0 0) 10)) h in
-    let is : measuredCode (measure (said p)) ≡ partyMeasure flat = measures flat a in
-    let s = measure-and-place p buffer .measured (told-length (measure (said p)) (measure-within p) (omega (arith, is, h)) ∙ ap lengthIs is) in
+pub measure-accepts : (recordBytes buffer : List ℕ) → partyMeasure recordBytes < 65536 → Measures recordBytes buffer
+measure-accepts recordBytes buffer h =
+    let p = decoded recordBytes in
+    let a : argumentReply recordBytes ≡ accepted = code-passed (argumentReply recordBytes) (measuredCode (measure (content p))) (lent-named (length recordBytes) (leb (getD recordBytes 0 0) 10)) h in
+    let is : measuredCode (measure (content p)) ≡ partyMeasure recordBytes = measures recordBytes a in
+    let s = measure-and-place p buffer .measured (told-length (measure (content p)) (measure-within p) (omega (arith, is, h)) ∙ ap lengthIs is) in
     record {
       passes = a;
       exact = s .exact;
-      enough = λ e. sym (places flat a buffer) ∙ ap placedCall (s .enough e);
-      short = λ e. sym (places flat a buffer) ∙ ap placedCall (s .short e);
+      enough = λ e. sym (places recordBytes a buffer) ∙ ap placedCall (s .enough e);
+      short = λ e. sym (places recordBytes a buffer) ∙ ap placedCall (s .short e);
     }
 
 -- ---- numbers

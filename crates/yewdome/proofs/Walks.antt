@@ -9,10 +9,10 @@ use borrow.Author.Tests.{eq-eqb, ne-eqb, lt-ltb, le-ltb}
 use lib.ListN.{length, set, length-append}
 use Rattle.errors.specs.Refusals.{accepted, refused}
 use Rattle.party.specs.declared.Party.{Party}
-use Rattle.party.specs.Party.{said}
+use Rattle.party.specs.Party.{content}
 use Rattle.writer.proofs.Puts.{puts-byte, space, Partway, begun, finished, kept, next}
 use Rattle.page_reader.specs.Pages.{pageMost, ReadOutcome, aRecord, theEnd, aRefusal, readAt}
-use Rattle.page_reader.specs.Reads.{Read, readHere, isEnd, isLast, reads}
+use Rattle.page_reader.specs.Reads.{Read, readHere, isTheEnd, isLast, reads}
 use Rattle.page_reader.proofs.Moves.{next-most}
 use Rattle.page_reader.proofs.InTurn.{read-moves, rest, rest-some, rest-start, rest-last, rest-next, reads-most, reads-few}
 use Rattle.page_writer.specs.Adding.{Filed, positionAfter, refusal, add}
@@ -35,25 +35,25 @@ filed-named (positionAfter n) p h = tt
 filed-named (refusal k n) p h = h
 
 pub named-by : (files : Bool) (s : OpenPage) (x : ReadOutcome) → Named (replyOf x) → Named (replyOf (outcomeBy files s x .answer))
-named-by true s (aRecord p) h = filed-named (add (s .buffer) (s .position) (s .index) (said p) .answer) p (add-within (s .buffer) (s .position) (s .index) (said p))
+named-by true s (aRecord p) h = filed-named (add (s .buffer) (s .position) (s .index) (content p) .answer) p (add-within (s .buffer) (s .position) (s .index) (content p))
 named-by true s theEnd h = tt
 named-by true s (aRefusal k n) h = h
 named-by false s x h = h
 
 -- it is the end where the read is
-filed-ended : (f : Filed) (p : Party) → isEnd (filedAs f p) ≡ false
+filed-ended : (f : Filed) (p : Party) → isTheEnd (filedAs f p) ≡ false
 filed-ended (positionAfter n) p = refl
 filed-ended (refusal k n) p = refl
 
-pub ended-by : (files : Bool) (s : OpenPage) (x : ReadOutcome) → isEnd (outcomeBy files s x .answer) ≡ isEnd x
-ended-by true s (aRecord p) = filed-ended (add (s .buffer) (s .position) (s .index) (said p) .answer) p
+pub ended-by : (files : Bool) (s : OpenPage) (x : ReadOutcome) → isTheEnd (outcomeBy files s x .answer) ≡ isTheEnd x
+ended-by true s (aRecord p) = filed-ended (add (s .buffer) (s .position) (s .index) (content p) .answer) p
 ended-by true s theEnd = refl
 ended-by true s (aRefusal k n) = refl
 ended-by false s x = refl
 
 -- its number tells whether it is the end
 module _ (moved : ℕ) (h : moved ≤ pageMost) where
-  code-end : (x : ReadOutcome) → Named (replyOf x) → readCode x moved / 65536 ≡ 1 → isEnd x ≡ true
+  code-end : (x : ReadOutcome) → Named (replyOf x) → readCode x moved / 65536 ≡ 1 → isTheEnd x ≡ true
   code-end (aRecord p) n e =
       let z : moved / 65536 ≡ 0 = div-eq-of-lt (omega (arith, h)) in
       absurd (omega (arith, sym z ∙ e))
@@ -62,7 +62,7 @@ module _ (moved : ℕ) (h : moved ≤ pageMost) where
       let c : readCode (aRefusal k l) moved ≡ codeOf (refused k l) * 65536 * 65536 + moved = omega arith in
       absurd (omega (arith, sym (high 65536 (codeOf (refused k l) * 65536) moved (omega (arith, h))) ∙ ap (λ (m : ℕ). m / 65536) (sym c) ∙ e, n .0))
 
-  code-on : (x : ReadOutcome) → (readCode x moved / 65536 ≡ 1 → ⊥) → isEnd x ≡ false
+  code-on : (x : ReadOutcome) → (readCode x moved / 65536 ≡ 1 → ⊥) → isTheEnd x ≡ false
   code-on (aRecord p) e = refl
   code-on theEnd e = absurd (e (high 65536 1 moved (omega (arith, h))))
   code-on (aRefusal k l) e = refl
@@ -92,13 +92,13 @@ module _ (page : List ℕ) (at : ℕ) where
   answer-moved true (aRefusal k n) = read-moved (aRefusal k n) past past-few
   answer-moved false x = read-moved x past past-few
 
-  pub answer-end : (files : Bool) (x : ReadOutcome) → Named (replyOf x) → answerBy files page (readHere page at) x / 65536 ≡ 1 → isEnd x ≡ true
+  pub answer-end : (files : Bool) (x : ReadOutcome) → Named (replyOf x) → answerBy files page (readHere page at) x / 65536 ≡ 1 → isTheEnd x ≡ true
   answer-end true (aRecord p) n e = let k = causesCode (causesBy page at (aRecord p)) in absurd (omega (arith, sym (caused-high k) ∙ e))
   answer-end true theEnd n e = refl
   answer-end true (aRefusal k l) n e = code-end past past-few (aRefusal k l) n e
   answer-end false x n e = code-end past past-few x n e
 
-  answer-on : (files : Bool) (x : ReadOutcome) → (answerBy files page (readHere page at) x / 65536 ≡ 1 → ⊥) → isEnd x ≡ false
+  answer-on : (files : Bool) (x : ReadOutcome) → (answerBy files page (readHere page at) x / 65536 ≡ 1 → ⊥) → isTheEnd x ≡ false
   answer-on true (aRecord p) e = refl
   answer-on true theEnd e = code-on past past-few theEnd e
   answer-on true (aRefusal k l) e = refl
@@ -182,14 +182,14 @@ module _
     pub to-next : at + r .answer % 65536 ≡ readAt page at .next
     to-next = omega (arith, ap (λ (n : ℕ). n % 65536) number ∙ answer-moved page at files (c .answer), onward-from page at)
 
-    end-by : {b : Bool} → isEnd (c .answer) ≡ b → isEnd (readAt page at .outcome) ≡ b
+    end-by : {b : Bool} → isTheEnd (c .answer) ≡ b → isTheEnd (readAt page at .outcome) ≡ b
     end-by e = sym (ended-by files s (readAt page at .outcome)) ∙ e
 
     -- the last read, which is the end or stays, and any other
     pub at-end : r .answer / 65536 ≡ 1 → isLast (readAt page at) at ≡ true
     at-end e = rw (end-by (answer-end page at files (c .answer) (named-by files s (readAt page at .outcome) (page-line page at)) (ap (λ (n : ℕ). n / 65536) (sym number) ∙ e)))
 
-    no-end : (r .answer / 65536 ≡ 1 → ⊥) → isEnd (readAt page at .outcome) ≡ false
+    no-end : (r .answer / 65536 ≡ 1 → ⊥) → isTheEnd (readAt page at .outcome) ≡ false
     no-end e = end-by (answer-on page at files (c .answer) (λ q. e (ap (λ (n : ℕ). n / 65536) number ∙ q)))
 
     pub at-stay : (r .answer / 65536 ≡ 1 → ⊥) → r .answer % 65536 ≡ 0 → isLast (readAt page at) at ≡ true

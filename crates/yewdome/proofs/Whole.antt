@@ -5,7 +5,7 @@ use Prim.Native.Nat.{ℕ}
 use Rattle.party.specs.declared.Party.{Party}
 use Rattle.page_reader.specs.Pages.{ReadOutcome, aRecord, theEnd, aRefusal}
 use Rattle.page_reader.specs.Reads.{Read, reads}
-use Rattle.page_writer.specs.Beside.{noIndex}
+use Rattle.page_writer.specs.IndexState.{noIndex}
 use Rattle.page_writer.specs.Adding.{close}
 use Rattle.page_writer.specs.Fold.{run}
 use Rattle.page_writer.specs.WholePage.{OpenPage, addStep}

@@ -12,14 +12,14 @@ use Rattle.writer.proofs.Puts.{put-length}
 use Rattle.page_reader.specs.Pages.{readAt}
 use Rattle.page_reader.specs.Reads.{Read, readHere, isLast, readsFrom, reads}
 use Rattle.page_reader.proofs.InTurn.{reads-most}
-use Rattle.page_writer.specs.Beside.{noIndex}
+use Rattle.page_writer.specs.IndexState.{noIndex}
 use Rattle.page_writer.specs.Adding.{Filed, positionAfter, refusal, Call, close}
 use Rattle.page_writer.specs.Fold.{run}
 use Rattle.page_writer.specs.WholePage.{OpenPage}
 use Rattle.page_writer.specs.Demand3.{adds, closing}
 use Rattle.page_writer.proofs.Fold.{run-length}
 use Rattle.page_writer.proofs.Theorems.{closing-within, whole-page}
-use Rattle.flat.specs.Flat.{recordSize}
+use Rattle.record_bytes.specs.RecordBytes.{recordSize}
 use Rattle.yewdome.specs.Filing.{fileStep, openPage, recordsOf}
 use Rattle.yewdome.specs.Interface.{readNumber, pageRead, filedCode, numberStep, fileNumbers, Filing, filing, pageFile}
 use Rattle.yewdome.specs.Code.{Within}

@@ -8,7 +8,7 @@ use lib.ListN.{length, getD}
 use Rattle.errors.specs.Refusals.{Reply, accepted, refused}
 use Rattle.party.specs.declared.Party.{Party}
 use Rattle.party.specs.Limits.{optionAt}
-use Rattle.party.specs.Party.{said}
+use Rattle.party.specs.Party.{content}
 use Rattle.reader.specs.Options.{bodyMost}
 use Rattle.writer.specs.Writing.{writtenField, fieldMost}
 use Rattle.writer.specs.Placing.{Measured, lengthIs, refusedWith}
@@ -18,11 +18,11 @@ use Rattle.page_reader.specs.Reads.{Read, reads}
 use Rattle.page_writer.specs.Adding.{withLf, Filed, positionAfter, refusal}
 use Rattle.page_writer.specs.Fold.{Step, Run, run}
 use Rattle.page_writer.specs.WholePage.{OpenPage}
-use Rattle.flat.specs.Flat.{recordSize}
+use Rattle.record_bytes.specs.RecordBytes.{recordSize}
 use Rattle.yewdome.specs.declared.Stepped.{Stepped}
 use Rattle.yewdome.specs.declared.Walked.{Walked}
 use Rattle.yewdome.specs.Filing.{fileOutcome, openPage}
-use Rattle.yewdome.specs.Interface.{numberOf, causedNumber}
+use Rattle.yewdome.specs.Interface.{answerNumber, causedNumber}
 
 -- a refusal has a number from 1 on, and a line of at most 2,048
 abbrev pub Named : Reply → Type 0
@@ -47,7 +47,7 @@ outcomeBy false s x = record { state = s; answer = x }
 -- its answer as a number: with the causes where its record is filed
 abbrev pub answerBy : Bool → List ℕ → Read → ReadOutcome → ℕ
 answerBy true page r x = causedNumber page r x
-answerBy false page r x = numberOf r x
+answerBy false page r x = answerNumber r x
 
 -- with its answer as a number
 abbrev pub stepBy : Bool → List ℕ → OpenPage → Read → Step OpenPage ℕ
@@ -71,7 +71,7 @@ pub record WasRead (page : List ℕ) (at : ℕ) (bytes : List ℕ) : Type 0 wher
 pub record WasFiled (page : List ℕ) (at : ℕ) (bytes : List ℕ) (moved written : ℕ) : Type 0 where
   pub was : WasRead page at bytes
   pub moves : readAt page at .next ≡ at + moved
-  pub writes : written ≡ length (withLf (writtenField (said (was .party))))
+  pub writes : written ≡ length (withLf (writtenField (content (was .party))))
 
 -- a step of the code, with the buffer that it left
 abbrev pub toldStep : Stepped → List ℕ → Step OpenPage ℕ

@@ -5,7 +5,7 @@ use mathlib.Core.List.{List, [], _∷_}
 use Rattle.party.specs.declared.Party.{Party}
 use Rattle.page_reader.specs.Pages.{ReadOutcome, aRecord, theEnd, aRefusal}
 use Rattle.page_reader.specs.Reads.{Read, reads}
-use Rattle.page_writer.specs.Beside.{noIndex}
+use Rattle.page_writer.specs.IndexState.{noIndex}
 use Rattle.page_writer.specs.Adding.{Filed, positionAfter, refusal}
 use Rattle.page_writer.specs.Fold.{Step, Run, run}
 use Rattle.page_writer.specs.WholePage.{OpenPage, addStep}

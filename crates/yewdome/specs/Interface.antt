@@ -7,7 +7,7 @@ use lib.ListN.{length, getD}
 use Rattle.errors.specs.Refusals.{Reply, accepted, refused, must, _then_}
 use Rattle.party.specs.declared.Party.{Party}
 use Rattle.party.specs.Limits.{optionAt}
-use Rattle.party.specs.Party.{said}
+use Rattle.party.specs.Party.{content}
 use Rattle.reader.specs.Reading.{Reading, roomReply}
 use Rattle.reader.specs.Options.{read}
 use Rattle.reader.specs.declared.choices.Choice.{Choice}
@@ -19,14 +19,14 @@ use Rattle.writer.specs.Placing.{Measured, lengthIs, refusedWith, Placing, meas
 use Rattle.page_reader.specs.Pages.{ReadOutcome, aRecord, theEnd, aRefusal, PageRead, outcomeOf, readAt, bodyPlace, readLent, readBytes}
 use Rattle.page_reader.specs.Reads.{Read, readHere, reads}
 use Rattle.page_reader.specs.Index.{Looked, found, notFound, lookLent}
-use Rattle.page_writer.specs.Beside.{Beside}
+use Rattle.page_writer.specs.IndexState.{IndexState}
 use Rattle.page_writer.specs.Adding.{Filed, positionAfter, refusal, Call, add, addIndex, close}
 use Rattle.page_writer.specs.Fold.{Step, Run, run}
 use Rattle.page_writer.specs.WholePage.{OpenPage}
 use Rattle.kept.specs.declared.Causes.{Causes}
 use Rattle.kept.specs.Kept.{Kept, keptRead, keptParse, keptParseWithVariant}
 use Rattle.kept.specs.Fields.{causesBy}
-use Rattle.flat.specs.Flat.{unflatten}
+use Rattle.record_bytes.specs.RecordBytes.{decoded}
 use Rattle.yewdome.specs.Filing.{fileStep, openPage}
 
 -- what a call gives: its number, and the lent bytes after it
@@ -57,26 +57,26 @@ codeOf (refused k n) = k * positionRoom + n
 -- ---- a lent record
 -- the interface's own numbers, which document 01 has not and which are tested before its own: 42 where a lent record has under 241 bytes
 -- (`roomReply`), 41 where there is no such option or choice
-abbrev pub lentReply : ℕ → Bool → Reply
-lentReply len known = roomReply len then must known 41 0
+abbrev pub argumentsReply : ℕ → Bool → Reply
+argumentsReply len known = roomReply len then must known 41 0
 
 -- a record lent to be measured, placed or added: its first byte is the option's place, 0 to 10
-abbrev pub recordReply : List ℕ → Reply
-recordReply bytes = lentReply (length bytes) (leb (getD bytes 0 0) 10)
+abbrev pub argumentReply : List ℕ → Reply
+argumentReply bytes = argumentsReply (length bytes) (leb (getD bytes 0 0) 10)
 
 -- a call that passes these tests answers; one that does not changes no byte
-abbrev pub asked : Reply → Called → List ℕ → Called
-asked accepted c bytes = c
-asked (refused k n) c bytes = record { code = codeOf (refused k n); bytes = bytes }
+abbrev pub afterChecks : Reply → Called → List ℕ → Called
+afterChecks accepted c bytes = c
+afterChecks (refused k n) c bytes = record { code = codeOf (refused k n); bytes = bytes }
 
 -- ---- reading
 -- what a reader gives, in these terms
-abbrev pub storing : Reply → Party → List ℕ → Called
-storing r p bytes = record { code = codeOf r; bytes = readBytes (outcomeOf r p) bytes }
+abbrev pub storedCall : Reply → Party → List ℕ → Called
+storedCall r p bytes = record { code = codeOf r; bytes = readBytes (outcomeOf r p) bytes }
 
 -- a reading into a lent record, by an option or choice that is known or not
 abbrev pub given : Bool → Reading → List ℕ → Called
-given known r bytes = asked (lentReply (length bytes) known) (storing (r .reply) (r .party) bytes) bytes
+given known r bytes = afterChecks (argumentsReply (length bytes) known) (storedCall (r .reply) (r .party) bytes) bytes
 
 -- `yewdome_party_read`: the option by its place in the table, 0 to 10
 abbrev pub partyRead : ℕ → List ℕ → List ℕ → Called
@@ -124,7 +124,7 @@ codeOr (refused k n) code = codeOf (refused k n)
 
 -- `yewdome_party_measure` (document 02, Two)
 abbrev pub partyMeasure : List ℕ → ℕ
-partyMeasure bytes = codeOr (recordReply bytes) (measuredCode (measure (said (unflatten bytes))))
+partyMeasure bytes = codeOr (argumentReply bytes) (measuredCode (measure (content (decoded bytes))))
 
 -- what placing gives, in these terms
 abbrev pub placedCall : Placing → Called
@@ -132,7 +132,7 @@ placedCall c = record { code = measuredCode (c .answer); bytes = c .buffer }
 
 -- `yewdome_party_place` (document 02, Two)
 abbrev pub partyPlace : List ℕ → List ℕ → Called
-partyPlace bytes buffer = asked (recordReply bytes) (placedCall (place (said (unflatten bytes)) buffer)) buffer
+partyPlace bytes buffer = afterChecks (argumentReply bytes) (placedCall (place (content (decoded bytes)) buffer)) buffer
 
 -- ---- pages
 -- a read of a page as a number: a refusal's × 4,294,967,296, or 65,536 at the end, and how many bytes it moved past
@@ -142,16 +142,16 @@ readCode theEnd moved = positionRoom + moved
 readCode (aRefusal k n) moved = packed (codeOf (refused k n)) moved
 
 -- a read at a position, in these terms
-abbrev pub readInto : PageRead → ℕ → List ℕ → Called
-readInto r at bytes = record { code = readCode (r .outcome) (r .next - at); bytes = readBytes (r .outcome) bytes }
+abbrev pub readCall : PageRead → ℕ → List ℕ → Called
+readCall r at bytes = record { code = readCode (r .outcome) (r .next - at); bytes = readBytes (r .outcome) bytes }
 
 -- `yewdome_page_read`
 abbrev pub pageRead : List ℕ → ℕ → List ℕ → Called
-pageRead page at bytes = readInto (readLent page at bytes) at bytes
+pageRead page at bytes = readCall (readLent page at bytes) at bytes
 
 -- a lookup, in these terms: the read at the field's position, or a refusal, which moves past no byte
 abbrev pub lookedInto : Looked → List ℕ → Called
-lookedInto (found r) bytes = readInto (r .gave) (r .at) bytes
+lookedInto (found r) bytes = readCall (r .gave) (r .at) bytes
 lookedInto (notFound k n) bytes = record { code = codeOf (refused k n) * packUnit; bytes = bytes }
 
 -- `yewdome_page_look_up` (document 02, Three)
@@ -172,17 +172,17 @@ abbrev pub filed : Call → Called
 filed c = record { code = filedCode (c .answer); bytes = c .buffer }
 
 -- `yewdome_page_add`, without an index, and `yewdome_page_add_indexed`, with one (document 02, Three)
-abbrev pub pageAdd : List ℕ → List ℕ → ℕ → Beside → Called
-pageAdd bytes buffer at b = asked (recordReply bytes) (filed (add buffer at b (said (unflatten bytes)))) buffer
+abbrev pub pageAdd : List ℕ → List ℕ → ℕ → IndexState → Called
+pageAdd bytes buffer at b = afterChecks (argumentReply bytes) (filed (add buffer at b (content (decoded bytes)))) buffer
 
 -- what stands beside a page after a call that passes these tests; one that does not changes no number
-abbrev pub askedBeside : Reply → Beside → Beside → Beside
-askedBeside accepted after b = after
-askedBeside (refused k n) after b = b
+abbrev pub indexAfterChecks : Reply → IndexState → IndexState → IndexState
+indexAfterChecks accepted after b = after
+indexAfterChecks (refused k n) after b = b
 
 -- what stands beside the page after `yewdome_page_add_indexed`
-abbrev pub pageAddIndex : List ℕ → List ℕ → ℕ → Beside → Beside
-pageAddIndex bytes buffer at b = askedBeside (recordReply bytes) (addIndex buffer at b (said (unflatten bytes))) b
+abbrev pub pageAddIndex : List ℕ → List ℕ → ℕ → IndexState → IndexState
+pageAddIndex bytes buffer at b = indexAfterChecks (argumentReply bytes) (addIndex buffer at b (content (decoded bytes))) b
 
 -- `yewdome_page_close`
 abbrev pub pageClose : List ℕ → ℕ → Called
@@ -234,12 +234,12 @@ abbrev pub answersReply : List ℕ → List ℕ → Reply
 answersReply page answers = must (ltb (length page) (length answers)) 43 0
 
 -- an answer to a read as a number, with the bytes that the read moved past
-abbrev pub numberOf : Read → ReadOutcome → ℕ
-numberOf r x = readCode x (r .gave .next - r .at)
+abbrev pub answerNumber : Read → ReadOutcome → ℕ
+answerNumber r x = readCode x (r .gave .next - r .at)
 
 -- the read's own, as `yewdome_page_read` gives it
 abbrev pub readNumber : Read → ℕ
-readNumber r = numberOf r (r .gave .outcome)
+readNumber r = answerNumber r (r .gave .outcome)
 
 -- what listing a page gives: how many answers it has, or the refusal, and the lent numbers after it
 pub record Listing : Type 0 where

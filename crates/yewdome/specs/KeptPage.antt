@@ -9,11 +9,11 @@ use lib.Dec.{ltb, eqb}
 use lib.ListN.{length, take, drop}
 use Rattle.party.specs.declared.Party.{Party}
 use Rattle.party.specs.Decides.{Decides}
-use Rattle.party.specs.Party.{said}
+use Rattle.party.specs.Party.{content}
 use Rattle.writer.specs.Writing.{writtenField, put}
 use Rattle.page_reader.specs.Pages.{ReadOutcome, aRecord, theEnd, aRefusal, readAt}
-use Rattle.page_reader.specs.Reads.{Read, readHere, isEnd, reads}
-use Rattle.page_writer.specs.Beside.{noIndex}
+use Rattle.page_reader.specs.Reads.{Read, readHere, isTheEnd, reads}
+use Rattle.page_writer.specs.IndexState.{noIndex}
 use Rattle.page_writer.specs.Adding.{hasSpace, withLf, endLine, positionAfter}
 use Rattle.page_writer.specs.WholePage.{OpenPage}
 use Rattle.page_writer.specs.Demand3.{closing}
@@ -26,9 +26,9 @@ use Rattle.yewdome.specs.Interface.{positionRoom, causesUnit, causesCode
 -- a step that files the record of the read at a position: it puts the written field and its LF on the new page, its answer tells the field's
 -- causes, and these are 0 exactly when that field is the field as it came
 pub record FiledStep (page : List ℕ) (s : OpenPage) (at : ℕ) (p : Party) : Type 0 where
-  pub puts : numberStep page s (readHere page at) .state .buffer ≡ put (s .buffer) (s .position) (withLf (writtenField (said p)))
+  pub puts : numberStep page s (readHere page at) .state .buffer ≡ put (s .buffer) (s .position) (withLf (writtenField (content p)))
   pub tells : numberStep page s (readHere page at) .answer / causesUnit ≡ causesCode (causesBy page at (aRecord p))
-  pub exact : Decides (eqb (causesCode (causesBy page at (aRecord p))) 0) (writtenField (said p) ≡ cameAt page at)
+  pub exact : Decides (eqb (causesCode (causesBy page at (aRecord p))) 0) (writtenField (content p) ≡ cameAt page at)
 
 -- wherever a step answers a record
 abbrev pub FiledExact : List ℕ → OpenPage → ℕ → Type 0
@@ -38,7 +38,7 @@ FiledExact page s at = (p : Party) → fileStep s (readHere page at) .answer ≡
 -- every field is kept: the one at each read but the last, which gives the end
 unfoldable pub areKept : List ℕ → List Read → Bool
 areKept page [] = false
-areKept page (r ∷ []) = isEnd (r .gave .outcome)
+areKept page (r ∷ []) = isTheEnd (r .gave .outcome)
 areKept page (r ∷ q ∷ rs) = isKeptAt page (r .at) && areKept page (q ∷ rs)
 
 -- a read of what stands before the first opening

@@ -12,7 +12,7 @@ use Rattle.errors.specs.Refusals.{accepted, refused}
 use Rattle.party.specs.declared.PartyOption.{PartyOption}
 use Rattle.party.specs.declared.Party.{Party}
 use Rattle.party.specs.Limits.{limitsOf, optionAt}
-use Rattle.party.specs.Party.{said}
+use Rattle.party.specs.Party.{content}
 use Rattle.field_utils.specs.Lines.{lines}
 use Rattle.reader.specs.Reading.{Reading}
 use Rattle.reader.specs.Options.{read}
@@ -20,9 +20,9 @@ use Rattle.reader.specs.declared.choices.Choice.{Choice}
 use Rattle.reader.specs.Choices.{refusing, parse, parseWithVariant}
 use Rattle.profile.specs.Profile.{holdsBic, readProfiled, parseProfiled, parseWithVariantProfiled}
 use Rattle.writer.specs.Writing.{writtenField}
-use Rattle.page_writer.specs.Beside.{Beside}
-use Rattle.page_writer.specs.Adding.{writable, recordSpace, freeBeside, withLf, positionAfter, add}
-use Rattle.flat.specs.Flat.{unflatten}
+use Rattle.page_writer.specs.IndexState.{IndexState}
+use Rattle.page_writer.specs.Adding.{writable, recordSpace, hasFreeEntry, withLf, positionAfter, add}
+use Rattle.record_bytes.specs.RecordBytes.{decoded}
 use Rattle.yewdome.specs.Interface.{Called, choiceAt, profileRead, profileParse, profileParseWithVariant, pageAdd}
 
 -- beside the ordinary reading, the one under the profile: it never changes a record, only refuses
@@ -37,8 +37,8 @@ pub record OnlyRefuses (ordinary under : Reading) : Type 0 where
 -- a page accepts a record, space allowing: at any position to write at, with space for it, which is bytes and, where an index is kept, an
 -- entry, the add answers the position after (document 02, Five and Six)
 pub record PageAccepts (p : Party) : Type 0 where
-  pub adds : (buffer : List ℕ) (at : ℕ) (b : Beside) → writable buffer at ≡ true → recordSpace (length buffer) at (said p) ≡ true → freeBeside b ≡ true
-      → add buffer at b (said p) .answer ≡ positionAfter (at + length (withLf (writtenField (said p))))
+  pub adds : (buffer : List ℕ) (at : ℕ) (b : IndexState) → writable buffer at ≡ true → recordSpace (length buffer) at (content p) ≡ true → hasFreeEntry b ≡ true
+      → add buffer at b (content p) .answer ≡ positionAfter (at + length (withLf (writtenField (content p))))
 
 -- a line among these holds the BIC of a record
 unfoldable pub anyHolds : Party → List (List ℕ) → Bool
@@ -50,7 +50,7 @@ pub record Promise (body : List ℕ) (ordinary under : Reading) : Type 0 where
   pub refuses : OnlyRefuses ordinary under
   pub accepts : under .reply ≡ accepted → PageAccepts (under .party)
   -- the BIC of a record that has one stands in a line of the body as it came, so that the rules for it never idle
-  pub held : ordinary .reply ≡ accepted → ltb 0 (limitsOf (ordinary .party .option) .bic) ≡ true → anyHolds (ordinary .party) (lines body) ≡ true
+  pub held : ordinary .reply ≡ accepted → ltb 0 (limitsOf (ordinary .party .option) .«bic_count») ≡ true → anyHolds (ordinary .party) (lines body) ≡ true
 
 -- of every body: by an option, and by a choice, detected or by a letter
 pub record Profile (body : List ℕ) : Type 0 where
@@ -61,10 +61,10 @@ pub record Profile (body : List ℕ) : Type 0 where
 -- through the C interface, of a call under the profile whose number is 0: the bytes that it left load as the ordinary reading's record, and
 -- are a record that adding accepts, space allowing
 pub record CallPromise (ordinary : Reading) (c : Called) : Type 0 where
-  pub loads : c .code ≡ 0 → unflatten (c .bytes) ≡ ordinary .party
-  pub adds : c .code ≡ 0 → (buffer : List ℕ) (at : ℕ) (b : Beside) → writable buffer at ≡ true
-      → recordSpace (length buffer) at (said (ordinary .party)) ≡ true → freeBeside b ≡ true
-      → pageAdd (c .bytes) buffer at b .code ≡ at + length (withLf (writtenField (said (ordinary .party))))
+  pub loads : c .code ≡ 0 → decoded (c .bytes) ≡ ordinary .party
+  pub adds : c .code ≡ 0 → (buffer : List ℕ) (at : ℕ) (b : IndexState) → writable buffer at ≡ true
+      → recordSpace (length buffer) at (content (ordinary .party)) ≡ true → hasFreeEntry b ≡ true
+      → pageAdd (c .bytes) buffer at b .code ≡ at + length (withLf (writtenField (content (ordinary .party))))
 
 pub record ExportedProfile (body bytes : List ℕ) : Type 0 where
   pub by-option : (option : ℕ) → CallPromise (read (optionAt option) body) (profileRead option body bytes)

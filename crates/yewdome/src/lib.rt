@@ -1,10 +1,8 @@
-// Party fields and pages of them for programs in other languages, on numbers and lent bytes. A record is 241 bytes, as crate flat lays it
+// Party fields and pages of them for programs in other languages, on numbers and lent bytes. A record is 241 bytes, as crate record_bytes lays it
 // out. The number that a call gives is the refusal's number × 65,536 and its line, or below 65,536 where it accepts; the reads and
 // the filing of a page give more beside it. A refusal changes no byte and no number that is lent.
 use errors::Outcome;
 use errors::ParseError;
-use flat::RECORD_SIZE;
-use flat::store;
 use kept::Causes;
 use kept::Kept;
 use kept::field_causes;
@@ -24,6 +22,8 @@ use reader::choices::Choice;
 use reader::choices::parse_into;
 use reader::choices::parse_with_variant_into;
 use reader::read_into;
+use record_bytes::RECORD_SIZE;
+use record_bytes::store;
 use writer::Measured;
 use writer::measure_record;
 use writer::place_record;
@@ -35,12 +35,12 @@ ghost use Rattle.reader.specs.Reading.{toldAnswer};
 ghost use Rattle.writer.specs.Placing.{toldMeasured};
 ghost use Rattle.page_reader.specs.Pages.{readAt};
 ghost use Rattle.page_reader.specs.Reads.{readHere};
-ghost use Rattle.page_writer.specs.Beside.{noIndex, anIndex};
+ghost use Rattle.page_writer.specs.IndexState.{noIndex, anIndex};
 ghost use Rattle.page_writer.specs.Adding.{toldFiled};
 ghost use Rattle.kept.specs.Kept.{toldKept};
 ghost use Rattle.kept.specs.Fields.{causesBy};
 ghost use Rattle.yewdome.specs.Filing.{openPage};
-ghost use Rattle.yewdome.specs.Interface.{codeOf, lentReply, recordReply, given, partyRead, choiceAt, partyParse, partyParseWithVariant, profileRead, profileParse, profileParseWithVariant, measuredCode, partyMeasure, partyPlace, pageRead, cause as causeOf, causesCode, keptCode, keptReadCode, keptParseCode, keptVariantCode, pageKept, pageLookUp, pageBody, filedCode, pageAdd, pageAddIndex, pageClose, pageAnswers, pageFile};
+ghost use Rattle.yewdome.specs.Interface.{codeOf, argumentsReply, argumentReply, given, partyRead, choiceAt, partyParse, partyParseWithVariant, profileRead, profileParse, profileParseWithVariant, measuredCode, partyMeasure, partyPlace, pageRead, cause as causeOf, causesCode, keptCode, keptReadCode, keptParseCode, keptVariantCode, pageKept, pageLookUp, pageBody, filedCode, pageAdd, pageAddIndex, pageClose, pageAnswers, pageFile};
 ghost use Rattle.yewdome.specs.Code.{Named, Measurable, Within, stepBy, WasRead, WasFiled, toldStep, Walks};
 
 // A position, a line of a body and how many bytes a read moved past are below this.
@@ -65,8 +65,8 @@ const SHORT_ANSWERS: u32 = 43 * POSITION_ROOM;
 
 // The interface's own refusal, before document 01's, of a lent record by its length and of an option or choice that is known or not; 0
 // where there is none.
-fn lent(len: usize, known: bool) -> u32
-    ensures { λ r. ⌜ r ≡ codeOf (lentReply len known) ⌝ }
+fn check_arguments(len: usize, known: bool) -> u32
+    ensures { λ r. ⌜ r ≡ codeOf (argumentsReply len known) ⌝ }
 {
     if len < RECORD_SIZE {
         return SHORT_RECORD;
@@ -78,13 +78,13 @@ fn lent(len: usize, known: bool) -> u32
 }
 
 // The same of a record lent to be measured, placed or added, whose first byte is the option's place.
-fn lent_record(record: &[u8]) -> u32
-    ensures { λ r. ⌜ r ≡ codeOf (recordReply (now («record» .entry))) ⌝ }
+fn check_record(record: &[u8]) -> u32
+    ensures { λ r. ⌜ r ≡ codeOf (argumentReply (now («record» .entry))) ⌝ }
 {
     if record.len() == 0 {
         return SHORT_RECORD;
     }
-    lent(record.len(), record[0] <= 10)
+    check_arguments(record.len(), record[0] <= 10)
 }
 
 // The choices in document 01's order.
@@ -120,11 +120,11 @@ fn code(e: ParseError) -> u32
 }
 
 // Stores the record that a reader gave, where the option or choice that it was asked for is known.
-fn give(known: bool, answer: Answer, out: &mut [u8]) -> u32
+fn store_answer(known: bool, answer: Answer, out: &mut [u8]) -> u32
     requires { ⌜ Named (toldAnswer answer .reply) ⌝ }
     ensures { λ r. ⌜ (record { code = r; bytes = now (out .exit) }) ≡ given known (toldAnswer answer) (now (out .entry)) ⌝ }
 {
-    let refusal = lent(out.len(), known);
+    let refusal = check_arguments(out.len(), known);
     if refusal != 0 {
         return refusal;
     }
@@ -137,8 +137,8 @@ fn give(known: bool, answer: Answer, out: &mut [u8]) -> u32
     0
 }
 
-// What was said of a reading into a lent record, as a number.
-fn said(outcome: Outcome) -> u32
+// The outcome of a reading into a lent record, as a number.
+fn outcome_code(outcome: Outcome) -> u32
     requires { ⌜ Named (told outcome) ⌝ }
     ensures { λ r. ⌜ r ≡ codeOf (told outcome) ⌝ }
 {
@@ -153,11 +153,11 @@ fn said(outcome: Outcome) -> u32
 pub extern "C" fn yewdome_party_read(option: u8, body: &[u8], record: &mut [u8]) -> u32
     ensures { λ r. ⌜ (record { code = r; bytes = now («record» .exit) }) ≡ partyRead option (now (body .entry)) (now («record» .entry)) ⌝ }
 {
-    let refusal = lent(record.len(), option <= 10);
+    let refusal = check_arguments(record.len(), option <= 10);
     if refusal != 0 {
         return refusal;
     }
-    said(read_into(option_at(option as usize), body, record))
+    outcome_code(read_into(option_at(option as usize), body, record))
 }
 
 // Reads a body by the choice at a place, 0 to 6 in document 01's order, which detects the option, and stores the record.
@@ -165,11 +165,11 @@ pub extern "C" fn yewdome_party_read(option: u8, body: &[u8], record: &mut [u8])
 pub extern "C" fn yewdome_party_parse(choice: u8, body: &[u8], record: &mut [u8]) -> u32
     ensures { λ r. ⌜ (record { code = r; bytes = now («record» .exit) }) ≡ partyParse choice (now (body .entry)) (now («record» .entry)) ⌝ }
 {
-    let refusal = lent(record.len(), choice <= 6);
+    let refusal = check_arguments(record.len(), choice <= 6);
     if refusal != 0 {
         return refusal;
     }
-    said(parse_into(choice_at(choice), body, record))
+    outcome_code(parse_into(choice_at(choice), body, record))
 }
 
 // The same by a letter, 0 for none.
@@ -182,11 +182,11 @@ pub extern "C" fn yewdome_party_parse_with_variant(
 ) -> u32
     ensures { λ r. ⌜ (record { code = r; bytes = now («record» .exit) }) ≡ partyParseWithVariant choice (now (body .entry)) letter (now («record» .entry)) ⌝ }
 {
-    let refusal = lent(record.len(), choice <= 6);
+    let refusal = check_arguments(record.len(), choice <= 6);
     if refusal != 0 {
         return refusal;
     }
-    said(parse_with_variant_into(choice_at(choice), body, letter, record))
+    outcome_code(parse_with_variant_into(choice_at(choice), body, letter, record))
 }
 
 // Reads a body by the option at a place under the network profile, and stores the record.
@@ -194,7 +194,7 @@ pub extern "C" fn yewdome_party_parse_with_variant(
 pub extern "C" fn yewdome_profile_read(option: u8, body: &[u8], record: &mut [u8]) -> u32
     ensures { λ r. ⌜ (record { code = r; bytes = now («record» .exit) }) ≡ profileRead option (now (body .entry)) (now («record» .entry)) ⌝ }
 {
-    give(
+    store_answer(
         option <= 10,
         profile::read(option_at(option as usize), body),
         record,
@@ -206,7 +206,7 @@ pub extern "C" fn yewdome_profile_read(option: u8, body: &[u8], record: &mut [u8
 pub extern "C" fn yewdome_profile_parse(choice: u8, body: &[u8], record: &mut [u8]) -> u32
     ensures { λ r. ⌜ (record { code = r; bytes = now («record» .exit) }) ≡ profileParse choice (now (body .entry)) (now («record» .entry)) ⌝ }
 {
-    give(choice <= 6, profile::parse(choice_at(choice), body), record)
+    store_answer(choice <= 6, profile::parse(choice_at(choice), body), record)
 }
 
 // The same by a letter, 0 for none.
@@ -219,7 +219,7 @@ pub extern "C" fn yewdome_profile_parse_with_variant(
 ) -> u32
     ensures { λ r. ⌜ (record { code = r; bytes = now («record» .exit) }) ≡ profileParseWithVariant choice (now (body .entry)) letter (now («record» .entry)) ⌝ }
 {
-    give(
+    store_answer(
         choice <= 6,
         profile::parse_with_variant(choice_at(choice), body, letter),
         record,
@@ -242,7 +242,7 @@ fn measured(answer: Measured) -> u32
 pub extern "C" fn yewdome_party_measure(record: &[u8]) -> u32
     ensures { λ r. ⌜ r ≡ partyMeasure (now («record» .entry)) ⌝ }
 {
-    let refusal = lent_record(record);
+    let refusal = check_record(record);
     if refusal != 0 {
         return refusal;
     }
@@ -254,7 +254,7 @@ pub extern "C" fn yewdome_party_measure(record: &[u8]) -> u32
 pub extern "C" fn yewdome_party_place(record: &[u8], buf: &mut [u8]) -> u32
     ensures { λ r. ⌜ (record { code = r; bytes = now (buf .exit) }) ≡ partyPlace (now («record» .entry)) (now (buf .entry)) ⌝ }
 {
-    let refusal = lent_record(record);
+    let refusal = check_record(record);
     if refusal != 0 {
         return refusal;
     }
@@ -324,7 +324,7 @@ fn filed(answer: Filed) -> u32
 pub extern "C" fn yewdome_page_add(record: &[u8], buf: &mut [u8], position: usize) -> u32
     ensures { λ r. ⌜ (record { code = r; bytes = now (buf .exit) }) ≡ pageAdd (now («record» .entry)) (now (buf .entry)) position noIndex ⌝ }
 {
-    let refusal = lent_record(record);
+    let refusal = check_record(record);
     if refusal != 0 {
         return refusal;
     }
@@ -342,7 +342,7 @@ pub extern "C" fn yewdome_page_add_indexed(
     ensures { λ r. ⌜ (record { code = r; bytes = now (buf .exit) }) ≡ pageAdd (now («record» .entry)) (now (buf .entry)) position (anIndex (now (index .entry))) ⌝ }
     ensures index { λ r. ⌜ anIndex (now (index .exit)) ≡ pageAddIndex (now («record» .entry)) (now (buf .entry)) position (anIndex (now (index .entry))) ⌝ }
 {
-    let refusal = lent_record(record);
+    let refusal = check_record(record);
     if refusal != 0 {
         return refusal;
     }

@@ -23,7 +23,7 @@ use Rattle.swift_utils.proofs.Classes.{class-legal, all-fails, all-passes, all-
 use Rattle.swift_utils.proofs.Table.{by-entry, by-entries}
 use Rattle.swift_utils.proofs.Parts.{part, part-length, part-end, part-drop}
 use Rattle.field_utils.specs.Lines.{lines}
-use Rattle.field_utils.specs.Names.{parseLine, parseCount, keptFrom, NamesRead, readNames, toldNames}
+use Rattle.field_utils.specs.Names.{parseLine, parseCount, droppedPrefix, NamesRead, readNames, toldNames}
 use Rattle.field_utils.specs.declared.Names.{Names}
 use Rattle.field_utils.specs.Cursor.{nextLine, linePlaces, namePlaces}
 use Rattle.field_utils.specs.Code.{parseShape, parseRest, givenNames, partsOr}
@@ -43,7 +43,7 @@ abbrev μ-loop : tie.MeasureT-loop
 
 abbrev Inv-lines : tie.InvT-lines
 Inv-lines body start-idx limits numbering kept classes known parts₀ digits₀ cursor₀ count₀ parts digits cursor count =
-    (count ≤ cursor .at) × Passed body numbering (limits .name) start-idx kept (lines (drop (cursor₀ .at) body)) count parts digits (lines (drop (cursor .at) body))
+    (count ≤ cursor .at) × Passed body numbering (limits .«name_max») start-idx kept (lines (drop (cursor₀ .at) body)) count parts digits (lines (drop (cursor .at) body))
     × Marked body kept (cursor₀ .at) count (cursor .at) parts × (cursor₀ .at ≤ cursor .at)
 
 abbrev μ-lines : tie.MeasureT-lines
@@ -85,7 +85,7 @@ module _ (t : tie.At-lines Inv-loop μ-loop Inv-lines μ-lines) where
 
   -- how many bytes of a line are not kept
   abbrev skip : ℕ
-  skip = tabled .before .kept-from .result
+  skip = tabled .before .dropped-prefix .result
 
   abbrev names : List (List ℕ)
   names = lines (drop (tabled .before .before .before .before .args .from .at) body)
@@ -132,15 +132,15 @@ module _ (k : tie.After-known-told Inv-loop μ-loop Inv-lines μ-lines) where
   counts = omega (arith, fits .moved, head .lines .inv .0)
 
   -- those before it have passed
-  so-far : Passed (body head) (numbering head) (limits head .name) (earlier head) (skip head) (names head) (count head) (parts head) (digits head) (line ∷ lines (drop rest (body head)))
+  so-far : Passed (body head) (numbering head) (limits head .«name_max») (earlier head) (skip head) (names head) (count head) (parts head) (digits head) (line ∷ lines (drop rest (body head)))
   so-far = subst (Passed _ _ _ _ _ _ _ _ _) (fits .line) (head .lines .inv .1)
 
   -- what the line says before its bytes, and whole
   abbrev shape : Reply
-  shape = parseShape (numbering head) (limits head .name) number turn line
+  shape = parseShape (numbering head) (limits head .«name_max») number turn line
 
   abbrev says : Reply
-  says = parseLine (numbering head) (limits head .name) number turn line
+  says = parseLine (numbering head) (limits head .«name_max») number turn line
 
   -- a refusal of this line is that of the names
   refusal : {r j : ℕ} → says ≡ refused r j → _≡_ {A = NamesRead} (record { reply = refused r j; count = 0; texts = fourTexts []; digits = four 0 [] }) (answer head)
@@ -196,7 +196,7 @@ module _ (e : tie.After-loop Inv-loop μ-loop Inv-lines μ-lines) where
   passed = here (e .before)
 
   room : skip (head passed) ≤ length (line passed)
-  room = omega (arith, kept-room (numbering (head passed)) (limits (head passed) .name) (number passed) (turn passed) (line passed) (shaped (e .before)), tabled (head passed) .before .kept-from .ensures)
+  room = omega (arith, kept-room (numbering (head passed)) (limits (head passed) .«name_max») (number passed) (turn passed) (line passed) (shaped (e .before)), tabled (head passed) .before .dropped-prefix .ensures)
 
   -- what is kept of it starts before its end
   ends-at : (start passed + skip (head passed) ≤ end passed) × (end passed ≤ length (body (head passed)))
@@ -207,11 +207,11 @@ module _ (e : tie.After-loop Inv-loop μ-loop Inv-lines μ-lines) where
 
 -- no line is left
 all-passed : (c : tie.After-enum-told Inv-loop μ-loop Inv-lines μ-lines) → let t = c .before .before .before in
-    givenNames (parseCount (limits t .names) (count t)) (count t) (textsIn (body t) (parts t)) (digits t) ≡ answer t
+    givenNames (parseCount (limits t .«max_names») (count t)) (count t) (textsIn (body t) (parts t)) (digits t) ≡ answer t
 all-passed c =
     let t = c .before .before .before in
     let none = found (body t) (place t) (c .before .before .next .ensures) (c .enum-told .given .1) .0 in
-    sym (passed-all (option t) (tabled t .before .before .limits-of .ensures) (tabled t .before .kept-from .ensures) (subst (Passed _ _ _ _ _ _ _ _ _) none (t .lines .inv .1)))
+    sym (passed-all (option t) (tabled t .before .before .limits-of .ensures) (tabled t .before .dropped-prefix .ensures) (subst (Passed _ _ _ _ _ _ _ _ _) none (t .lines .inv .1)))
 
 -- the loop was left with no line left, or with the line of an illegal byte
 module _ (m : tie.At-match-came Inv-loop μ-loop Inv-lines μ-lines) where
@@ -222,14 +222,14 @@ module _ (m : tie.At-match-came Inv-loop μ-loop Inv-lines μ-lines) where
   gives r = givenNames r (count last) (textsIn (body last) (parts last)) (digits last)
 
   abbrev rests : Reply
-  rests = parseRest (m .match .illegal) (limits last .names) (count last)
+  rests = parseRest (m .match .illegal) (limits last .«max_names») (count last)
 
   -- what is given, and where it stands
   ends : (gives rests ≡ answer last) × (partsOr rests (parts last) ≡ namePlaces rests (skip last) (places last))
   ends =
       ⊎-elim
       (λ w. (
-        ap gives (rest-counted (m .match .illegal) (limits last .names) (count last) (w .2))
+        ap gives (rest-counted (m .match .illegal) (limits last .«max_names») (count last) (w .2))
             ∙ all-passed (record { before = record { before = m .before; match = w .0 }; enum-told = w .1 }),
         marked-all (last .lines .inv .2) (sym (m .before .next .ensures)) (w .1 .given .1) rests,
       ))
@@ -238,7 +238,7 @@ module _ (m : tie.At-match-came Inv-loop μ-loop Inv-lines μ-lines) where
       let e : tie.After-enum-told2 Inv-loop μ-loop Inv-lines μ-lines = record { before = record { before = record { before = record { before = record { before = k; input = w .3 }; classes2 = w .4 }; parse-line = w .5 }; match2 = w .6 }; enum-told2 = w .7 } in
       let b : tie.After-shared-slice-known2 Inv-loop μ-loop Inv-lines μ-lines = record { before = record { before = record { before = record { before = e; pass-bytes = w .8 }; loop = w .9 }; loop-test = w .10 }; shared-slice-known2 = w .11 } in
       let is : m .match .illegal ≡ number k = w .13 in
-      let says : rests ≡ refused 3 (m .match .illegal) = rest-illegal (m .match .illegal) (limits last .names) (count last) (λ z. omega (arith, z, is)) in (
+      let says : rests ≡ refused 3 (m .match .illegal) = rest-illegal (m .match .illegal) (limits last .«max_names») (count last) (λ z. omega (arith, z, is)) in (
         ap gives (says ∙ ap (refused 3) is) ∙ illegal-byte (record { before = b; if1 = w .12 }),
         ap (λ (r : Reply). partsOr r (parts last)) says ∙ sym (ap (λ (r : Reply). namePlaces r (skip last) (places last)) says),
       ))
@@ -257,7 +257,7 @@ returns c =
     let k = p .before .before .before in (
       ap (toldNames (body (head k))) (c .refuse-names .ensures) ∙ refusal k (line-refused _ _ _ _ _ (shape-says p ∙ ap told (c .before .before .outcome .given .1))),
       ap (λ (w : Names). w .parts) (c .refuse-names .ensures)
-          ∙ sym (ap (λ (w : Names). namePlaces (told (w .outcome)) (keptFrom (limitsOf (option (head k)) .numbering)) (places (head k))) (c .refuse-names .ensures)),
+          ∙ sym (ap (λ (w : Names). namePlaces (told (w .outcome)) (droppedPrefix (limitsOf (option (head k)) .numbering)) (places (head k))) (c .refuse-names .ensures)),
     )
 
 -- where the test of all bytes passed, those of a line are legal
@@ -267,8 +267,8 @@ pass-bytes-requires c κs e =
     let t = head k in
     let from = tabled t .before .before .before .before .args .from .at in
     let a = t .before in
-    let all-legal = sym (by-entries 1 legal class-legal _ (now (a .before .before .behind .result)) (tabled t .class-table .ensures)) ∙ sym (a .all-in .ensures) ∙ e in
-    all-part legal (body t) from (start k) (end k - start k) (omega (arith, t .lines .inv .3, fits k .onward)) (sym (ap (all legal) (a .before .before .behind .ensures)) ∙ all-legal)
+    let all-legal = sym (by-entries 1 legal class-legal _ (now (a .before .before .suffix .result)) (tabled t .class-table .ensures)) ∙ sym (a .all-in .ensures) ∙ e in
+    all-part legal (body t) from (start k) (end k - start k) (omega (arith, t .lines .inv .3, fits k .onward)) (sym (ap (all legal) (a .before .before .suffix .ensures)) ∙ all-legal)
 
 loop-holds : tie.Need-loop-holds Inv-loop μ-loop Inv-lines μ-lines
 loop-holds c = c .pass-bytes .ensures .says ∙ ap (all legal) (sym (part-end (line (c .before .before .before .before .before .before)) (c .pass-bytes .result)))
@@ -302,7 +302,7 @@ returns-2 c =
     let t = last m in
     let gave = c .counted .ensures .0 (body t) in
     let says = sym (ap (λ (w : NamesRead). w .reply) gave ∙ given-reply (rests m) (count t) (textsIn (body t) (parts t)) (digits t)) in
-    let kept = tabled t .before .kept-from .ensures ∙ ap (λ (l : Limits). keptFrom (l .numbering)) (tabled t .before .before .limits-of .ensures) in (
+    let kept = tabled t .before .dropped-prefix .ensures ∙ ap (λ (l : Limits). droppedPrefix (l .numbering)) (tabled t .before .before .limits-of .ensures) in (
       gave ∙ ends m .0,
       c .counted .ensures .1 ∙ ends m .1 ∙ (λ i. namePlaces (says i) (kept i) (places t)),
     )

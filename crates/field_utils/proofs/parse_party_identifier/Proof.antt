@@ -47,7 +47,7 @@ module _ (c : tie.After-parse-remaining) where
       (ap told (sym e)
       ∙ c .parse-remaining .ensures
       ∙ ap (identifierReply _ line) (part-end (input else) 1)
-      ∙ ap (λ (m : Limits). identifierReply (m .longest) line (drop 1 (input else))) (c .before .before .limits-of .ensures))
+      ∙ ap (λ (m : Limits). identifierReply (m .«account_max») line (drop 1 (input else))) (c .before .before .limits-of .ensures))
       ∙ sym (identifier-given option line (input else) (slash else))
 
 returns : tie.Need-returns

@@ -5,7 +5,7 @@ use lib.ListN.{length}
 use lib.Seq.{length-take-le}
 use denote.Ref.{now}
 use borrow.Author.Needs.{needs}
-use Rattle.page_writer.specs.Beside.{noIndex}
+use Rattle.page_writer.specs.IndexState.{noIndex}
 use Rattle.page_writer.specs.Demand3.{closing}
 use Rattle.yewdome.specs.Filing.{recordsOf}
 use Rattle.yewdome.specs.Interface.{Filing}

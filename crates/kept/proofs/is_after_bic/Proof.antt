@@ -12,14 +12,14 @@ returns : tie.Need-returns
 returns c =
     let l = c .before .before in
     let a = l .before .before .args in
-    sym (after-none (a .option) (a .present) (now (a .text)) (ap (λ (m : Limits). m .bic) (sym (l .limits-of .ensures)) ∙ c .if1 .taken))
+    sym (after-none (a .option) (a .present) (now (a .text)) (ap (λ (m : Limits). m .«bic_count») (sym (l .limits-of .ensures)) ∙ c .if1 .taken))
 
 returns-2 : tie.Need-returns-2
 returns-2 c =
     let b = c .before in
     let l = b .before .before .before in
     let a = l .before .before .args in
-    (λ i. ltb (b .bic-line .ensures i) (c .count-lines .ensures i)) ∙ sym (after-by (a .option) (a .present) (now (a .text)) (λ z. b .before .if1 .left (ap (λ (m : Limits). m .bic) (l .limits-of .ensures) ∙ z)))
+    (λ i. ltb (b .bic-line .ensures i) (c .count-lines .ensures i)) ∙ sym (after-by (a .option) (a .present) (now (a .text)) (λ z. b .before .if1 .left (ap (λ (m : Limits). m .«bic_count») (l .limits-of .ensures) ∙ z)))
 
 pub is-after-bic-spec : {M : Type 1} → statement M
 is-after-bic-spec = tie.close (tie.spec (λ c κs. search needs) returns (λ c κs. search needs) (λ c κs. search needs) returns-2)

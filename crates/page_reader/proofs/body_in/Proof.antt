@@ -22,12 +22,12 @@ returns c =
 sub-t7 : tie.Need-sub-t7
 sub-t7 c =
     let s = c .before .before .before .before .before .before in
-    omega (arith, s .pre, ap length (c .behind .ensures), length-drop (c .before .before .tag .given .0 .1 .0) (now (s .args .text)))
+    omega (arith, s .pre, ap length (c .suffix .ensures), length-drop (c .before .before .tag .given .0 .1 .0) (now (s .args .text)))
 
 returns-2 : tie.Need-returns-2
 returns-2 c =
     let a = c .before .before .before .before .before .before .args in
-    ap {B = BodyPlace} (λ (b : List ℕ). record { start = a .end - length b; len = length b }) (c .behind .ensures)
+    ap {B = BodyPlace} (λ (b : List ℕ). record { start = a .end - length b; len = length b }) (c .suffix .ensures)
     ∙ ap (λ (w : Tag). bodyIn (toldTag (now (a .text)) w) (a .end)) (sym (c .before .before .tag .given .1))
     ∙ ap (λ (w : Tagged). bodyIn w (a .end)) (c .before .before .before .before .parse-tag .ensures)
 

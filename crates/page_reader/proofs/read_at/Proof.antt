@@ -3,7 +3,7 @@ use native.Mathlib.Omega.{arith}
 use lib.ListN.{replicate}
 use denote.Ref.{now}
 use borrow.Author.Needs.{needs}
-use Rattle.flat.specs.Flat.{recordSize}
+use Rattle.record_bytes.specs.RecordBytes.{recordSize}
 use Rattle.page_reader.proofs.ByValue.{read-value}
 use Rattle.page_reader.proofs.read_at.Statement.{statement}
 use Rattle.page_reader.proofs.read_at.Tie as tie

@@ -44,13 +44,13 @@ returns-5 : tie.Need-returns-5
 returns-5 c =
     let o = c .before in
     let n = o .before .before .before in
-    ap Opening (o .before .runs-to .ensures) ∙ sym (case-opening (page n) (at n) (omega arith) (readable-at (e n .before)) (omega arith) (opening o (c .if5 .taken)))
+    ap Opening (o .before .field-end .ensures) ∙ sym (case-opening (page n) (at n) (omega arith) (readable-at (e n .before)) (omega arith) (opening o (c .if5 .taken)))
 
 returns-6 : tie.Need-returns-6
 returns-6 c =
     let o = c .before in
     let n = o .before .before .before in
-    ap Stray (o .before .runs-to .ensures) ∙ sym (case-stray (page n) (at n) (omega arith) (readable-at (e n .before)) (omega arith) (opening o (c .if5 .left)) (ending n (o .before .before .if4 .left)))
+    ap Stray (o .before .field-end .ensures) ∙ sym (case-stray (page n) (at n) (omega arith) (readable-at (e n .before)) (omega arith) (opening o (c .if5 .left)) (ending n (o .before .before .if4 .left)))
 
 pub read-case-spec : {M : Type 1} → statement M
 read-case-spec =

@@ -22,7 +22,7 @@ by-reader c {w} e =
     let a = t .before .before .before .before .before .args in
     let v = t .tag .given .0 in
     tagged-tells (now (a .text)) (a .next) (ap (toldTag (now (a .text))) (sym (t .tag .given .1)) ∙ t .before .before .parse-tag .ensures) (record { outcome = went w; next = a .next }) (now (a .«record»))
-    (answer-tells (v .0) (drop (v .1 .0) (now (a .text))) (a .next) (c .read-into .result) (now (a .«record»)) (t .before .before .before .before .before .pre) (c .read-into .ensures ∙ ap (λ l. readInto (read (v .0) l) (now (a .«record»))) (b .behind .ensures)) e)
+    (answer-tells (v .0) (drop (v .1 .0) (now (a .text))) (a .next) (c .read-into .result) (now (a .«record»)) (t .before .before .before .before .before .pre) (c .read-into .ensures ∙ ap (λ l. readInto (read (v .0) l) (now (a .«record»))) (b .suffix .ensures)) e)
 
 returns : tie.Need-returns
 returns c =

@@ -5,10 +5,10 @@ use Prim.Native.Nat.{ℕ}
 use native.Mathlib.Nat.{le-refl}
 use denote.Ref.{now}
 use borrow.Author.Needs.{needs}
-use Rattle.party.specs.Party.{said}
+use Rattle.party.specs.Party.{content}
 use Rattle.party.proofs.Values.{is-party}
-use Rattle.flat.specs.Flat.{recordSize, unflatten}
-use Rattle.page_writer.specs.Beside.{anIndex}
+use Rattle.record_bytes.specs.RecordBytes.{recordSize, decoded}
+use Rattle.page_writer.specs.IndexState.{anIndex}
 use Rattle.page_writer.specs.Adding.{add as addTo, addIndex}
 use Rattle.page_writer.proofs.Addings.{add-stored, index-stored}
 use Rattle.page_writer.proofs.add_indexed.Statement.{statement}
@@ -24,10 +24,10 @@ returns c =
     let b = anIndex (now (a .index)) in
     let is = is-party (a .p) _ (start .good .0) in (
       r .add-indexed-record .ensures .0
-          ∙ ap (λ (s : List ℕ). addTo buffer (a .at) b (said (unflatten s))) (t .store .ensures .1)
+          ∙ ap (λ (s : List ℕ). addTo buffer (a .at) b (content (decoded s))) (t .store .ensures .1)
           ∙ add-stored (a .p) is _ (le-refl recordSize) buffer (a .at) b,
       r .add-indexed-record .ensures .1
-          ∙ ap (λ (s : List ℕ). addIndex buffer (a .at) b (said (unflatten s))) (t .store .ensures .1)
+          ∙ ap (λ (s : List ℕ). addIndex buffer (a .at) b (content (decoded s))) (t .store .ensures .1)
           ∙ index-stored (a .p) is _ (le-refl recordSize) buffer (a .at) b,
     )
 

@@ -12,20 +12,20 @@ use borrow.Author.Needs.{needs}
 use Rattle.errors.specs.Refusals.{Reply, accepted}
 use Rattle.party.specs.declared.PartyOption.{PartyOption}
 use Rattle.party.specs.Limits.{placeOf}
-use Rattle.party.specs.Party.{Said, said}
-use Rattle.flat.specs.Flat.{unflatten}
+use Rattle.party.specs.Party.{Content, content}
+use Rattle.record_bytes.specs.RecordBytes.{decoded}
 use Rattle.writer.specs.Writing.{writtenField}
 use Rattle.page_reader.specs.Index.{Entry, indexMost, entriesOf}
 use Rattle.page_writer.specs.declared.Filed.{Filed}
-use Rattle.page_writer.specs.Beside.{anIndex, noted}
+use Rattle.page_writer.specs.IndexState.{anIndex, noted}
 use Rattle.page_writer.specs.Adding.{withLf, tallyOf, addReply, add, toldCall}
-use Rattle.page_writer.specs.Code.{heldCall, Notes}
+use Rattle.page_writer.specs.Code.{renderedCall, Notes}
 use Rattle.page_writer.proofs.Addings.{add-by, reply-space, reply-free, add-record, put-accepted, put-refused, index-by, entry-is}
 use Rattle.page_writer.proofs.add_indexed_record.Statement.{statement}
 use Rattle.page_writer.proofs.add_indexed_record.Tie as tie
 
-module _ (k : tie.After-file-held) where
-  abbrev h : tie.After-hold
+module _ (k : tie.After-file-rendered) where
+  abbrev h : tie.After-render
   h = k .before .before .before .before
 
   abbrev e : tie.After-entry-count
@@ -40,8 +40,8 @@ module _ (k : tie.After-file-held) where
   abbrev at : ℕ
   at = start .args .at
 
-  abbrev s : Said
-  s = said (unflatten (now (start .args .«record»)))
+  abbrev s : Content
+  s = content (decoded (now (start .args .«record»)))
 
   abbrev d : List ℕ
   d = now (start .args .index)
@@ -53,14 +53,14 @@ module _ (k : tie.After-file-held) where
   counted = e .entry-count .ensures .0
 
   -- what the add is
-  called : {r : Filed} → k .file-held .result ≡ r → toldCall r (k .file-held .last .0) ≡ add buffer at (anIndex d) s
+  called : {r : Filed} → k .file-rendered .result ≡ r → toldCall r (k .file-rendered .last .0) ≡ add buffer at (anIndex d) s
   called q =
-      sym (ap (λ (x : Filed). toldCall x (k .file-held .last .0)) q) ∙ k .file-held .ensures
-      ∙ ap (λ (n : ℕ). heldCall buffer at (h .hold .result) (h .hold .last .1 .1 .1 .0) (ltb n indexMost)) counted ∙ h .hold .ensures .adds (anIndex d)
+      sym (ap (λ (x : Filed). toldCall x (k .file-rendered .last .0)) q) ∙ k .file-rendered .ensures
+      ∙ ap (λ (n : ℕ). renderedCall buffer at (h .render .result) (h .render .last .1 .1 .1 .0) (ltb n indexMost)) counted ∙ h .render .ensures .adds (anIndex d)
 
 -- an accepted one
 module _ (t : tie.After-next) where
-  abbrev f : tie.After-file-held
+  abbrev f : tie.After-file-rendered
   f = t .before .before .before .before
 
   abbrev next : ℕ
@@ -91,7 +91,7 @@ add-indexed-record-spec =
     (λ c. search needs)
     (λ c κs. search needs)
     (λ c. search needs)
-    (λ c κs. c .before .before .before .hold .ensures .fits)
+    (λ c κs. c .before .before .before .render .ensures .fits)
     (λ c. search needs)
     (λ c κs. search needs)
     (λ c κs. notes (c .before .before .before))
@@ -101,7 +101,7 @@ add-indexed-record-spec =
     let t = c .before .before .before .before in
     let k = f t in (
       called k (t .next .given .1),
-      ap anIndex (c .note .ensures ∙ ap (λ (o : PartyOption). noted (record { tag = placeOf o; position = at k; len = next t - at k - 1 }) (d k)) (c .before .option-of .ensures) ∙ ap (λ (e : Entry). noted e (d k)) (entry-is (unflatten (now (start k .args .«record»))) (at k) (passed t .1))) ∙ sym (index-by (buffer k) (at k) (anIndex (d k)) (s k) (passed t .0)),
+      ap anIndex (c .note .ensures ∙ ap (λ (o : PartyOption). noted (record { tag = placeOf o; position = at k; len = next t - at k - 1 }) (d k)) (c .before .option-of .ensures) ∙ ap (λ (e : Entry). noted e (d k)) (entry-is (decoded (now (start k .args .«record»))) (at k) (passed t .1))) ∙ sym (index-by (buffer k) (at k) (anIndex (d k)) (s k) (passed t .0)),
     ))
     (λ c. search needs)
     (λ c.

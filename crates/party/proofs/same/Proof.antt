@@ -9,7 +9,7 @@ use Rattle.party.specs.Limits.{limitsOf, placeOf}
 use Rattle.party.specs.Party.{where-limit, Same}
 use Rattle.party.proofs.Laws.{holds, fails, decides-as, equal-true, equal-false, where-none, where-same}
 use Rattle.party.proofs.Options.{place-one}
-use Rattle.party.proofs.Said.{SameHead, SameAccount, SameBic, SameNames, SameDigits, head, account, bic, names, digits, same}
+use Rattle.party.proofs.Content.{SameHead, SameAccount, SameBic, SameNames, SameDigits, head, account, bic, names, digits, same}
 use Rattle.party.proofs.same.Statement.{statement}
 use Rattle.party.proofs.same.Tie as tie
 
@@ -99,7 +99,7 @@ returns-8 : tie.Need-returns-8
 returns-8 c =
     let c6 = c .before .before .before in
     let l = limits c6 in
-    decides-as (λ n. by-names c6 (ap (where-limit (limitsOf (p l .option) .names)) n))
+    decides-as (λ n. by-names c6 (ap (where-limit (limitsOf (p l .option) .«max_names»)) n))
     (λ e. where-same _ _ _ (rw (l .limits-of .ensures) at (c .before .if7 .left)) (names (headed l) e)) (c .same-names .ensures)
 
 pub same-spec : {M : Type 1} → statement M

@@ -20,7 +20,7 @@ returns-2 : tie.Need-returns-2
 returns-2 c =
     let a = c .before .before .before .before .before .before .args in
     ap (toldHead (now (a .line))) (c .head .ensures)
-    ∙ ap (head (drop 1 (now (a .line)))) (c .before .account .ensures ∙ ap (accountReply (a .option)) (c .before .before .behind .ensures))
+    ∙ ap (head (drop 1 (now (a .line)))) (c .before .account .ensures ∙ ap (accountReply (a .option)) (c .before .before .suffix .ensures))
     ∙ sym (by-some (a .first) (a .option) (now (a .line)) (sym (c .before .before .before .before .has-account .ensures) ∙ not-false _ (c .before .before .before .if1 .left)))
 
 pub account-head-spec : {M : Type 1} → statement M

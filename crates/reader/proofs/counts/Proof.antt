@@ -45,17 +45,17 @@ module _ (k : tie.After-count-lines) where
   all = length (lines (now (m .before .before .args .body)))
 
   counted : 1 + k .count-lines .result ≡ all
-  counted = omega (arith, k .count-lines .ensures ∙ ap (λ (l : List ℕ). length (lines l)) (k .before .behind .ensures), m .before .before .pre)
+  counted = omega (arith, k .count-lines .ensures ∙ ap (λ (l : List ℕ). length (lines l)) (k .before .suffix .ensures), m .before .before .pre)
 
-  few : 1 + k .count-lines .result < m .limits-of .result .least → false ≡ isCounted o all
+  few : 1 + k .count-lines .result < m .limits-of .result .«min_lines» → false ≡ isCounted o all
   few h = sym (counts-few o (m .limits-of .ensures) all (omega (arith, h, counted)))
 
-  module _ (h : m .limits-of .result .least ≤ 1 + k .count-lines .result) where
-    open-ended : m .limits-of .result .most ≡ 0 → true ≡ isCounted o all
+  module _ (h : m .limits-of .result .«min_lines» ≤ 1 + k .count-lines .result) where
+    open-ended : m .limits-of .result .«max_lines» ≡ 0 → true ≡ isCounted o all
     open-ended z = sym (counts-open o (m .limits-of .ensures) all (omega (arith, h, counted)) z)
 
-    bounded : (m .limits-of .result .most ≡ 0 → ⊥) → leb (1 + k .count-lines .result) (m .limits-of .result .most) ≡ isCounted o all
-    bounded z = ap (λ (n : ℕ). leb n (m .limits-of .result .most)) counted ∙ sym (counts-most o (m .limits-of .ensures) all (omega (arith, h, counted)) z)
+    bounded : (m .limits-of .result .«max_lines» ≡ 0 → ⊥) → leb (1 + k .count-lines .result) (m .limits-of .result .«max_lines») ≡ isCounted o all
+    bounded z = ap (λ (n : ℕ). leb n (m .limits-of .result .«max_lines»)) counted ∙ sym (counts-most o (m .limits-of .ensures) all (omega (arith, h, counted)) z)
 
 returns-3 : tie.Need-returns-3
 returns-3 c = few (c .before .before) (c .if4 .taken)

@@ -24,8 +24,8 @@ returns-2 c =
     let m = c .before .before in
     let e = m .before .before .before in
     let a = e .before .before .before .args in
-    ap (λ (l : List ℕ). leb (length l) (m .limits-of .result .longest)) (c .before .behind .ensures)
-    ∙ ap (λ (k : Limits). leb (length (drop 1 (now (a .line)))) (k .longest)) (m .limits-of .ensures)
+    ap (λ (l : List ℕ). leb (length l) (m .limits-of .result .«account_max»)) (c .before .suffix .ensures)
+    ∙ ap (λ (k : Limits). leb (length (drop 1 (now (a .line)))) (k .«account_max»)) (m .limits-of .ensures)
     ∙ sym (has-short (a .option) (now (a .line)) (sym (e .before .starts-with-slash .ensures) ∙ not-false _ (e .if1 .left)))
     ∙ ap (λ (f : First). hasAccount f (a .option) (now (a .line))) (sym (m .before .enum-told .given .1))
 

@@ -35,14 +35,14 @@ returns-3 : tie.Need-returns-3
 returns-3 c =
     let g = c .before .before .before .before .before in
     let a = g .before .before .args in
-    c .slash-head .ensures ∙ ap (slashHead (now (a .line))) (c .before .account .ensures ∙ ap (accountReply (a .option)) (c .before .before .behind .ensures))
+    c .slash-head .ensures ∙ ap (slashHead (now (a .line))) (c .before .account .ensures ∙ ap (accountReply (a .option)) (c .before .before .suffix .ensures))
     ∙ by g (c .before .before .before .enum-told3 .given .1)
 
 returns-4 : tie.Need-returns-4
 returns-4 c =
     let g = c .before .before .before .before .before in
     let a = g .before .before .args in
-    c .slash-head2 .ensures ∙ ap (slashHead (now (a .line))) (c .before .account-length .ensures ∙ ap (lengthReply (a .option)) (c .before .before .behind2 .ensures))
+    c .slash-head2 .ensures ∙ ap (slashHead (now (a .line))) (c .before .account-length .ensures ∙ ap (lengthReply (a .option)) (c .before .before .suffix2 .ensures))
     ∙ by g (c .before .before .before .enum-told4 .given .1)
 
 returns-5 : tie.Need-returns-5

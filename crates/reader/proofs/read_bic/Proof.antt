@@ -42,7 +42,7 @@ returns : tie.Need-returns
 returns c =
     let n = c .before .before .before in
     let a = n .before .before .args in
-    refusing (a .option) _ (now (a .body)) (c .turn-away .result) (c .turn-away .ensures)
+    refusing (a .option) _ (now (a .body)) (c .reject .result) (c .reject .ensures)
     (ap (λ (ls : List (List ℕ)). withBic (suc (a .start-idx)) (passedHead (a .present) (partIn (now (a .body)) (a .account))) ls .reply)
     (found (now (a .body)) (a .from .at) (n .next .ensures) (c .before .enum-told .given .1) .0))
 
@@ -50,7 +50,7 @@ returns-2 : tie.Need-returns-2
 returns-2 c =
     let p = c .before .before .before .before in
     let a = p .before .before .before .before .before .before .before .args in
-    refusing (a .option) _ (now (a .body)) (c .turn-away2 .result) (c .turn-away2 .ensures) (said p ∙ ap told (c .before .before .outcome .given .1))
+    refusing (a .option) _ (now (a .body)) (c .reject2 .result) (c .reject2 .ensures) (said p ∙ ap told (c .before .before .outcome .given .1))
 
 returns-3 : tie.Need-returns-3
 unfolding partyOf

@@ -18,7 +18,7 @@ returns : tie.Need-returns
 returns c =
     let p = c .before .before .before .before in
     let a = p .before .before .args in
-    refusing (a .option) (bicOnly (now (a .body))) (now (a .body)) (c .turn-away .result) (c .turn-away .ensures) (sym (p .parse-bic .ensures) ∙ ap told (c .before .before .outcome .given .1))
+    refusing (a .option) (bicOnly (now (a .body))) (now (a .body)) (c .reject .result) (c .reject .ensures) (sym (p .parse-bic .ensures) ∙ ap told (c .before .before .outcome .given .1))
 
 returns-2 : tie.Need-returns-2
 unfolding partyOf

@@ -7,7 +7,7 @@ use denote.Ref.{now}
 use Rattle.errors.specs.Refusals.{told}
 use Rattle.reader.specs.Reading.{Reading, leaves, readInto}
 use Rattle.reader.specs.Options.{read}
-use Rattle.flat.specs.Flat.{recordSize}
+use Rattle.record_bytes.specs.RecordBytes.{recordSize}
 use Rattle.reader.proofs.Into.{into-whole, into-short}
 use Rattle.reader.proofs.Bodies.{body-refused, body-passed}
 use borrow.Author.Needs.{needs}

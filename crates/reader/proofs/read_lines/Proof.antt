@@ -42,7 +42,7 @@ returns : tie.Need-returns
 returns c =
     let n = c .before .before .before in
     let a = n .before .before .args in
-    refusing (a .option) _ (now (a .body)) (c .turn-away .result) (c .turn-away .ensures)
+    refusing (a .option) _ (now (a .body)) (c .reject .result) (c .reject .ensures)
     (ap (λ (ls : List (List ℕ)). byLines (a .option) ls .reply) (found (now (a .body)) 0 (n .next .ensures) (c .before .enum-told .given .1) .0))
 
 counts-requires : tie.Need-counts-requires
@@ -54,7 +54,7 @@ returns-2 c =
     let k = n .before in
     let v = k .before .found .given .0 in
     let a = k .before .before .before .before .before .args in
-    refusing (a .option) _ (now (a .body)) (c .turn-away2 .result) (c .turn-away2 .ensures)
+    refusing (a .option) _ (now (a .body)) (c .reject2 .result) (c .reject2 .ensures)
     (ap (λ (ls : List (List ℕ)). byLines (a .option) ls .reply) (fits k .line) ∙ lines-count (a .option) (part (v .0) (v .1 .0) (now (a .body))) (lines (drop (v .1 .1 .0 .at) (now (a .body)))) (counted n (not-true _ (c .before .if1 .taken))))
 
 returns-3 : tie.Need-returns-3
@@ -64,7 +64,7 @@ returns-3 c =
     let k = n .before in
     let v = k .before .found .given .0 in
     let a = k .before .before .before .before .before .args in
-    refusing (a .option) _ (now (a .body)) (c .turn-away3 .result) (c .turn-away3 .ensures)
+    refusing (a .option) _ (now (a .body)) (c .reject3 .result) (c .reject3 .ensures)
     (ap (λ (ls : List (List ℕ)). byLines (a .option) ls .reply) (fits k .line)
     ∙ head-refused (a .option) (part (v .0) (v .1 .0) (now (a .body))) (lines (drop (v .1 .1 .0 .at) (now (a .body)))) (p .parse-head .ensures) (counted n (not-false _ (p .before .before .if1 .left))) (ap told (c .before .before .outcome .given .1)))
 

@@ -32,7 +32,7 @@ module _ (p : tie.After-parse-name-and-address) where
 returns : tie.Need-returns
 returns c =
     let a = start (c .before .before .before .before) .args in
-    refusing (a .option) _ (now (a .body)) (c .turn-away .result) (c .turn-away .ensures) (says (c .before .before .before .before) ∙ ap told (c .before .before .outcome .given .1))
+    refusing (a .option) _ (now (a .body)) (c .reject .result) (c .reject .ensures) (says (c .before .before .before .before) ∙ ap told (c .before .before .outcome .given .1))
 
 returns-2 : tie.Need-returns-2
 unfolding partyIn

@@ -20,7 +20,7 @@ returns : tie.Need-returns
 returns c =
     let p = c .before .before in
     let a = p .before .before .args in
-    refusing (a .option) (textOnly (a .option) (now (a .body))) (now (a .body)) (c .turn-away .result) (c .turn-away .ensures)
+    refusing (a .option) (textOnly (a .option) (now (a .body))) (now (a .body)) (c .reject .result) (c .reject .ensures)
     (text-lf (a .option) (now (a .body)) (among-found (now (a .body)) (omega (arith, p .find-lf .ensures, c .before .if1 .taken))))
 
 returns-2 : tie.Need-returns-2
@@ -28,7 +28,7 @@ returns-2 c =
     let q = c .before .before .before .before in
     let p = q .before .before in
     let a = p .before .before .args in
-    refusing (a .option) (textOnly (a .option) (now (a .body))) (now (a .body)) (c .turn-away2 .result) (c .turn-away2 .ensures)
+    refusing (a .option) (textOnly (a .option) (now (a .body))) (now (a .body)) (c .reject2 .result) (c .reject2 .ensures)
     (text-line (a .option) (now (a .body)) (among-none (now (a .body)) (omega (arith, p .find-lf .ensures, q .before .if1 .left)))
     ∙ sym (q .account .ensures) ∙ ap told (c .before .before .outcome .given .1))
 

@@ -4,7 +4,7 @@ use mathlib.Core.Bool.{false}
 use denote.Ref.{now}
 use borrow.Author.Tests.{not-true, not-false}
 use Rattle.party.specs.declared.Party.{Party}
-use Rattle.flat.specs.Flat.{partyFrom}
+use Rattle.record_bytes.specs.RecordBytes.{partyFrom}
 use Rattle.writer.specs.Code.{namesPass, textsTest}
 use Rattle.writer.proofs.Records.{none-pass, bare-by}
 use borrow.Author.Needs.{needs}

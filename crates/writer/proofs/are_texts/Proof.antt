@@ -3,7 +3,7 @@ use mathlib.Core.Path.{_≡_, sym, _∙_, ap}
 use mathlib.Core.Bool.{Bool, true, _&&_}
 use denote.Ref.{now}
 use borrow.Author.Tests.{not-true, not-false}
-use Rattle.flat.specs.Flat.{partyFrom}
+use Rattle.record_bytes.specs.RecordBytes.{partyFrom}
 use Rattle.writer.specs.Code.{namesPass, textsTest}
 use Rattle.writer.proofs.Records.{none-pass}
 use borrow.Author.Needs.{needs}

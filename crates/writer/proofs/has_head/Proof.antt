@@ -11,14 +11,14 @@ use Rattle.writer.proofs.has_head.Tie as tie
 returns : tie.Need-returns
 returns c =
     let a = c .before .before .before .args in
-    let e : limitsOf (a .option) .longest ≡ 0 = rw (c .before .before .limits-of .ensures) at (c .if1 .taken) in
+    let e : limitsOf (a .option) .«account_max» ≡ 0 = rw (c .before .before .limits-of .ensures) at (c .if1 .taken) in
     rw e (sym (and-false (a .present)))
 
 returns-2 : tie.Need-returns-2
 returns-2 c =
     let a = c .before .before .before .args in
     let e = rw (c .before .before .limits-of .ensures) at (c .if1 .left) in
-    rw (lt-ltb 0 (limitsOf (a .option) .longest) (omega arith)) (sym (and-true (a .present)))
+    rw (lt-ltb 0 (limitsOf (a .option) .«account_max») (omega arith)) (sym (and-true (a .present)))
 
 pub has-head-spec : {M : Type 1} → statement M
 has-head-spec = tie.close (tie.spec (λ c κs. search needs) returns returns-2)

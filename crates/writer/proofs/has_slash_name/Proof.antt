@@ -5,12 +5,12 @@ use Prim.Native.Nat.{ℕ}
 use native.Mathlib.Omega.{arith}
 use denote.Ref.{now}
 use Rattle.party.specs.declared.Party.{Party}
-use Rattle.party.specs.Party.{said}
+use Rattle.party.specs.Party.{content}
 use Rattle.field_utils.specs.Lines.{starts}
-use Rattle.flat.specs.Flat.{partyFrom}
-use Rattle.flat.proofs.Laws.{party-names}
+use Rattle.record_bytes.specs.RecordBytes.{partyFrom}
+use Rattle.record_bytes.proofs.Laws.{party-names}
 use Rattle.writer.specs.Code.{nameCount, slashName}
-use Rattle.writer.proofs.Names.{namesIn, said-names, names-next, lent-count}
+use Rattle.writer.proofs.Names.{namesIn, content-names, names-next, lent-count}
 use borrow.Author.Needs.{needs}
 use Rattle.writer.proofs.has_slash_name.Statement.{statement}
 use Rattle.writer.proofs.has_slash_name.Tie as tie
@@ -28,8 +28,8 @@ module _ (k : tie.After-name-count) where
   count : k .name-count .result ≡ nameCount (p .option) (p .count)
   count = lent-count lent (start .pre) (k .name-count .ensures)
 
-  names : said p .names ≡ namesIn (k .name-count .result) p
-  names = said-names p (party-names lent) count
+  names : content p .names ≡ namesIn (k .name-count .result) p
+  names = content-names p (party-names lent) count
 
 returns : tie.Need-returns
 returns c =

@@ -3,7 +3,7 @@ use mathlib.Core.Path.{ap}
 use native.Mathlib.Omega.{arith}
 use borrow.Author.Tests.{not-true, not-false}
 use lib.ListN.{length, length-append}
-use Rattle.flat.specs.Flat.{partyFrom}
+use Rattle.record_bytes.specs.RecordBytes.{partyFrom}
 use borrow.Author.Needs.{needs}
 use Rattle.writer.proofs.head_length.Statement.{statement}
 use Rattle.writer.proofs.head_length.Tie as tie

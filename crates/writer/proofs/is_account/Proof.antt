@@ -11,7 +11,7 @@ use Rattle.party.specs.Limits.{limitsOf}
 use Rattle.party.specs.Text.{used}
 use Rattle.party.specs.Party.{where-limit}
 use Rattle.swift_utils.specs.Bytes.{among}
-use Rattle.flat.specs.Flat.{textAt, partyFrom}
+use Rattle.record_bytes.specs.RecordBytes.{textAt, partyFrom}
 use Rattle.writer.specs.Given.{passes, every, textReply, isAccount}
 use Rattle.writer.specs.Code.{lineReply}
 use Rattle.writer.proofs.Texts.{text-whole, line-whole}
@@ -30,12 +30,12 @@ module _ (w : tie.After-is-whole) where
   -- where the option has one, it is a line, and its text passes
   tested :
       {b : Bool} → w .is-whole .result ≡ b → let o = start .args .option in
-      every (isAccount o true) (where-limit (limitsOf o .longest) (used text ∷ []))
+      every (isAccount o true) (where-limit (limitsOf o .«account_max») (used text ∷ []))
       ≡ ((b && not (among (used text .bytes) 10)) && passes (textReply (limitsOf o .first) o (used text .bytes)))
   tested e =
       let o = start .args .option in
       let l = w .before .before .before in
-      every-one (isAccount o true) (limitsOf o .longest) (used text) (rw (l .limits-of .ensures) at (w .before .if1 .left))
+      every-one (isAccount o true) (limitsOf o .«account_max») (used text) (rw (l .limits-of .ensures) at (w .before .if1 .left))
       ∙ ap (λ (b : Bool). b && passes (textReply (limitsOf o .first) o (used text .bytes)))
       (line-whole text (text-whole (now (start .args .«record»)) 0 (start .pre .0, omega arith)) (sym (w .is-whole .ensures) ∙ e))
 
@@ -44,7 +44,7 @@ unfolding partyFrom
 returns c =
     let l = c .before .before in
     let a = l .before .before .args in
-    sym (every-none (isAccount (a .option) true) (limitsOf (a .option) .longest) (used (textAt 0 (now (a .«record»)))) (rw (l .limits-of .ensures) at (c .if1 .taken)))
+    sym (every-none (isAccount (a .option) true) (limitsOf (a .option) .«account_max») (used (textAt 0 (now (a .«record»)))) (rw (l .limits-of .ensures) at (c .if1 .taken)))
 
 returns-2 : tie.Need-returns-2
 unfolding partyFrom

@@ -12,7 +12,7 @@ use Rattle.party.specs.Text.{used}
 use Rattle.party.specs.Party.{where-limit}
 use Rattle.swift_utils.specs.Bytes.{among}
 use Rattle.swift_utils.specs.Checks.{parseBic}
-use Rattle.flat.specs.Flat.{textAt, partyFrom}
+use Rattle.record_bytes.specs.RecordBytes.{textAt, partyFrom}
 use Rattle.writer.specs.Given.{passes, every, isBic}
 use Rattle.writer.proofs.Texts.{text-whole, line-whole}
 use Rattle.writer.proofs.Records.{every-none, every-one}
@@ -31,10 +31,10 @@ module _ (w : tie.After-is-whole) where
   -- where the option has one, it is a line, and passes
   tested :
       {b : Bool} → w .is-whole .result ≡ b →
-      every isBic (where-limit (limitsOf (start .args .option) .bic) (used text ∷ [])) ≡ ((b && not (among (used text .bytes) 10)) && passes (parseBic 1 (used text .bytes)))
+      every isBic (where-limit (limitsOf (start .args .option) .«bic_count») (used text ∷ [])) ≡ ((b && not (among (used text .bytes) 10)) && passes (parseBic 1 (used text .bytes)))
   tested e =
       let l = w .before .before .before in
-      every-one isBic (limitsOf (start .args .option) .bic) (used text) (rw (l .limits-of .ensures) at (w .before .if1 .left))
+      every-one isBic (limitsOf (start .args .option) .«bic_count») (used text) (rw (l .limits-of .ensures) at (w .before .if1 .left))
       ∙ ap (λ (b : Bool). b && passes (parseBic 1 (used text .bytes)))
       (line-whole text (text-whole (now (start .args .«record»)) 1 (start .pre, omega arith)) (sym (w .is-whole .ensures) ∙ e))
 
@@ -43,7 +43,7 @@ unfolding partyFrom
 returns c =
     let l = c .before .before in
     let a = l .before .before .args in
-    sym (every-none isBic (limitsOf (a .option) .bic) (used (textAt 1 (now (a .«record»)))) (rw (l .limits-of .ensures) at (c .if1 .taken)))
+    sym (every-none isBic (limitsOf (a .option) .«bic_count») (used (textAt 1 (now (a .«record»)))) (rw (l .limits-of .ensures) at (c .if1 .taken)))
 
 returns-2 : tie.Need-returns-2
 unfolding partyFrom

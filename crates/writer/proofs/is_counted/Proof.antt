@@ -11,24 +11,24 @@ use lib.ListN.{length}
 use Rattle.party.specs.declared.Limits.{Limits}
 use Rattle.party.specs.declared.Party.{Party}
 use Rattle.party.specs.Limits.{limitsOf}
-use Rattle.party.specs.Party.{said}
+use Rattle.party.specs.Party.{content}
 use Rattle.field_utils.specs.Names.{parseCount}
-use Rattle.flat.specs.Flat.{partyFrom}
-use Rattle.flat.proofs.Laws.{party-names}
+use Rattle.record_bytes.specs.RecordBytes.{partyFrom}
+use Rattle.record_bytes.proofs.Laws.{party-names}
 use Rattle.writer.specs.Given.{passes}
 use Rattle.writer.specs.Code.{nameCount, countTest}
-use Rattle.writer.proofs.Names.{namesIn, said-names, names-length, lent-limits, lent-count}
+use Rattle.writer.proofs.Names.{namesIn, content-names, names-length, lent-limits, lent-count}
 use borrow.Author.Needs.{needs}
 use Rattle.writer.proofs.is_counted.Statement.{statement}
 use Rattle.writer.proofs.is_counted.Tie as tie
 
 -- the test of a number of names and a count, by an option's limits
 abbrev countBy : Limits → ℕ → ℕ → Bool
-countBy l n count = eqb n count && elim (eqb (l .names) 0) [ true ↦ true | false ↦ passes (parseCount (l .names) n) ]
+countBy l n count = eqb n count && elim (eqb (l .«max_names») 0) [ true ↦ true | false ↦ passes (parseCount (l .«max_names») n) ]
 
 count-law :
-    (l : Limits) (n count : ℕ) {a b : Bool} → eqb n count ≡ a → eqb (l .names) 0 ≡ b →
-    (a && elim b as (λ x. Bool) [ true ↦ true | false ↦ passes (parseCount (l .names) n) ]) ≡ countBy l n count
+    (l : Limits) (n count : ℕ) {a b : Bool} → eqb n count ≡ a → eqb (l .«max_names») 0 ≡ b →
+    (a && elim b as (λ x. Bool) [ true ↦ true | false ↦ passes (parseCount (l .«max_names») n) ]) ≡ countBy l n count
 count-law l n count e f = rw (← e, ← f)
 
 module _ (k : tie.After-name-count) where
@@ -53,10 +53,10 @@ module _ (k : tie.After-name-count) where
   count : k .name-count .result ≡ nameCount (p .option) (p .count)
   count = lent-count lent (start .pre) (k .name-count .ensures)
 
-  names : said p .names ≡ namesIn (k .name-count .result) p
-  names = said-names p (party-names lent) count
+  names : content p .names ≡ namesIn (k .name-count .result) p
+  names = content-names p (party-names lent) count
 
-  counted : length (said p .names) ≡ k .name-count .result
+  counted : length (content p .names) ≡ k .name-count .result
   counted = ap length names ∙ names-length p (party-names lent) count
 
   -- the test by what the function knows of the count
@@ -71,7 +71,7 @@ returns-2 : tie.Need-returns-2
 unfolding partyFrom
 returns-2 c =
     let k = c .before .before .before in
-    count-law (l k) (n k) (p k .count) (eq-eqb (n k) (p k .count) (c .before .before .if1 .left)) (eq-eqb (l k .names) 0 (c .if2 .taken)) ∙ tested k
+    count-law (l k) (n k) (p k .count) (eq-eqb (n k) (p k .count) (c .before .before .if1 .left)) (eq-eqb (l k .«max_names») 0 (c .if2 .taken)) ∙ tested k
 
 returns-3 : tie.Need-returns-3
 unfolding partyFrom
@@ -80,7 +80,7 @@ returns-3 c =
     let k = e .before .before .before in
     c .is-accepted .ensures
     ∙ ap passes (c .before .parse-count .ensures)
-    ∙ count-law (l k) (n k) (p k .count) (eq-eqb (n k) (p k .count) (e .before .before .if1 .left)) (ne-eqb (l k .names) 0 (e .if2 .left))
+    ∙ count-law (l k) (n k) (p k .count) (eq-eqb (n k) (p k .count) (e .before .before .if1 .left)) (ne-eqb (l k .«max_names») 0 (e .if2 .left))
     ∙ tested k
 
 pub is-counted-spec : {M : Type 1} → statement M

@@ -7,9 +7,9 @@ use denote.Ref.{now}
 use borrow.Author.Tests.{not-true, not-false}
 use Rattle.party.specs.declared.Party.{Party}
 use Rattle.party.specs.declared.PartyOption.{PartyOption}
-use Rattle.party.specs.Party.{said}
-use Rattle.flat.specs.Flat.{partyFrom}
-use Rattle.flat.proofs.Laws.{party-names}
+use Rattle.party.specs.Party.{content}
+use Rattle.record_bytes.specs.RecordBytes.{partyFrom}
+use Rattle.record_bytes.proofs.Laws.{party-names}
 use Rattle.writer.specs.Given.{isPresence, isGiven}
 use Rattle.writer.specs.Code.{textsTest}
 use Rattle.writer.proofs.Records.{given-in-order}
@@ -50,7 +50,7 @@ module _ (t : tie.After-is-counted) where
   abbrev k : tie.After-is-presence
   k = t .before .before .before .before
 
-  counted : {b n : Bool} → t .is-counted .result ≡ n → p k .present ≡ b → (n && textsTest (o k) b (p k)) ≡ isGiven (said (p k))
+  counted : {b n : Bool} → t .is-counted .result ≡ n → p k .present ≡ b → (n && textsTest (o k) b (p k)) ≡ isGiven (content (p k))
   counted e j =
       given-in-order (o k) (p k) (party-names (lent k)) (start k .pre .is) (passed (t .before .before .before))
       (sym (t .before .before .is-bic .ensures) ∙ not-false _ (t .before .if2 .left)) (sym (t .is-counted .ensures) ∙ e) j

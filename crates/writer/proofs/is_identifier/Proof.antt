@@ -30,7 +30,7 @@ returns-2 c =
     let x = now (a .text) in
     c .is-accepted .ensures
     ∙ ap passes (c .before .parse-remaining .ensures)
-    ∙ ap (λ (m : Limits). passes (identifierReply (m .longest) 1 x)) (r .limits-of .ensures)
+    ∙ ap (λ (m : Limits). passes (identifierReply (m .«account_max») 1 x)) (r .limits-of .ensures)
     ∙ line-by (textReply Identified (a .option) x) x (lined (l .before) (not-false _ (l .if1 .left)))
 
 pub is-identifier-spec : {M : Type 1} → statement M

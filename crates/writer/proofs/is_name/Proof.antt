@@ -11,7 +11,7 @@ use Rattle.swift_utils.specs.Bytes.{all, among}
 use Rattle.swift_utils.specs.Classes.{plain}
 use Rattle.swift_utils.proofs.Classes.{class-plain}
 use Rattle.swift_utils.proofs.Table.{by-entries}
-use Rattle.flat.specs.Flat.{digitsAt, textAt}
+use Rattle.record_bytes.specs.RecordBytes.{digitsAt, textAt}
 use Rattle.writer.specs.Given.{isLine}
 use Rattle.writer.specs.Code.{numberIn}
 use Rattle.writer.proofs.Texts.{text-whole, line-whole}

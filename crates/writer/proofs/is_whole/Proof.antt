@@ -5,8 +5,8 @@ use native.Mathlib.Omega.{arith}
 use denote.Ref.{now}
 use lib.Dec.{leb}
 use Rattle.party.specs.Text.{textMost}
-use Rattle.flat.specs.Flat.{textSize}
-use Rattle.flat.proofs.Laws.{text-length}
+use Rattle.record_bytes.specs.RecordBytes.{textSize}
+use Rattle.record_bytes.proofs.Laws.{text-length}
 use borrow.Author.Needs.{needs}
 use Rattle.writer.proofs.is_whole.Statement.{statement}
 use Rattle.writer.proofs.is_whole.Tie as tie

@@ -4,9 +4,9 @@ use mathlib.Core.List.{List}
 use Prim.Native.Nat.{ℕ}
 use native.Mathlib.Nat.{le-refl}
 use borrow.Author.Needs.{needs}
-use Rattle.party.specs.Party.{said}
+use Rattle.party.specs.Party.{content}
 use Rattle.party.proofs.Values.{is-party}
-use Rattle.flat.specs.Flat.{recordSize, unflatten}
+use Rattle.record_bytes.specs.RecordBytes.{recordSize, decoded}
 use Rattle.writer.specs.Placing.{measure as measureOf}
 use Rattle.writer.proofs.Capped.{measure-stored}
 use Rattle.writer.proofs.measure.Statement.{statement}
@@ -18,7 +18,7 @@ returns c =
     let start = t .before .before in
     let p = start .args .p in
     c .measure-record .ensures
-    ∙ ap (λ (s : List ℕ). measureOf (said (unflatten s))) (t .store .ensures .1)
+    ∙ ap (λ (s : List ℕ). measureOf (content (decoded s))) (t .store .ensures .1)
     ∙ measure-stored p (is-party p _ (start .good .0)) _ (le-refl recordSize)
 
 pub measure-spec : {M : Type 1} → statement M

@@ -13,12 +13,12 @@ use Rattle.party.specs.Limits.{limitsOf}
 use Rattle.party.specs.Text.{used}
 use Rattle.party.specs.declared.Limits.{Limits}
 use Rattle.party.specs.declared.Numbering.{Numbering}
-use Rattle.field_utils.specs.Names.{keptFrom}
-use Rattle.flat.specs.Flat.{partyFrom}
-use Rattle.flat.proofs.Laws.{party-names, party-name}
+use Rattle.field_utils.specs.Names.{droppedPrefix}
+use Rattle.record_bytes.specs.RecordBytes.{partyFrom}
+use Rattle.record_bytes.proofs.Laws.{party-names, party-name}
 use Rattle.writer.specs.Writing.{nameLines}
 use Rattle.writer.specs.Code.{led, nameCount}
-use Rattle.writer.proofs.Names.{namesIn, few as names-few, marks-most, said-lines, left-length, left-end, lent-limits, lent-count}
+use Rattle.writer.proofs.Names.{namesIn, few as names-few, marks-most, content-lines, left-length, left-end, lent-limits, lent-count}
 use borrow.Author.Needs.{needs}
 use Rattle.writer.proofs.names_length.Statement.{statement}
 use Rattle.writer.proofs.names_length.Tie as tie
@@ -55,10 +55,10 @@ module _ (k : tie.At-loop Inv-loop μ-loop) where
   few : n ≤ 4
   few = names-few p (party-names lent) count
 
-  marked : k .before .kept-from .result ≡ keptFrom f
-  marked = k .before .kept-from .ensures ∙ ap keptFrom (ap (λ (l : Limits). l .numbering) (lent-limits lent (start .pre) (k .before .before .limits-of .ensures)))
+  marked : k .before .dropped-prefix .result ≡ droppedPrefix f
+  marked = k .before .dropped-prefix .ensures ∙ ap droppedPrefix (ap (λ (l : Limits). l .numbering) (lent-limits lent (start .pre) (k .before .before .limits-of .ensures)))
 
-  narrow : k .before .kept-from .result ≤ 2
+  narrow : k .before .dropped-prefix .result ≤ 2
   narrow = rw marked (marks-most f)
 
 loop-holds : tie.Need-loop-holds Inv-loop μ-loop
@@ -91,7 +91,7 @@ returns : tie.Need-returns Inv-loop μ-loop
 returns c =
     let k = c .before in
     let end = ap length (left-end (p k) (party-names (lent k)) (count k) (f k) (k .loop .after) (k .loop .i) (c .loop-test .left)) in
-    rw (said-lines (p k) (party-names (lent k)) (count k)) (record { is = omega (arith, k .loop .inv .2, end); most = omega (arith, few k) })
+    rw (content-lines (p k) (party-names (lent k)) (count k)) (record { is = omega (arith, k .loop .inv .2, end); most = omega (arith, few k) })
 
 pub names-length-spec : {M : Type 1} → statement M
 names-length-spec =

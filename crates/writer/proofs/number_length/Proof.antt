@@ -6,7 +6,7 @@ use Rattle.writer.proofs.number_length.Statement.{statement}
 use Rattle.writer.proofs.number_length.Tie as tie
 
 sub-result : tie.Need-sub-result
-sub-result c = omega (arith, c .before .skip-of .ensures, c .kept-from .ensures, kept-least (c .before .before .args .numbering))
+sub-result c = omega (arith, c .before .skip-of .ensures, c .dropped-prefix .ensures, kept-least (c .before .before .args .numbering))
 
 pub number-length-spec : {M : Type 1} → statement M
 number-length-spec =

@@ -5,9 +5,9 @@ use Prim.Native.Nat.{ℕ}
 use native.Mathlib.Nat.{le-refl}
 use denote.Ref.{now}
 use borrow.Author.Needs.{needs}
-use Rattle.party.specs.Party.{said}
+use Rattle.party.specs.Party.{content}
 use Rattle.party.proofs.Values.{is-party}
-use Rattle.flat.specs.Flat.{recordSize, unflatten}
+use Rattle.record_bytes.specs.RecordBytes.{recordSize, decoded}
 use Rattle.writer.specs.Placing.{place as placeIn}
 use Rattle.writer.proofs.Capped.{place-stored}
 use Rattle.writer.proofs.place.Statement.{statement}
@@ -21,7 +21,7 @@ returns c =
     let p = start .args .p in
     let buffer = now (start .args .buf) in
     r .place-record .ensures
-    ∙ ap (λ (s : List ℕ). placeIn (said (unflatten s)) buffer) (t .store .ensures .1)
+    ∙ ap (λ (s : List ℕ). placeIn (content (decoded s)) buffer) (t .store .ensures .1)
     ∙ place-stored p (is-party p _ (start .good .0)) _ (le-refl recordSize) buffer
 
 pub place-spec : {M : Type 1} → statement M

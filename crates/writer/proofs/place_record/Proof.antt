@@ -3,8 +3,8 @@ use mathlib.Core.Path.{_≡_, sym, _∙_, ap}
 use native.Mathlib.Omega.{arith}
 use denote.Ref.{now}
 use borrow.Author.Needs.{needs}
-use Rattle.party.specs.Party.{Said, said}
-use Rattle.flat.specs.Flat.{unflatten}
+use Rattle.party.specs.Party.{Content, content}
+use Rattle.record_bytes.specs.RecordBytes.{decoded}
 use Rattle.writer.specs.declared.Measured.{Measured}
 use Rattle.writer.specs.Placing.{Measured as Answer, Placing, measure, place, toldMeasured, Space}
 use Rattle.writer.proofs.Pairs.{place-unmeasured, space-measured}
@@ -15,8 +15,8 @@ module _ (w : tie.After-put-measured) where
   abbrev start : tie.Start
   start = w .before .before .before .before
 
-  abbrev says : Said
-  says = said (unflatten (now (start .args .«record»)))
+  abbrev says : Content
+  says = content (decoded (now (start .args .«record»)))
 
   -- what was measured
   measured : {r : Measured} → w .put-measured .result ≡ r → measure says ≡ toldMeasured r

@@ -29,8 +29,8 @@ put-number-requires c κs =
     let a = l .before .before .before .before .args in
     space-first (l .put-lf .last .0) (l .put-lf .result) (numberOf (a .numbering) (a .digit)) (now (a .text)) (rest l)
 
-put-bytes-requires : tie.Need-put-bytes-requires
-put-bytes-requires c κs =
+append-bytes-requires : tie.Need-append-bytes-requires
+append-bytes-requires c κs =
     let b = c .before .before .before in
     let l = b .before .before .before .before in
     let a = l .before .before .before .before .args in
@@ -44,8 +44,8 @@ returns c =
     let s = l .before .before .before .before in
     let number = numberOf (s .args .numbering) (s .args .digit) in
     let text = now (s .args .text) in
-    both (lead (s .args .later)) (number ++ text) (l .put-lf .ensures) (s .pre) (both number text (b .put-number .ensures) (rest l) (e .put-bytes .ensures))
+    both (lead (s .args .later)) (number ++ text) (l .put-lf .ensures) (s .pre) (both number text (b .put-number .ensures) (rest l) (e .append-bytes .ensures))
 
 pub put-line-spec : {M : Type 1} → statement M
 put-line-spec =
-    tie.close (tie.spec put-lf-requires put-number-requires put-bytes-requires (λ c. search needs) returns)
+    tie.close (tie.spec put-lf-requires put-number-requires append-bytes-requires (λ c. search needs) returns)

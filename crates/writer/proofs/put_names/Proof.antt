@@ -12,11 +12,11 @@ use Rattle.party.specs.Text.{used}
 use Rattle.party.specs.declared.Numbering.{Numbering}
 use Rattle.party.specs.Limits.{limitsOf}
 use Rattle.party.specs.declared.Limits.{Limits}
-use Rattle.flat.specs.Flat.{digitsAt, textAt, partyFrom}
-use Rattle.flat.proofs.Laws.{party-names, party-name, party-digit}
+use Rattle.record_bytes.specs.RecordBytes.{digitsAt, textAt, partyFrom}
+use Rattle.record_bytes.proofs.Laws.{party-names, party-name, party-digit}
 use Rattle.writer.specs.Writing.{numberOf, nameLines}
 use Rattle.writer.specs.Code.{lead, led, nameCount}
-use Rattle.writer.proofs.Names.{namesIn, few as names-few, said-lines, left-next, left-end, lent-limits, lent-count}
+use Rattle.writer.proofs.Names.{namesIn, few as names-few, content-lines, left-next, left-end, lent-limits, lent-count}
 use Rattle.writer.proofs.Puts.{Partway, begun, finished, kept, next, next-space}
 use borrow.Author.Needs.{needs}
 use Rattle.writer.proofs.put_names.Statement.{statement}
@@ -63,7 +63,7 @@ module _ (k : tie.At-loop Inv-loop μ-loop) where
   whole = led (start .args .later) (nameLines f (p .digits) (namesIn n p))
 
   room : start .args .at + length whole ≤ length (now (start .args .buf))
-  room = rw (said-lines p (party-names lent) count) at (start .pre .1)
+  room = rw (content-lines p (party-names lent) count) at (start .pre .1)
 
   -- the next line, and those after it
   abbrev line : List ℕ
@@ -104,7 +104,7 @@ returns : tie.Need-returns Inv-loop μ-loop
 returns c =
     let k = c .before in
     let all = rw (left-end (p k) (party-names (lent k)) (count k) (f k) (k .loop .after) (k .loop .i) (c .loop-test .left)) at (k .loop .inv .1) in
-    rw (said-lines (p k) (party-names (lent k)) (count k)) (finished all)
+    rw (content-lines (p k) (party-names (lent k)) (count k)) (finished all)
 
 pub put-names-spec : {M : Type 1} → statement M
 put-names-spec =

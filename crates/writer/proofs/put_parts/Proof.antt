@@ -4,10 +4,10 @@ use mathlib.Core.Path.{_≡_}
 use mathlib.Core.List.{List, _++_}
 use denote.Ref.{now}
 use lib.ListN.{length}
-use Rattle.party.specs.Party.{said}
+use Rattle.party.specs.Party.{content}
 use Rattle.party.specs.Text.{used}
 use Rattle.field_utils.specs.Tags.{tagOf}
-use Rattle.flat.specs.Flat.{partyFrom}
+use Rattle.record_bytes.specs.RecordBytes.{partyFrom}
 use Rattle.writer.specs.Writing.{writtenField}
 use Rattle.writer.specs.Code.{headOf, restOn}
 use Rattle.writer.proofs.Fields.{lent-parts}
@@ -33,7 +33,7 @@ module _ (h : tie.After-has-head) where
   tail = restOn (h .has-head .result) (partyFrom lent)
 
   -- the parts, by what the function knows of the account or identifier
-  parts : writtenField (said (partyFrom lent)) ≡ tag ++ (head ++ tail)
+  parts : writtenField (content (partyFrom lent)) ≡ tag ++ (head ++ tail)
   parts = lent-parts lent (start .pre .0) (h .has-head .ensures)
 
   -- they have space
@@ -49,8 +49,8 @@ put-tag-requires c κs =
     let a = start h .args in
     space-first (now (a .buf)) (a .at) (tag h) (head h ++ tail h) (room h)
 
-put-head-requires : tie.Need-put-head-requires
-put-head-requires c κs =
+put-account-requires : tie.Need-put-account-requires
+put-account-requires c κs =
     let t = c .before .before .before in
     let h = t .before .before in
     (start h .pre .0 .size, space-first (t .put-tag .last .0) (t .put-tag .result) (head h) (tail h) (rest t))
@@ -59,7 +59,7 @@ put-rest-requires : tie.Need-put-rest-requires
 put-rest-requires c κs =
     let t = c .before .before .before .before .before .before .before in
     let h = t .before .before in
-    (start h .pre .0, space (head h) (tail h) (c .before .before .before .put-head .ensures) (rest t))
+    (start h .pre .0, space (head h) (tail h) (c .before .before .before .put-account .ensures) (rest t))
 
 returns : tie.Need-returns
 returns c =
@@ -67,7 +67,7 @@ returns c =
     let k = r .before .before .before .before in
     let t = k .before .before .before .before in
     let h = t .before .before in
-    rw (parts h) (both (tag h) (head h ++ tail h) (t .put-tag .ensures) (room h) (both (head h) (tail h) (k .put-head .ensures) (rest t) (r .put-rest .ensures)))
+    rw (parts h) (both (tag h) (head h ++ tail h) (t .put-tag .ensures) (room h) (both (head h) (tail h) (k .put-account .ensures) (rest t) (r .put-rest .ensures)))
 
 pub put-parts-spec : {M : Type 1} → statement M
 put-parts-spec =
@@ -76,7 +76,7 @@ put-parts-spec =
     (λ c. search needs)
     (λ c κs. search needs)
     put-tag-requires
-    put-head-requires
+    put-account-requires
     put-rest-requires
     (λ c. search needs)
     returns)

@@ -4,7 +4,7 @@ use Prim.Native.Nat.{_+_, _≤_}
 use denote.Ref.{now}
 use lib.ListN.{length}
 use Rattle.party.specs.Text.{used}
-use Rattle.flat.specs.Flat.{textAt, partyFrom}
+use Rattle.record_bytes.specs.RecordBytes.{textAt, partyFrom}
 use mathlib.Core.List.{_++_}
 use Rattle.writer.specs.Code.{lead, namesOn, restOn}
 use Rattle.writer.proofs.Fields.{rest-names, rest-bic}
@@ -53,8 +53,8 @@ put-lf-requires c κs =
     let a = c .before .before .before .before .before .before .args in
     space-first (now (a .buf)) (a .at) (lead (a .later)) (used (textAt 1 (now (a .«record»))) .bytes) (room (c .before))
 
-put-bytes-requires : tie.Need-put-bytes-requires
-put-bytes-requires c κs =
+append-bytes-requires : tie.Need-append-bytes-requires
+append-bytes-requires c κs =
     let l = c .before .before .before .before in
     let e = l .before .before in
     let a = e .before .before .before .before .before .args in
@@ -67,7 +67,7 @@ returns-2 c =
     let l = u .before .before .before .before in
     let e = l .before .before in
     let a = e .before .before .before .before .before .args in
-    rw (bic e) (both (lead (a .later)) (used (textAt 1 (now (a .«record»))) .bytes) (l .put-lf .ensures) (room e) (puts-as (u .used-text .ensures .is) (b .put-bytes .ensures)))
+    rw (bic e) (both (lead (a .later)) (used (textAt 1 (now (a .«record»))) .bytes) (l .put-lf .ensures) (room e) (puts-as (u .used-text .ensures .is) (b .append-bytes .ensures)))
 
 pub put-rest-spec : {M : Type 1} → statement M
 put-rest-spec =
@@ -79,6 +79,6 @@ put-rest-spec =
     returns
     put-lf-requires
     (λ c κs. search needs)
-    put-bytes-requires
+    append-bytes-requires
     (λ c. search needs)
     returns-2)

@@ -3,7 +3,7 @@ use mathlib.Core.Path.{ap}
 use native.Mathlib.Omega.{arith}
 use denote.Ref.{now}
 use lib.ListN.{length, length-append}
-use Rattle.flat.specs.Flat.{partyFrom}
+use Rattle.record_bytes.specs.RecordBytes.{partyFrom}
 use Rattle.writer.proofs.Fields.{rest-names, rest-bic}
 use Rattle.writer.proofs.Names.{lent-limits}
 use borrow.Author.Needs.{needs}

@@ -5,7 +5,7 @@ use native.Mathlib.Omega.{arith}
 use denote.Ref.{now}
 use lib.ListN.{getD}
 use Rattle.party.specs.Text.{textMost}
-use Rattle.flat.specs.Flat.{textSize}
+use Rattle.record_bytes.specs.RecordBytes.{textSize}
 use Rattle.writer.proofs.Texts.{all-used, part-used}
 use borrow.Author.Needs.{needs}
 use Rattle.writer.proofs.used_text.Statement.{statement}

@@ -3,7 +3,7 @@ use native.Mathlib.Omega.{arith}
 use denote.Ref.{now}
 use lib.ListN.{replicate}
 use borrow.Author.Needs.{needs}
-use Rattle.flat.specs.Flat.{recordSize}
+use Rattle.record_bytes.specs.RecordBytes.{recordSize}
 use Rattle.yewdome.proofs.Steps.{Given, was-read, kept-none, kept-some}
 use Rattle.yewdome.proofs.yewdome_page_kept.Statement.{statement}
 use Rattle.yewdome.proofs.yewdome_page_kept.Tie as tie

@@ -6,7 +6,7 @@ use lib.ListN.{length}
 use Rattle.reader.specs.Reading.{Reading, toldInto, readInto}
 use Rattle.reader.specs.declared.choices.Choice.{Choice}
 use Rattle.reader.specs.Choices.{parseWithVariant}
-use Rattle.yewdome.specs.Interface.{lentReply, storing, choiceAt}
+use Rattle.yewdome.specs.Interface.{argumentsReply, storedCall, choiceAt}
 use Rattle.yewdome.proofs.Answers.{refuses, passes, reads, reads-named, variant-line}
 use Rattle.yewdome.proofs.yewdome_party_parse_with_variant.Statement.{statement}
 use Rattle.yewdome.proofs.yewdome_party_parse_with_variant.Tie as tie
@@ -19,7 +19,7 @@ returns : tie.Need-returns
 returns c =
     let s = c .before .before .before .before in
     let r = reading s in
-    refuses (lentReply (length (s .args .«record» .now)) (leb (s .args .choice) 6)) (c .before .lent .ensures) (c .if1 .taken) (storing (r .reply) (r .party) (s .args .«record» .now)) (s .args .«record» .now)
+    refuses (argumentsReply (length (s .args .«record» .now)) (leb (s .args .choice) 6)) (c .before .check-arguments .ensures) (c .if1 .taken) (storedCall (r .reply) (r .party) (s .args .«record» .now)) (s .args .«record» .now)
 
 module _ (d : tie.After-parse-with-variant-into) where
   abbrev start : tie.Start
@@ -28,8 +28,8 @@ module _ (d : tie.After-parse-with-variant-into) where
   stored : toldInto (d .parse-with-variant-into .result) (d .parse-with-variant-into .last .1 .1 .1 .0) ≡ readInto (reading start) (start .args .«record» .now)
   stored = d .parse-with-variant-into .ensures ∙ ap (λ (choice : Choice). readInto (parseWithVariant choice (start .args .body .now) (start .args .letter)) (start .args .«record» .now)) (d .before .before .choice-at .ensures)
 
-said-requires : tie.Need-said-requires
-said-requires c κs =
+outcome-code-requires : tie.Need-outcome-code-requires
+outcome-code-requires c κs =
     let d = c .before .before in
     reads-named (reading (start d)) (start d .args .«record» .now) (d .parse-with-variant-into .result) (stored d) (variant-line (choiceAt (start d .args .choice)) (start d .args .body .now) (start d .args .letter))
 
@@ -38,8 +38,8 @@ returns-2 c =
     let d = c .before .before .before in
     let a = start d .args in
     let e = d .before .before .before in
-    reads (leb (a .choice) 6) (reading (start d)) (a .«record» .now) (d .parse-with-variant-into .result) (passes (length (a .«record» .now)) (leb (a .choice) 6) (e .before .lent .ensures) (e .if1 .left)) (stored d) (c .said .ensures)
+    reads (leb (a .choice) 6) (reading (start d)) (a .«record» .now) (d .parse-with-variant-into .result) (passes (length (a .«record» .now)) (leb (a .choice) 6) (e .before .check-arguments .ensures) (e .if1 .left)) (stored d) (c .outcome-code .ensures)
 
 pub yewdome-party-parse-with-variant-spec : {M : Type 1} → statement M
 yewdome-party-parse-with-variant-spec =
-    tie.close (tie.spec (λ c κs. search needs) returns (λ c κs. search needs) (λ c κs. search needs) said-requires (λ c. search needs) returns-2)
+    tie.close (tie.spec (λ c κs. search needs) returns (λ c κs. search needs) (λ c κs. search needs) outcome-code-requires (λ c. search needs) returns-2)

@@ -11,8 +11,8 @@ use Rattle.yewdome.proofs.Answers.{profile-parse-line}
 use Rattle.yewdome.proofs.yewdome_profile_parse.Statement.{statement}
 use Rattle.yewdome.proofs.yewdome_profile_parse.Tie as tie
 
-give-requires : tie.Need-give-requires
-give-requires c κs =
+store-answer-requires : tie.Need-store-answer-requires
+store-answer-requires c κs =
     let found = c .before in
     let a = found .before .before .before .before .args in
     subst (λ (r : Reading). Named (r .reply)) (sym (found .parse .ensures)) (profile-parse-line (a .body .now) (found .before .choice-at .result))
@@ -23,8 +23,8 @@ returns c =
     let found = gave .before .before in
     let a = found .before .before .before .before .args in
     let by = ap (λ (choice : Choice). parseProfiled choice (a .body .now)) (found .before .choice-at .ensures) in
-    gave .give .ensures ∙ ap (λ (r : Reading). given (leb (a .choice) 6) r (a .«record» .now)) (found .parse .ensures ∙ by)
+    gave .store-answer .ensures ∙ ap (λ (r : Reading). given (leb (a .choice) 6) r (a .«record» .now)) (found .parse .ensures ∙ by)
 
 pub yewdome-profile-parse-spec : {M : Type 1} → statement M
 yewdome-profile-parse-spec =
-    tie.close (tie.spec (λ c κs. search needs) (λ c κs. search needs) give-requires (λ c. search needs) returns)
+    tie.close (tie.spec (λ c κs. search needs) (λ c κs. search needs) store-answer-requires (λ c. search needs) returns)

@@ -11,8 +11,8 @@ use Rattle.yewdome.proofs.Answers.{profile-read-line}
 use Rattle.yewdome.proofs.yewdome_profile_read.Statement.{statement}
 use Rattle.yewdome.proofs.yewdome_profile_read.Tie as tie
 
-give-requires : tie.Need-give-requires
-give-requires c κs =
+store-answer-requires : tie.Need-store-answer-requires
+store-answer-requires c κs =
     let found = c .before in
     let a = found .before .before .before .before .args in
     subst (λ (r : Reading). Named (r .reply)) (sym (found .read .ensures)) (profile-read-line (a .body .now) (found .before .option-at .result))
@@ -23,8 +23,8 @@ returns c =
     let found = gave .before .before in
     let a = found .before .before .before .before .args in
     let by = ap (λ (option : PartyOption). readProfiled option (a .body .now)) (found .before .option-at .ensures) in
-    gave .give .ensures ∙ ap (λ (r : Reading). given (leb (a .option) 10) r (a .«record» .now)) (found .read .ensures ∙ by)
+    gave .store-answer .ensures ∙ ap (λ (r : Reading). given (leb (a .option) 10) r (a .«record» .now)) (found .read .ensures ∙ by)
 
 pub yewdome-profile-read-spec : {M : Type 1} → statement M
 yewdome-profile-read-spec =
-    tie.close (tie.spec (λ c κs. search needs) (λ c κs. search needs) give-requires (λ c. search needs) returns)
+    tie.close (tie.spec (λ c κs. search needs) (λ c κs. search needs) store-answer-requires (λ c. search needs) returns)

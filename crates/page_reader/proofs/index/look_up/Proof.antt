@@ -3,7 +3,7 @@ use native.Mathlib.Omega.{arith}
 use lib.ListN.{replicate}
 use denote.Ref.{now}
 use borrow.Author.Needs.{needs}
-use Rattle.flat.specs.Flat.{recordSize}
+use Rattle.record_bytes.specs.RecordBytes.{recordSize}
 use Rattle.page_reader.proofs.ByValue.{look-value}
 use Rattle.page_reader.proofs.index.look_up.Statement.{statement}
 use Rattle.page_reader.proofs.index.look_up.Tie as tie

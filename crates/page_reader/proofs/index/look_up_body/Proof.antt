@@ -30,7 +30,7 @@ returns : tie.Need-returns
 returns c =
     let t = c .before .before .before in
     let q = finds (t .before .before) (t .skip .given .1) in
-    c .behind .ensures ∙ ap (drop (t .skip .given .0 .1 .0)) (c .before .text-in .ensures) ∙ ap (λ (r : PageRead). r .body) (sym (field-read (page t) (q .0))) ∙ ap bodyOf (sym (q .1))
+    c .suffix .ensures ∙ ap (drop (t .skip .given .0 .1 .0)) (c .before .text-in .ensures) ∙ ap (λ (r : PageRead). r .body) (sym (field-read (page t) (q .0))) ∙ ap bodyOf (sym (q .1))
 
 pub look-up-body-spec : {M : Type 1} → statement M
 look-up-body-spec =

@@ -8,7 +8,7 @@ use borrow.Author.Needs.{needs}
 use Rattle.errors.specs.declared.Outcome.{Outcome}
 use Rattle.party.specs.declared.PartyOption.{PartyOption}
 use Rattle.errors.specs.declared.ParseError.the-variants.{ShortRecord}
-use Rattle.flat.specs.Flat.{recordSize}
+use Rattle.record_bytes.specs.RecordBytes.{recordSize}
 use Rattle.reader.specs.Reading.{readInto}
 use Rattle.reader.specs.Options.{read}
 use Rattle.page_reader.specs.declared.index.Place.{Place}
@@ -68,7 +68,7 @@ module _ (c : tie.After-past) where
   tells {w} e =
       let b = r .before .before in
       let skip = f .option .given .0 .1 .0 in
-      let body : now (b .behind .result) ≡ drop skip (textIn (page f) (at f) (to f)) = b .behind .ensures ∙ ap (drop skip) (b .before .text-in .ensures) in
+      let body : now (b .suffix .result) ≡ drop skip (textIn (page f) (at f) (to f)) = b .suffix .ensures ∙ ap (drop skip) (b .before .text-in .ensures) in
       subst (λ (x : PageRead). Tells (record { outcome = went w; next = c .past .result }) x lent left)
       (ap (readTagged (tagged (o f) (drop skip (textIn (page f) (at f) (to f))))) (c .past .ensures) ∙ sym (field-read (page f) (finds (f .before .before) (f .option .given .1) .0)))
       (answer-tells (o f) (drop skip (textIn (page f) (at f) (to f))) (c .past .result) (r .read-into .result) lent size (r .read-into .ensures ∙ ap (λ (l : List ℕ). readInto (read (o f) l) lent) body) e)

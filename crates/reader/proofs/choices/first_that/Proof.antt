@@ -10,7 +10,7 @@ use borrow.Author.Needs.{needs}
 use Rattle.errors.specs.Refusals.{accepted, refused}
 use Rattle.party.specs.declared.PartyOption.{PartyOption}
 use Rattle.field_utils.specs.Lines.{lines}
-use Rattle.flat.specs.Flat.{recordSize}
+use Rattle.record_bytes.specs.RecordBytes.{recordSize}
 use Rattle.reader.specs.Reading.{Reading, leaves}
 use Rattle.reader.specs.Options.{bodyReply, readOwn, read}
 use Rattle.reader.proofs.Bodies.{body-passed}

@@ -31,7 +31,7 @@ returns-2 c =
     let t = c .before .before in
     let a = t .before .before .before .before .args in
     known (now (a .text)) (lines (now (a .asked))) (t .enum-told2 .given .1)
-    (ap not (c .is-bic-length2 .ensures ∙ ap bicLength (c .before .bic-line .ensures)))
+    (ap not (c .is-bic-length2 .ensures ∙ ap bicLength (c .before .bic-line-length .ensures)))
 
 returns-3 : tie.Need-returns-3
 returns-3 c =

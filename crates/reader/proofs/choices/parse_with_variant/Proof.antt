@@ -3,7 +3,7 @@ use mathlib.Core.Path.{_∙_, ap}
 use native.Mathlib.Omega.{arith}
 use lib.ListN.{replicate}
 use denote.Ref.{now}
-use Rattle.flat.specs.Flat.{recordSize}
+use Rattle.record_bytes.specs.RecordBytes.{recordSize}
 use Rattle.reader.specs.Reading.{toldAnswer}
 use Rattle.reader.specs.Choices.{parseWithVariant}
 use Rattle.reader.proofs.ByValue.{variant-back}

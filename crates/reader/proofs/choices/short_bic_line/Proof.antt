@@ -12,7 +12,7 @@ use Rattle.reader.proofs.choices.short_bic_line.Statement.{statement}
 use Rattle.reader.proofs.choices.short_bic_line.Tie as tie
 
 add-if1 : tie.Need-add-if1
-add-if1 c = omega (arith, ap (λ (m : Limits). m .longest) (c .before .limits-of .ensures))
+add-if1 c = omega (arith, ap (λ (m : Limits). m .«account_max») (c .before .limits-of .ensures))
 
 returns : tie.Need-returns
 returns c =
@@ -20,16 +20,16 @@ returns c =
     let a = l .before .before in
     a .pre .first
     ∙ ap (length {A = ℕ})
-    (sym (short-long (lines (now (a .args .text))) (omega (arith, c .if1 .taken, a .pre .first, ap (λ (m : Limits). m .longest) (l .limits-of .ensures)))))
+    (sym (short-long (lines (now (a .args .text))) (omega (arith, c .if1 .taken, a .pre .first, ap (λ (m : Limits). m .«account_max») (l .limits-of .ensures)))))
 
 returns-2 : tie.Need-returns-2
 returns-2 c =
     let e = c .before in
     let l = e .before .before .before in
     let a = l .before .before in
-    c .bic-line .ensures
+    c .bic-line-length .ensures
     ∙ ap (length {A = ℕ})
-    (sym (short-fits (lines (now (a .args .text))) (omega (arith, e .if1 .left, a .pre .first, ap (λ (m : Limits). m .longest) (l .limits-of .ensures)))))
+    (sym (short-fits (lines (now (a .args .text))) (omega (arith, e .if1 .left, a .pre .first, ap (λ (m : Limits). m .«account_max») (l .limits-of .ensures)))))
 
 pub short-bic-line-spec : {M : Type 1} → statement M
 short-bic-line-spec =

@@ -1,0 +1,2 @@
+pub mod RecordBytes
+pub mod Code
