@@ -2,10 +2,10 @@
 use mathlib.Core.Path.{_≡_, refl, sym, _∙_, ap, subst}
 use mathlib.Core.Bool.{Bool, true, false, not, _&&_, _||_, and-true, false≢true, true≢false}
 use mathlib.Core.List.{List, [], _∷_, _++_, append-nil}
-use Prim.Native.Nat.{ℕ, zero, suc, _+_, _≤_, _<_}
+use Prim.Native.Nat.{ℕ, zero, suc, _+_, _-_, _≤_, _<_}
 use native.Mathlib.Omega.{arith}
 use lib.Dec.{ltb, eqb}
-use lib.ListN.{length, length-append}
+use lib.ListN.{length, getD, length-append}
 use borrow.Author.Tests.{eqb-true, eqb-false, lt-ltb, le-ltb, ltb-true, ltb-false, not-true}
 use Rattle.errors.specs.Refusals.{accepted, must}
 use Rattle.errors.proofs.Replies.{refused≢accepted, must-held, then-first, then-second}
@@ -61,25 +61,35 @@ read-lines Field59NoOption body e = refl
 read-lines Field59A body e = refl
 read-lines Field59F body e = refl
 
--- ---- how many lines are written where there is a BIC
+-- ---- how many lines are written where there is a BIC, and that the last of them is it, whatever follows
 module _ (count : ℕ) (u v : Used) (us : List Used) (ds : List ℕ) where
-  bic-lines : (o : PartyOption) (present : Bool) → Facts (contentWith o present count u v us ds) → (limitsOf o .«bic_count» ≡ 0 → ⊥) → length (writtenLines (contentWith o present count u v us ds)) ≡ bicLine present
+  bic-lines : (o : PartyOption) (present : Bool) → Facts (contentWith o present count u v us ds) → (limitsOf o .«bic_count» ≡ 0 → ⊥) → let ls = writtenLines (contentWith o present count u v us ds) in
+      (length ls ≡ bicLine present) × ((rest : List (List ℕ)) → getD (ls ++ rest) (bicLine present - 1) [] ≡ v .bytes)
   unfolding writtenLines nameLines
   bic-lines Field50NoOption present h n = absurd (n refl)
-  bic-lines Field50A true h n = refl
-  bic-lines Field50A false h n = refl
+  bic-lines Field50A true h n = (refl, λ rest. refl)
+  bic-lines Field50A false h n = (refl, λ rest. refl)
   bic-lines Field50F present h n = absurd (n refl)
   bic-lines Field50K present h n = absurd (n refl)
   bic-lines Field50C true h n = absurd (false≢true (h .presence))
-  bic-lines Field50C false h n = refl
+  bic-lines Field50C false h n = (refl, λ rest. refl)
   bic-lines Field50L present h n = absurd (n refl)
-  bic-lines Field50G true h n = refl
+  bic-lines Field50G true h n = (refl, λ rest. refl)
   bic-lines Field50G false h n = absurd (false≢true (h .presence))
   bic-lines Field50H present h n = absurd (n refl)
   bic-lines Field59NoOption present h n = absurd (n refl)
-  bic-lines Field59A true h n = refl
-  bic-lines Field59A false h n = refl
+  bic-lines Field59A true h n = (refl, λ rest. refl)
+  bic-lines Field59A false h n = (refl, λ rest. refl)
   bic-lines Field59F present h n = absurd (n refl)
+
+-- the line of that number is the BIC that was found
+pub bic-there : (o : PartyOption) (body : List ℕ) → read o body .reply ≡ accepted → (limitsOf o .«bic_count» ≡ 0 → ⊥) → let f = foundBy (limitsOf o .layout) o body in
+    getD (lines body) (bicLine (f .present) - 1) [] ≡ f .bic
+bic-there o body e n =
+    let a = accepted-is o body e in
+    let f = foundBy (limitsOf o .layout) o body in
+    ap (λ (ls : List (List ℕ)). getD ls (bicLine (f .present) - 1) []) (sym (read-lines o body (a .good .reply)) ∙ a .good .lines .are)
+    ∙ bic-lines _ _ _ _ _ o (f .present) (a .good .facts) n .1 (a .good .lines .rest)
 
 -- ---- the lines of an accepted body: those that are written, and those after the BIC
 some-rest : (n k : ℕ) → ltb n (n + k) ≡ ltb 0 k
@@ -136,7 +146,7 @@ parts o body e = subst (λ (s : Content). Parts body (writtenLines s) (isAfterBi
         after-none o (f .present) body n ∙ ap (λ (ls : List (List ℕ)). ltb 0 (length ls)) (sym (all-written o body ws n (a .good .some) (a .good .lines)))
     later false z =
         let n = eqb-false (limitsOf o .«bic_count») 0 z in
-        let k : length (lines body) ≡ bicLine (f .present) + length rest = ap length are ∙ length-append ws rest ∙ ap (λ (m : ℕ). m + length rest) (bic-lines _ _ _ _ _ o (f .present) (a .good .facts) n) in
+        let k : length (lines body) ≡ bicLine (f .present) + length rest = ap length are ∙ length-append ws rest ∙ ap (λ (m : ℕ). m + length rest) (bic-lines _ _ _ _ _ o (f .present) (a .good .facts) n .0) in
         after-by o (f .present) body n ∙ ap (ltb (bicLine (f .present))) k ∙ some-rest (bicLine (f .present)) (length rest)
 
     found : Parts body (writtenLines (foundContent o f)) (isAfterBic o (f .present) body)

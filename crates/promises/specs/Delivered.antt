@@ -94,33 +94,33 @@ end-lines = record {
 -- wrong programs
 pub record DeliveredRuledOut : Type 0 where
   -- a CR cut that no LF follows: at the page's length it stays, in a field and after `-`
-  pub no-lf : readAt (bytes ":50K:A\r") 0 ≡ named (bytes "A\r") 7
-  pub no-lf-end : readAt (bytes "-\r") 0 ≡ refuses 16 2
-  pub no-lf-brace : readAt (bytes "-}\r") 0 ≡ refuses 16 3
+  pub cr-without-lf-stays : readAt (bytes ":50K:A\r") 0 ≡ named (bytes "A\r") 7
+  pub hyphen-cr-without-lf-is-16 : readAt (bytes "-\r") 0 ≡ refuses 16 2
+  pub brace-cr-without-lf-is-16 : readAt (bytes "-}\r") 0 ≡ refuses 16 3
   -- two CRs cut
-  pub two : readAt (bytes ":50K:A\r\r\n-\n") 0 ≡ named (bytes "A\r") 9
-  pub two-end : readAt (bytes "-\r\r\n") 0 ≡ refuses 16 4
+  pub one-of-two-crs-stays : readAt (bytes ":50K:A\r\r\n-\n") 0 ≡ named (bytes "A\r") 9
+  pub hyphen-and-two-crs-is-16 : readAt (bytes "-\r\r\n") 0 ≡ refuses 16 4
   -- a CR cut in the middle of a body: within a line, and before an LF that does not close the field
-  pub middle : readAt (bytes ":50K:A\rB\n-\n") 0 ≡ named (bytes "A\rB") 9
-  pub middle-line : readAt (bytes ":50K:A\r\nB\n-\n") 0 .body ≡ bytes "A\r\nB"
+  pub inner-cr-stays : readAt (bytes ":50K:A\rB\n-\n") 0 ≡ named (bytes "A\rB") 9
+  pub inner-cr-lf-stays : readAt (bytes ":50K:A\r\nB\n-\n") 0 .body ≡ bytes "A\r\nB"
   -- `-}x`, `- }`, `}` and `--` taken for the end
-  pub more : readAt (bytes "-}x\n") 0 ≡ refuses 16 4
-  pub space : readAt (bytes "- }\n") 0 ≡ refuses 16 4
-  pub no-hyphen : readAt (bytes "}\n") 0 ≡ refuses 16 2
-  pub hyphens : readAt (bytes "--\n") 0 ≡ refuses 16 3
+  pub brace-x-is-16 : readAt (bytes "-}x\n") 0 ≡ refuses 16 4
+  pub hyphen-space-brace-is-16 : readAt (bytes "- }\n") 0 ≡ refuses 16 4
+  pub lone-brace-is-16 : readAt (bytes "}\n") 0 ≡ refuses 16 2
+  pub two-hyphens-is-16 : readAt (bytes "--\n") 0 ≡ refuses 16 3
 
 pub delivered-ruled-out : DeliveredRuledOut
 unfolding padded textOf letter digit alphanumeric signs legal parseSwiftChars parseAccount upto onto starts lines withoutCr parseLine parseLines parseNameAndAddress four partyOf accountHead afterHead read lineAt isEnd endsPage runs begins tagIn readField readCase readAt tagOf
 delivered-ruled-out = record {
-  no-lf = refl;
-  no-lf-end = refl;
-  no-lf-brace = refl;
-  two = refl;
-  two-end = refl;
-  middle = refl;
-  middle-line = refl;
-  more = refl;
-  space = refl;
-  no-hyphen = refl;
-  hyphens = refl;
+  cr-without-lf-stays = refl;
+  hyphen-cr-without-lf-is-16 = refl;
+  brace-cr-without-lf-is-16 = refl;
+  one-of-two-crs-stays = refl;
+  hyphen-and-two-crs-is-16 = refl;
+  inner-cr-stays = refl;
+  inner-cr-lf-stays = refl;
+  brace-x-is-16 = refl;
+  hyphen-space-brace-is-16 = refl;
+  lone-brace-is-16 = refl;
+  two-hyphens-is-16 = refl;
 }

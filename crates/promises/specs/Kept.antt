@@ -98,81 +98,82 @@ kept-smallest = record {
   refused-body = refl;
 }
 
+-- wrong programs: a field is named after its operation and the fact, and its comment says what a wrong program would do
 pub record KeptRuledOut : Type 0 where
   -- what is tried: trims in every choice, or at the start alone
-  pub tried-text-trims-all : triedText Field50OrderingCustomerAFK (bytes " A ") ≡ bytes " A "
-  pub tried-text-trims-the-start : triedText Field50InstructingParty (bytes "\t A \n") ≡ bytes "A"
+  pub tried-text-of-afk-keeps-spaces : triedText Field50OrderingCustomerAFK (bytes " A ") ≡ bytes " A "
+  pub tried-text-trims-both-ends : triedText Field50InstructingParty (bytes "\t A \n") ≡ bytes "A"
   -- by a letter: trims though the letter picks, or does not where it detects
-  pub read-text-trims-a-pick : readText Field50InstructingParty (bytes " A") 76 ≡ bytes " A"
-  pub read-text-keeps : readText Field50InstructingParty (bytes " A") 75 ≡ bytes "A"
+  pub read-text-by-l-keeps-spaces : readText Field50InstructingParty (bytes " A") 76 ≡ bytes " A"
+  pub read-text-by-k-trims : readText Field50InstructingParty (bytes " A") 75 ≡ bytes "A"
   -- an option's: takes any CR for one that is dropped, any LF for a last one, or any second line for one after a BIC
-  pub read-takes-any-cr : keptRead Field50L (bytes "A\rB\r") ≡ told noCauses
-  pub read-takes-any-lf : keptRead Field50K (bytes "A\nB") ≡ told noCauses
-  pub read-takes-any-line : keptRead Field50A (bytes "/1\nABCDEFGH") ≡ told noCauses
+  pub read-of-other-crs-has-no-cause : keptRead Field50L (bytes "A\rB\r") ≡ told noCauses
+  pub read-of-an-inner-lf-has-no-cause : keptRead Field50K (bytes "A\nB") ≡ told noCauses
+  pub read-of-a-last-bic-has-no-cause : keptRead Field50A (bytes "/1\nABCDEFGH") ≡ told noCauses
   -- or tells causes of a body that is refused
-  pub read-tells-of-a-refusal : keptRead Field59F (bytes "2/A\n") ≡ record { reply = refused 6 1; causes = noCauses }
+  pub read-of-a-refusal-has-no-cause : keptRead Field59F (bytes "2/A\n") ≡ record { reply = refused 6 1; causes = noCauses }
   -- a choice's: tells blanks where nothing is trimmed, or looks for them in what is left
-  pub parse-trims-all : keptParse Field50OrderingCustomerAFK (bytes " A") ≡ told noCauses
-  pub parse-looks-within : keptParse Field50InstructingParty (bytes "A B") ≡ told noCauses
+  pub parse-of-afk-has-no-blanks : keptParse Field50OrderingCustomerAFK (bytes " A") ≡ told noCauses
+  pub parse-of-an-inner-blank-has-no-cause : keptParse Field50InstructingParty (bytes "A B") ≡ told noCauses
   -- by a letter: tells blanks though the letter picks, or none though it detects
-  pub variant-trims-a-pick : keptParseWithVariant Field50InstructingParty (bytes " A") 76 ≡ told noCauses
-  pub variant-detects : keptParseWithVariant Field50InstructingParty (bytes " A") 75 ≡ told blanksAlone
+  pub variant-by-l-has-no-blanks : keptParseWithVariant Field50InstructingParty (bytes " A") 76 ≡ told noCauses
+  pub variant-by-k-has-blanks : keptParseWithVariant Field50InstructingParty (bytes " A") 75 ≡ told blanksAlone
   -- a page's field: takes a CR that no LF follows for one, or leaves the CR of CR LF out
-  pub field-takes-any-cr : fieldCauses Field50L true (bytes ":50L:A\r") 0 ≡ noCauses
-  pub field-leaves-the-cr : fieldCauses Field50K false (bytes ":50K:A\r\n-\n") 0 ≡ closingCr
+  pub field-of-an-open-cr-has-no-cause : fieldCauses Field50L true (bytes ":50L:A\r") 0 ≡ noCauses
+  pub field-of-cr-lf-has-closing-cr : fieldCauses Field50K false (bytes ":50K:A\r\n-\n") 0 ≡ closingCr
   -- or tells one where no field is, or none with a known tag
-  pub field-tells-of-none : fieldCauses Field50K false (bytes "\r") 0 ≡ noCauses
-  pub field-tells-of-no-tag : fieldCauses Field50K false (bytes "\r\n:5:A\r\n-\n") 2 ≡ noCauses
+  pub field-of-a-stray-line-has-no-cause : fieldCauses Field50K false (bytes "\r") 0 ≡ noCauses
+  pub field-of-an-unknown-tag-has-no-cause : fieldCauses Field50K false (bytes "\r\n:5:A\r\n-\n") 2 ≡ noCauses
   -- for C, an option's: reads by the first option where there is none, or tells causes for a refusal
-  pub kept-read-takes-11 : keptReadCode 11 (bytes "A") ≡ 41 * 65536
-  pub kept-read-hides-6 : keptReadCode 10 (bytes "2/A\n") ≡ 6 * 65536 + 1
+  pub kept-read-of-11-is-41 : keptReadCode 11 (bytes "A") ≡ 41 * 65536
+  pub kept-read-tells-6 : keptReadCode 10 (bytes "2/A\n") ≡ 6 * 65536 + 1
   -- a choice's: counts the choices from 1, or gives 0 where no option accepts
-  pub kept-parse-counts-from-1 : keptParseCode 0 (bytes " A") ≡ 8
-  pub kept-parse-hides-11 : keptParseCode 4 [] ≡ 11 * 65536
+  pub kept-parse-counts-from-0 : keptParseCode 0 (bytes " A") ≡ 8
+  pub kept-parse-tells-11 : keptParseCode 4 [] ≡ 11 * 65536
   -- by a letter: tests 14 before 41, or detects though the letter picks
-  pub kept-variant-tests-14-first : keptVariantCode 7 (bytes "A") 48 ≡ 41 * 65536
-  pub kept-variant-detects : keptVariantCode 0 (bytes " A") 76 ≡ 0
+  pub kept-variant-tests-41-first : keptVariantCode 7 (bytes "A") 48 ≡ 41 * 65536
+  pub kept-variant-by-l-picks : keptVariantCode 0 (bytes " A") 76 ≡ 0
   -- a page's field: gives the causes and not how far the read moved, or tells a CR of the end line
-  pub page-kept-drops-the-rest : pageKept (bytes ":50A:ABCDEFGH\nX\r\n-\n") 0 ≡ (4 + 16) * 131072 + 17
-  pub page-kept-tells-the-end : pageKept (bytes "-\r\n") 0 ≡ 65536 + 3
+  pub page-kept-tells-causes-and-move : pageKept (bytes ":50A:ABCDEFGH\nX\r\n-\n") 0 ≡ (4 + 16) * 131072 + 17
+  pub page-kept-of-the-end-has-no-cause : pageKept (bytes "-\r\n") 0 ≡ 65536 + 3
   -- a filer that drops a line and does not say so
-  pub page-file-drops-a-line : pageFile (bytes ":50A:ABCDEFGH\nX\n-\n") (replicate 19 0) (replicate 19 7)
+  pub page-file-tells-a-dropped-line : pageFile (bytes ":50A:ABCDEFGH\nX\n-\n") (replicate 19 0) (replicate 19 7)
       ≡ record { code = 2 * 4294967296 + 16; bytes = bytes ":50A:ABCDEFGH\n-\n" ++ replicate 3 0; answers = (4 * 131072 + 16) ∷ (65536 + 2) ∷ replicate 17 7 }
   -- one that compares lengths alone: as many bytes are written as the read moved past, since no LF closes the field
-  pub page-file-counts-alone : pageFile (bytes ":50K:A\r\nB") (replicate 20 0) (replicate 10 7) .answers ≡ (1 * 131072 + 9) ∷ (17 * 65536 * 4294967296) ∷ replicate 8 7
+  pub page-file-tells-an-inner-cr : pageFile (bytes ":50K:A\r\nB") (replicate 20 0) (replicate 10 7) .answers ≡ (1 * 131072 + 9) ∷ (17 * 65536 * 4294967296) ∷ replicate 8 7
   -- one that tells causes of a record that it does not file
-  pub page-file-tells-of-a-refusal : pageFile (bytes ":50:A\r\n-\n") (replicate 7 0) (replicate 10 7) .answers ≡ (24 * 65536 * 4294967296 + 7) ∷ (65536 + 2) ∷ replicate 8 7
+  pub page-file-of-a-refusal-has-no-cause : pageFile (bytes ":50:A\r\n-\n") (replicate 7 0) (replicate 10 7) .answers ≡ (24 * 65536 * 4294967296 + 7) ∷ (65536 + 2) ∷ replicate 8 7
 
 pub kept-ruled-out : KeptRuledOut
 unfolding padded textOf content letter digit alphanumeric signs legal parseSwiftChars parseAccount bicLength parseBic upto onto starts lines white trimmedStart keep trimmedEnd trimmed isNumbered secondSlash identifierReply parsePartyIdentifier parseLine parseLines parseNameAndAddress four partyOf accountHead shortAccountHead afterHead read anyNumbered firstLine lastLine bicLike firstThat pickOf testLine nameLines writtenLines joined writtenBody writtenField pieces isLine areNames isGiven endsCr lastEmpty withoutCr lineAt isEnd endsPage runs begins tagIn readField readCase readAt bodyPlace isCarried writable asked recordReply addReply add addIndex close parse parseWithVariant isPicked anyLine laterBoundary tagOf run readsFrom optionAt hasCrLf endsLf causesOf keptOf
 kept-ruled-out = record {
-  tried-text-trims-all = refl;
-  tried-text-trims-the-start = refl;
-  read-text-trims-a-pick = refl;
-  read-text-keeps = refl;
-  read-takes-any-cr = refl;
-  read-takes-any-lf = refl;
-  read-takes-any-line = refl;
-  read-tells-of-a-refusal = refl;
-  parse-trims-all = refl;
-  parse-looks-within = refl;
-  variant-trims-a-pick = refl;
-  variant-detects = refl;
-  field-takes-any-cr = refl;
-  field-leaves-the-cr = refl;
-  field-tells-of-none = refl;
-  field-tells-of-no-tag = refl;
-  kept-read-takes-11 = refl;
-  kept-read-hides-6 = refl;
-  kept-parse-counts-from-1 = refl;
-  kept-parse-hides-11 = refl;
-  kept-variant-tests-14-first = refl;
-  kept-variant-detects = refl;
-  page-kept-drops-the-rest = refl;
-  page-kept-tells-the-end = refl;
-  page-file-drops-a-line = refl;
-  page-file-counts-alone = refl;
-  page-file-tells-of-a-refusal = refl;
+  tried-text-of-afk-keeps-spaces = refl;
+  tried-text-trims-both-ends = refl;
+  read-text-by-l-keeps-spaces = refl;
+  read-text-by-k-trims = refl;
+  read-of-other-crs-has-no-cause = refl;
+  read-of-an-inner-lf-has-no-cause = refl;
+  read-of-a-last-bic-has-no-cause = refl;
+  read-of-a-refusal-has-no-cause = refl;
+  parse-of-afk-has-no-blanks = refl;
+  parse-of-an-inner-blank-has-no-cause = refl;
+  variant-by-l-has-no-blanks = refl;
+  variant-by-k-has-blanks = refl;
+  field-of-an-open-cr-has-no-cause = refl;
+  field-of-cr-lf-has-closing-cr = refl;
+  field-of-a-stray-line-has-no-cause = refl;
+  field-of-an-unknown-tag-has-no-cause = refl;
+  kept-read-of-11-is-41 = refl;
+  kept-read-tells-6 = refl;
+  kept-parse-counts-from-0 = refl;
+  kept-parse-tells-11 = refl;
+  kept-variant-tests-41-first = refl;
+  kept-variant-by-l-picks = refl;
+  page-kept-tells-causes-and-move = refl;
+  page-kept-of-the-end-has-no-cause = refl;
+  page-file-tells-a-dropped-line = refl;
+  page-file-tells-an-inner-cr = refl;
+  page-file-of-a-refusal-has-no-cause = refl;
 }
 
 -- a page whose fields are kept, with a line before its first opening, the end line `-}` and more after it

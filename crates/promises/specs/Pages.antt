@@ -86,19 +86,19 @@ not-too-long page at h = go (readable page at) refl
 -- wrong programs
 pub record PagesRuledOut : Type 0 where
   -- an end reported before the first field: read 1 of a page that opens with a field is that field
-  pub not-ended : readAt (bytes ":50K:A\n-\n") 0 ≡ named (bytes "A") 7
+  pub first-read-is-the-field : readAt (bytes ":50K:A\n-\n") 0 ≡ named (bytes "A") 7
   -- the next position one short would be 6, which is no line start
-  pub next-short : readAt (bytes ":50K:A\n-\n") 6 ≡ refuses 21 6
+  pub one-short-is-21 : readAt (bytes ":50K:A\n-\n") 6 ≡ refuses 21 6
   -- a lone hyphen after a tag taken for the end: it is a name
-  pub hyphen : reads 2 (bytes ":50K:-\n-\n") 0 ≡ named (bytes "-") 7 ∷ ends 9 ∷ []
+  pub hyphen-is-a-name : reads 2 (bytes ":50K:-\n-\n") 0 ≡ named (bytes "-") 7 ∷ ends 9 ∷ []
   -- a body that keeps its closing LF: 50K takes `A⏎` for one name all the same, but 50C would be refused
-  pub closing-lf : readAt (bytes ":50C:ABCDEFGH\n-\n") 0 .body ≡ bytes "ABCDEFGH"
+  pub closing-lf-is-left-off : readAt (bytes ":50C:ABCDEFGH\n-\n") 0 .body ≡ bytes "ABCDEFGH"
   -- 16 told as 17: before the length, a line that neither opens nor ends is 16
-  pub sixteen : readAt (bytes "X\n-\n") 0 ≡ refuses 16 2
+  pub stray-line-is-16 : readAt (bytes "X\n-\n") 0 ≡ refuses 16 2
 
 pub pages-ruled-out : PagesRuledOut
 unfolding padded textOf letter digit alphanumeric signs legal parseSwiftChars parseAccount bicLength parseBic upto onto starts lines parseLine parseLines parseNameAndAddress four partyOf accountHead afterHead read withoutCr lineAt isEnd endsPage runs begins tagIn readField readCase readAt tagOf
-pages-ruled-out = record { not-ended = refl; next-short = refl; hyphen = refl; closing-lf = refl; sixteen = refl }
+pages-ruled-out = record { first-read-is-the-field = refl; one-short-is-21 = refl; hyphen-is-a-name = refl; closing-lf-is-left-off = refl; stray-line-is-16 = refl }
 
 -- where a read goes on, and where one can start
 pub record PageMoves : Type 0 where

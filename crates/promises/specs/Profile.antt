@@ -1,5 +1,5 @@
 -- The network profile by computation (document 02, Five): each rule at the first line where it can be broken and at a later one, and wrong
--- programs that the definitions rule out.
+-- programs that the definitions rule out: there a field is named after the fact, and its comment says what a wrong program would do.
 use mathlib.Core.Path.{_≡_, refl}
 use mathlib.Core.Bool.{true, false}
 use mathlib.Core.List.{List, [], _∷_}
@@ -124,24 +124,24 @@ pub record ProfileTrimmed : Type 0 where
 -- wrong programs
 pub record ProfileRuledOut : Type 0 where
   -- tests the trimmed body: there no line follows the BIC
-  pub trimmed-body : parseProfiled Field50InstructingParty (bytes "DEUTDEFF\n ") .reply ≡ refused 32 2
+  pub tests-the-untrimmed : parseProfiled Field50InstructingParty (bytes "DEUTDEFF\n ") .reply ≡ refused 32 2
   pub trimmed-passes : profiled (parse Field50InstructingParty (bytes "DEUTDEFF\n ")) (trimmed (bytes "DEUTDEFF\n ")) .reply ≡ accepted
   -- tests before the reading: then 32, line 1, would come before 3, line 2
-  pub before-reading : readProfiled Field50NoOption (bytes "A&\nB~") .reply ≡ refused 3 2
+  pub reading-comes-first : readProfiled Field50NoOption (bytes "A&\nB~") .reply ≡ refused 3 2
   -- names the last line at fault
-  pub last-line : readProfiled Field50NoOption (bytes "A&\nB&") .reply ≡ refused 32 1
+  pub first-line-is-told : readProfiled Field50NoOption (bytes "A&\nB&") .reply ≡ refused 32 1
   -- refuses `-` or `:` at the first line's start
-  pub first-hyphen : readProfiled Field50K (bytes "-A\nB") .reply ≡ accepted
-  pub first-colon : readProfiled Field50K (bytes ":A\nB") .reply ≡ accepted
+  pub first-hyphen-passes : readProfiled Field50K (bytes "-A\nB") .reply ≡ accepted
+  pub first-colon-passes : readProfiled Field50K (bytes ":A\nB") .reply ≡ accepted
   -- refuses small letters outside the BIC
-  pub small-name : readProfiled Field50F (bytes "a\n1/b") .reply ≡ accepted
-  pub small-account : readProfiled Field50A (bytes "/a\nDEUTDEFF") .reply ≡ accepted
+  pub small-name-passes : readProfiled Field50F (bytes "a\n1/b") .reply ≡ accepted
+  pub small-account-passes : readProfiled Field50A (bytes "/a\nDEUTDEFF") .reply ≡ accepted
   -- filters the options that are tried, and so reads the body as another: K would pass, but A is what is detected
-  pub tries-on : parseProfiled Field50OrderingCustomerAFK (bytes "JOHNDOES\nSTREETAB") .reply ≡ refused 32 2
+  pub tries-no-other : parseProfiled Field50OrderingCustomerAFK (bytes "JOHNDOES\nSTREETAB") .reply ≡ refused 32 2
   -- detects though a letter picks
-  pub detects : As (parseWithVariantProfiled Field50OrderingCustomerAFK (bytes "JOHNDOES\nSTREETAB") 75) Field50K
+  pub letter-picks : As (parseWithVariantProfiled Field50OrderingCustomerAFK (bytes "JOHNDOES\nSTREETAB") 75) Field50K
   -- takes a text for a BIC by its form: JOHNDOES is a name here, and a line may follow it
-  pub by-form : As (readProfiled Field50K (bytes "johndoes\nSTREETAB")) Field50K
+  pub name-like-a-bic-passes : As (readProfiled Field50K (bytes "johndoes\nSTREETAB")) Field50K
 
 pub profile-trimmed : ProfileTrimmed
 unfolding padded textOf letter small digit alphanumeric signs legal narrowSigns narrow parseSwiftChars parseAccount bicLength parseBic upto onto starts lines white trimmedStart keep trimmedEnd trimmed isNumbered parseLine parseLines parseNameAndAddress four partyOf read anyNumbered firstLine lastLine bicLike firstThat pickOf testLine parse parseWithVariant isSame holdsBic isInside linesReply profileReply profiled
@@ -150,17 +150,17 @@ profile-trimmed = record { before = (refl, refl); after = refl; tab = refl; cr =
 pub profile-ruled-out : ProfileRuledOut
 unfolding padded textOf letter small digit alphanumeric signs legal narrowSigns narrow parseSwiftChars parseAccount bicLength parseBic upto onto starts lines white trimmedStart keep trimmedEnd trimmed isNumbered secondSlash identifierReply parsePartyIdentifier parseLine parseLines parseNameAndAddress four partyOf accountHead shortAccountHead afterHead read anyNumbered firstLine lastLine bicLike firstThat pickOf testLine parse parseWithVariant isSame holdsBic isInside linesReply profileReply profiled
 profile-ruled-out = record {
-  trimmed-body = refl;
+  tests-the-untrimmed = refl;
   trimmed-passes = refl;
-  before-reading = refl;
-  last-line = refl;
-  first-hyphen = refl;
-  first-colon = refl;
-  small-name = refl;
-  small-account = refl;
-  tries-on = refl;
-  detects = (refl, refl);
-  by-form = (refl, refl);
+  reading-comes-first = refl;
+  first-line-is-told = refl;
+  first-hyphen-passes = refl;
+  first-colon-passes = refl;
+  small-name-passes = refl;
+  small-account-passes = refl;
+  tries-no-other = refl;
+  letter-picks = (refl, refl);
+  name-like-a-bic-passes = (refl, refl);
 }
 
 -- ---- what the promise of pages needs
@@ -190,25 +190,25 @@ lent = replicate recordSize 7
 
 pub record ProfileCalls : Type 0 where
   -- gives 32 without its line
-  pub read-drops-the-line : profileRead (placeOf Field50K) (bytes "A\nB&") lent .code ≡ 32 * 65536 + 2
+  pub read-tells-the-line : profileRead (placeOf Field50K) (bytes "A\nB&") lent .code ≡ 32 * 65536 + 2
   -- stores the record that it refuses with 32
-  pub read-stores : profileRead (placeOf Field50K) (bytes "A\nB&") lent .bytes ≡ lent
+  pub read-leaves-bytes-at-a-refusal : profileRead (placeOf Field50K) (bytes "A\nB&") lent .bytes ≡ lent
   -- leaves the profile out
-  pub parse-leaves-it-out : profileParse 2 (bytes "JOHNDOES\nSTREETAB") lent .code ≡ 32 * 65536 + 2
+  pub parse-tells-32 : profileParse 2 (bytes "JOHNDOES\nSTREETAB") lent .code ≡ 32 * 65536 + 2
   -- tests 32 before 41 and 42
-  pub parse-tests-it-first : profileParse 7 (bytes "&") [] .code ≡ 42 * 65536
+  pub parse-tests-42-first : profileParse 7 (bytes "&") [] .code ≡ 42 * 65536
   -- tests 32 before 14
-  pub variant-tests-it-first : profileParseWithVariant 2 (bytes "&") 107 lent .code ≡ 14 * 65536
+  pub variant-tests-14-first : profileParseWithVariant 2 (bytes "&") 107 lent .code ≡ 14 * 65536
   -- detects though a letter picks, and so refuses
-  pub variant-detects : getD (profileParseWithVariant 2 (bytes "JOHNDOES\nSTREETAB") 75 lent .bytes) 0 0 ≡ placeOf Field50K
+  pub variant-by-k-picks : getD (profileParseWithVariant 2 (bytes "JOHNDOES\nSTREETAB") 75 lent .bytes) 0 0 ≡ placeOf Field50K
 
 pub profile-calls : ProfileCalls
 unfolding padded textOf letter small digit alphanumeric signs legal narrowSigns narrow parseSwiftChars parseAccount bicLength parseBic upto onto starts lines white trimmedStart keep trimmedEnd trimmed isNumbered secondSlash identifierReply parsePartyIdentifier parseLine parseLines parseNameAndAddress four partyOf accountHead shortAccountHead afterHead read anyNumbered firstLine lastLine bicLike firstThat pickOf testLine parse parseWithVariant isSame holdsBic isInside linesReply profileReply profiled optionAt encodedTexts encoded stored
 profile-calls = record {
-  read-drops-the-line = refl;
-  read-stores = refl;
-  parse-leaves-it-out = refl;
-  parse-tests-it-first = refl;
-  variant-tests-it-first = refl;
-  variant-detects = refl;
+  read-tells-the-line = refl;
+  read-leaves-bytes-at-a-refusal = refl;
+  parse-tells-32 = refl;
+  parse-tests-42-first = refl;
+  variant-tests-14-first = refl;
+  variant-by-k-picks = refl;
 }

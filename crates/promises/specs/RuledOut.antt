@@ -81,9 +81,9 @@ As r o = (r .reply ≡ accepted) × (r .party .option ≡ o)
 
 pub record RuledOut : Type 0 where
   -- names counted before they are tested: the fifth name of 50K is too long, and that is said first
-  pub tested-first : read Field50K (bytes "A\nB\nC\nD\n" ++ replicate 36 65) .reply ≡ refused 4 5
+  pub names-tested-before-counted : read Field50K (bytes "A\nB\nC\nD\n" ++ replicate 36 65) .reply ≡ refused 4 5
   -- every trailing CR dropped: one CR before the LF is, the other stays
-  pub one-cr : read Field50NoOption (bytes "A\r\r\n") ≡ gives Field50NoOption false [] [] (bytes "A\r" ∷ [])
+  pub one-cr-is-dropped : read Field50NoOption (bytes "A\r\r\n") ≡ gives Field50NoOption false [] [] (bytes "A\r" ∷ [])
   -- detection in another order: each body here is one that a later option would take too
   pub c-before-l : As (parse Field50InstructingParty (bytes "ABCDEFGH")) Field50C
   pub f-before-h : As (parse Field50OrderingCustomerFGH (bytes "/X\n1/A")) Field50F
@@ -96,13 +96,13 @@ pub record RuledOut : Type 0 where
   pub f-before-59 : As (parse Field59 (bytes "1/A")) Field59F
   pub debtor-a-before-59 : As (parse Field59Debtor (bytes "ABCDEFGH")) Field59A
   -- detecting when `Field59` gets no letter: it does not
-  pub no-letter : As (parseWithVariant Field59 (bytes "ABCDEFGH") 0) Field59NoOption
+  pub no-letter-picks : As (parseWithVariant Field59 (bytes "ABCDEFGH") 0) Field59NoOption
 
 pub ruled-out : RuledOut
 unfolding padded textOf content letter digit alphanumeric signs legal parseSwiftChars parseAccount bicLength parseBic upto onto starts lines white trimmedStart keep trimmedEnd trimmed isNumbered secondSlash identifierReply parsePartyIdentifier parseLine parseLines parseNameAndAddress four partyOf accountHead shortAccountHead afterHead read anyNumbered firstLine lastLine bicLike firstThat pickOf testLine parse parseWithVariant
 ruled-out = record {
-  tested-first = refl;
-  one-cr = refl;
+  names-tested-before-counted = refl;
+  one-cr-is-dropped = refl;
   c-before-l = (refl, refl);
   f-before-h = (refl, refl);
   g-before-h = (refl, refl);
@@ -113,7 +113,7 @@ ruled-out = record {
   a-before-59 = (refl, refl);
   f-before-59 = (refl, refl);
   debtor-a-before-59 = (refl, refl);
-  no-letter = (refl, refl);
+  no-letter-picks = (refl, refl);
 }
 
 -- the order of what a body is refused for: 12, 13, what the option says, 11; `not-a-letter` has that 14 comes first

@@ -17,7 +17,7 @@ use Rattle.page_reader.specs.Reads.{Read}
 use Rattle.page_reader.specs.Index.{Looked, found, notFound, fieldAt, isThere, hasEntry, entryOf, lookUp, bodyOf, lookedBy, lookLent, lookBytes, partyLooked, lookOutline, toldLooked}
 use Rattle.page_reader.proofs.Moves.{next-most}
 use Rattle.page_reader.proofs.Entries.{found-here, refusal-of}
-use Rattle.yewdome.specs.Interface.{Called, codeOf, readCall, pageRead, lookedInto, pageLookUp}
+use Rattle.yewdome.specs.Interface.{packed, Called, codeOf, readCall, pageRead, lookedInto, pageLookUp}
 use Rattle.yewdome.specs.Code.{Named}
 use Rattle.yewdome.proofs.LineBounds.{must-line, must-then}
 use Rattle.yewdome.proofs.Pages.{told-outcome, replyOf, page-line, onward-from}
@@ -29,8 +29,8 @@ look-read page index k into r e = go (roomReply (length into))
     go : (t : Reply) → lookedInto (lookedBy t (lookUp page index k)) into ≡ readCall (lentBy t (readAt page (r .at)) (r .at)) (r .at) into
     go accepted = ap (λ (x : Looked). lookedInto x into) e ∙ ap (λ (x : PageRead). readCall x (r .at) into) (found-here page index k e)
     go (refused i n) =
-        let z : codeOf (refused i n) * 4294967296 ≡ codeOf (refused i n) * 4294967296 + (r .at - r .at) = omega arith in
-        ap {B = Called} (λ (c : ℕ). record { code = c; bytes = into }) z
+        let z : 0 ≡ r .at - r .at = omega arith in
+        ap {B = Called} (λ (moved : ℕ). record { code = packed (codeOf (refused i n)) moved; bytes = into }) z
 
 -- its bytes
 look-bytes : (x : Looked) (bytes : List ℕ) → lookBytes x bytes ≡ lookedInto x bytes .bytes

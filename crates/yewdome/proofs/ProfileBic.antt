@@ -3,11 +3,11 @@ use mathlib.Core.Path.{_≡_, refl, sym, _∙_, ap, subst}
 use mathlib.Core.Bool.{Bool, true, false, not, _&&_, and-false, or-true, true≢false, false≢true}
 use mathlib.Core.List.{List, [], _∷_, _++_, map, head-eq-of-cons-eq}
 use mathlib.Core.Logic.{_⊎_, inl, inr, ⊎-elim}
-use Prim.Native.Nat.{ℕ, zero, suc, _≤_}
+use Prim.Native.Nat.{ℕ, zero, suc, _-_, _≤_}
 use native.Mathlib.Omega.{arith}
 use lib.Dec.{ltb, leb, eqb}
-use lib.ListN.{length, take, drop}
-use borrow.Author.Tests.{leb-true, leb-false, lt-leb, eq-eqb, eqb-true, ne-eqb, not-true}
+use lib.ListN.{length, getD, take, drop}
+use borrow.Author.Tests.{ltb-true, leb-true, leb-false, lt-leb, eq-eqb, eqb-true, ne-eqb, not-true}
 use Rattle.errors.specs.Refusals.{accepted, must}
 use Rattle.errors.proofs.Replies.{must-held, then-first, then-second}
 use Rattle.party.specs.declared.PartyOption.{PartyOption}
@@ -35,6 +35,8 @@ use Rattle.writer.proofs.Witness.{where-yes}
 use Rattle.writer.specs.Sender.{readLines}
 use Rattle.writer.proofs.Necessary.{letters-free}
 use Rattle.writer.proofs.Back.{accepted-is, bic-least}
+use Rattle.kept.specs.Kept.{bicLine}
+use Rattle.kept.proofs.Exact.{bic-there}
 use Rattle.yewdome.specs.Profile.{anyHolds}
 use Rattle.yewdome.proofs.ProfileLines.{some-bytes}
 
@@ -275,6 +277,14 @@ module _ (o : PartyOption) (text : List ℕ) (e : read o text .reply ≡ accepte
     holds-it l q =
         let s : isSame (trimmed l) (used (p .bic) .bytes) ≡ isSame (f .bic) (f .bic) = λ i. isSame (q i) (bic-used i .bytes) in
         both (ltb 0 (limitsOf (p .option) .«bic_count»)) (isSame (trimmed l) (used (p .bic) .bytes)) b (s ∙ same-refl (f .bic))
+
+    -- so the line that `kept` has for the BIC's, by its number, is one that the profile has for it, by its text
+    pub same-line : holdsBic p (getD (lines text) (bicLine (p .present) - 1) []) ≡ true
+    unfolding content
+    same-line =
+        let there : getD (lines text) (bicLine (p .present) - 1) [] ≡ f .bic =
+        ap (λ (t : Bool). getD (lines text) (bicLine t - 1) []) (ap (λ (s : Content). s .present) says) ∙ bic-there o text e (λ z. omega (arith, z, ltb-true 0 (limitsOf o .«bic_count») has)) in
+        holds-it _ (ap trimmed there ∙ bic-trimmed (f .bic) bic-accepted)
 
     -- among the lines that were read there is one
     pub read-holds : Some (λ l. holdsBic p l ≡ true) (readLines (limitsOf o .layout) text)

@@ -152,7 +152,7 @@ pageRead page at bytes = readCall (readLent page at bytes) at bytes
 -- a lookup, in these terms: the read at the field's position, or a refusal, which moves past no byte
 abbrev pub lookedInto : Looked → List ℕ → Called
 lookedInto (found r) bytes = readCall (r .gave) (r .at) bytes
-lookedInto (notFound k n) bytes = record { code = codeOf (refused k n) * packUnit; bytes = bytes }
+lookedInto (notFound k n) bytes = record { code = packed (codeOf (refused k n)) 0; bytes = bytes }
 
 -- `yewdome_page_look_up` (document 02, Three)
 abbrev pub pageLookUp : List ℕ → List ℕ → ℕ → List ℕ → Called

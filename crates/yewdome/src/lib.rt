@@ -40,7 +40,7 @@ ghost use Rattle.page_writer.specs.Adding.{toldFiled};
 ghost use Rattle.kept.specs.Kept.{toldKept};
 ghost use Rattle.kept.specs.Fields.{causesBy};
 ghost use Rattle.yewdome.specs.Filing.{openPage};
-ghost use Rattle.yewdome.specs.Interface.{codeOf, argumentsReply, argumentReply, given, partyRead, choiceAt, partyParse, partyParseWithVariant, profileRead, profileParse, profileParseWithVariant, measuredCode, partyMeasure, partyPlace, pageRead, cause as causeOf, causesCode, keptCode, keptReadCode, keptParseCode, keptVariantCode, pageKept, pageLookUp, pageBody, filedCode, pageAdd, pageAddIndex, pageClose, pageAnswers, pageFile};
+ghost use Rattle.yewdome.specs.Interface.{packUnit, packed, codeOf, argumentsReply, argumentReply, given, partyRead, choiceAt, partyParse, partyParseWithVariant, profileRead, profileParse, profileParseWithVariant, measuredCode, partyMeasure, partyPlace, pageRead, cause as causeOf, causesCode, keptCode, keptReadCode, keptParseCode, keptVariantCode, pageKept, pageLookUp, pageBody, filedCode, pageAdd, pageAddIndex, pageClose, pageAnswers, pageFile};
 ghost use Rattle.yewdome.specs.Code.{Named, Measurable, Within, stepBy, WasRead, WasFiled, toldStep, Walks};
 
 // A position, a line of a body and how many bytes a read moved past are below this.
@@ -117,6 +117,14 @@ fn code(e: ParseError) -> u32
 {
     let refusal = e.refusal();
     (refusal.number as u32) * POSITION_ROOM + (refusal.line as u32)
+}
+
+// Two numbers of 32 bits as one.
+fn pack(high: u64, low: u64) -> u64
+    requires { ⌜ (high < packUnit) × (low < packUnit) ⌝ }
+    ensures { λ r. ⌜ r ≡ packed high low ⌝ }
+{
+    high * PACK_UNIT + low
 }
 
 // Stores the record that a reader gave, where the option or choice that it was asked for is known.
@@ -273,7 +281,7 @@ pub extern "C" fn yewdome_page_read(page: &[u8], at: usize, record: &mut [u8]) -
     match outcome {
         ReadOutcome::Record => moved,
         ReadOutcome::End => READ_END + moved,
-        ReadOutcome::Refused(e) => (code(e) as u64) * PACK_UNIT + moved,
+        ReadOutcome::Refused(e) => pack(code(e) as u64, moved),
     }
 }
 
@@ -291,10 +299,8 @@ pub extern "C" fn yewdome_page_look_up(
     let outcome = look_up_into(page, index, k, record);
     match outcome {
         LookOutcome::Record { at, next } => (next - at) as u64,
-        LookOutcome::Refused { error, at, next } => {
-            (code(error) as u64) * PACK_UNIT + ((next - at) as u64)
-        }
-        LookOutcome::NotFound(e) => (code(e) as u64) * PACK_UNIT,
+        LookOutcome::Refused { error, at, next } => { pack(code(error) as u64, (next - at) as u64) }
+        LookOutcome::NotFound(e) => pack(code(e) as u64, 0),
     }
 }
 
@@ -305,7 +311,7 @@ pub extern "C" fn yewdome_page_body(page: &[u8], at: usize) -> u64
     ensures { λ r. ⌜ r ≡ pageBody (now (page .entry)) at ⌝ }
 {
     let place = body_place(page, at);
-    (place.start as u64) * PACK_UNIT + (place.len as u64)
+    pack(place.start as u64, place.len as u64)
 }
 
 // The position that adding or closing gave, or the refusal.
@@ -481,7 +487,7 @@ fn step(page: &[u8], at: usize, files: bool, buf: &mut [u8], position: usize) ->
             };
         }
         return Stepped {
-            answer: (added as u64) * PACK_UNIT + answer,
+            answer: pack(added as u64, answer),
             position,
         };
     }
@@ -545,5 +551,5 @@ pub extern "C" fn yewdome_page_file(page: &[u8], buf: &mut [u8], answers: &mut [
     }
     let walked = walk(page, true, buf, answers);
     let code = yewdome_page_close(buf, walked.position);
-    (walked.count as u64) * PACK_UNIT + (code as u64)
+    pack(walked.count as u64, code as u64)
 }

@@ -48,11 +48,12 @@ returns-2 c =
 
 returns-3 : tie.Need-returns-3
 returns-3 c =
-    let y = c .before .before .before in
+    let e = c .before in
+    let y = e .before .before .before in
     let t = y .before .before .before in
     let k = t .before .before .before in
     let a = k .before .before .before .before .args in
-    was-refused (read k) (a .files) (now (a .buf)) (a .position) (t .if2 .taken) (t .before .if1 .left) (size k) (y .yewdome-page-add .ensures) (c .if3 .left)
+    rw (c .pack .ensures) (was-refused (read k) (a .files) (now (a .buf)) (a .position) (t .if2 .taken) (t .before .if1 .left) (size k) (y .yewdome-page-add .ensures) (e .if3 .left))
 
 returns-4 : tie.Need-returns-4
 returns-4 c =
@@ -79,8 +80,7 @@ step-spec =
     (λ c. search needs)
     returns-2
     (λ c. search needs)
-    (λ c. search needs)
-    (λ c. search needs)
+    (λ c κs. let y = c .before .before .before in (omega (arith, y .yewdome-page-add .ok), omega (arith, y .before .before .before .before .if1 .left)))
     (λ c. search needs)
     returns-3
     returns-4)

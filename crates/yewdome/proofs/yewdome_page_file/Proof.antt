@@ -13,11 +13,11 @@ few w = let a = w .before .before .before .before .before .before .before .args 
 
 returns-2 : tie.Need-returns-2
 returns-2 c =
-    let k = c .before .before in
+    let k = c .before .before .before in
     let w = k .before .before .before .before .before .before in
     let i = w .before .before .before in
     let a = i .before .before .before .before .args in
-    files-all (now (a .page)) (now (a .answers)) (i .if1 .left) (w .walk .ensures) (k .yewdome-page-close .ensures)
+    rw (c .pack .ensures) (files-all (now (a .page)) (now (a .answers)) (i .if1 .left) (w .walk .ensures) (k .yewdome-page-close .ensures))
 
 pub yewdome-page-file-spec : {M : Type 1} → statement M
 yewdome-page-file-spec =
@@ -27,9 +27,8 @@ yewdome-page-file-spec =
     (λ c. let a = c .before .before .before .before .args in file-short (now (a .page)) (now (a .answers)) (omega arith) (now (a .buf)))
     (λ c κs. search needs)
     (λ c κs. search needs)
-    (λ c. omega (arith, few (c .before .before .before .before .before .before .before .before)))
     (λ c. search needs)
-    (λ c. omega (arith, few (c .before .before .before .before .before .before .before .before), c .before .before .yewdome-page-close .ok))
+    (λ c κs. (omega (arith, few (c .before .before .before .before .before .before .before .before)), omega (arith, c .before .before .yewdome-page-close .ok)))
     (λ c. search needs)
     (λ c. search needs)
     returns-2)

@@ -51,14 +51,16 @@ returns c = let v = c .before .outcome .given .0 in given (c .before .before .be
 
 returns-2 : tie.Need-returns-2
 returns-2 c =
-    let t = c .before .before in
+    let k = c .before in
+    let t = k .before .before in
     let v = t .outcome2 .given .0 in
-    rw (c .code .ensures) (given (t .before .before .before .before) (Refused (v .0) (v .1 .0) (v .1 .1 .0)) (t .outcome2 .given .1))
+    rw (c .pack .ensures, k .code .ensures) (given (t .before .before .before .before) (Refused (v .0) (v .1 .0) (v .1 .1 .0)) (t .outcome2 .given .1))
 
 returns-3 : tie.Need-returns-3
 returns-3 c =
-    let t = c .before .before in
-    rw (c .code2 .ensures) (given (t .before .before .before .before) (NotFound (t .outcome3 .given .0 .0)) (t .outcome3 .given .1))
+    let k = c .before in
+    let t = k .before .before in
+    rw (c .pack2 .ensures, k .code2 .ensures) (given (t .before .before .before .before) (NotFound (t .outcome3 .given .0 .0)) (t .outcome3 .given .1))
 
 pub yewdome-page-look-up-spec : {M : Type 1} → statement M
 yewdome-page-look-up-spec =
@@ -70,13 +72,12 @@ yewdome-page-look-up-spec =
     (λ c. search needs)
     (λ c κs. refused (c .before) .0)
     (λ c. search needs)
-    (λ c. search needs)
     (λ c. refused (c .before .before) .1)
-    (λ c. omega (arith, refused (c .before .before)))
+    (λ c κs. (omega (arith, c .code .ok), omega (arith, refused (c .before .before))))
     (λ c. search needs)
     (λ c κs. within (c .before .before .before .before .before) (NotFound (c .before .outcome3 .given .0 .0)) (c .before .outcome3 .given .1))
     (λ c. search needs)
-    (λ c. search needs)
+    (λ c κs. (omega (arith, c .code2 .ok), omega arith))
     (λ c. search needs)
     returns
     (λ c. search needs)

@@ -50,8 +50,9 @@ returns-2 c = given (c .before .before .before .before .before) End (c .enum-tol
 
 returns-3 : tie.Need-returns-3
 returns-3 c =
-    let r = c .before .before .before .before .before .before .before in
-    rw (c .code .ensures) (given r (Refused _) (c .before .before .outcome .given .1))
+    let k = c .before in
+    let r = k .before .before .before .before .before .before .before in
+    rw (c .pack .ensures, k .code .ensures) (given r (Refused _) (k .before .before .outcome .given .1))
 
 pub yewdome-page-read-spec : {M : Type 1} → statement M
 yewdome-page-read-spec =
@@ -65,8 +66,7 @@ yewdome-page-read-spec =
     (λ c. search needs)
     code-requires
     (λ c. search needs)
-    (λ c. search needs)
-    (λ c. omega (arith, next (c .before .before .before .before .before .before .before)))
+    (λ c κs. (omega (arith, c .code .ok), omega (arith, next (c .before .before .before .before .before .before .before))))
     (λ c. search needs)
     returns
     (λ c. search needs)
