@@ -1,9 +1,11 @@
 // Refusals, ported from errors.rs of swift-mt-message: the wording of a message becomes a case, with the body line where it has one.
+#![tactic(auto)]
+
 ghost use Rattle.std.specs.Prelude.{◌≡◌};
 ghost use Rattle.errors.specs.Refusals.{refusal_at, refusal_of};
 
 // What a call refuses for. The cases stand in the order of document 01's numbers; a line is a body line, counted from 1.
-#[derive(Drop)]
+#[derive(Clone, Copy)]
 pub enum ParseError {
     // 1: a wrong count of lines at the start
     LineCount,
@@ -58,14 +60,14 @@ pub enum ParseError {
 }
 
 // An answer with nothing beside it: accepted, or the refusal.
-#[derive(Drop)]
+#[derive(Clone, Copy)]
 pub enum Outcome {
     Accepted,
     Refused(ParseError),
 }
 
 // A refusal as document 01 gives it: its number, and a body line or 0.
-#[derive(Drop)]
+#[derive(Clone, Copy)]
 pub struct Refusal {
     pub number: u8,
     pub line: usize,

@@ -1,4 +1,6 @@
 // The eight options of field 50 and the five choices among them, ported from field50.rs of swift-mt-message.
+#![tactic(auto)]
+
 ghost use Rattle.std.specs.Prelude.{◌≡◌};
 ghost use Rattle.party.specs.declared.PartyOption.{PartyOption};
 ghost use Rattle.reader.specs.Reading.{told_answer};
@@ -11,7 +13,7 @@ use reader::choices::{Choice, parse, parse_with_variant};
 use reader::{Answer, read};
 
 // Name and address only.
-#[derive(Drop)]
+#[derive(Clone, Copy)]
 pub struct Field50NoOption {}
 
 impl Field50NoOption {
@@ -23,7 +25,7 @@ impl Field50NoOption {
 }
 
 // Party identifier or none, and a BIC.
-#[derive(Drop)]
+#[derive(Clone, Copy)]
 pub struct Field50A {}
 
 impl Field50A {
@@ -35,7 +37,7 @@ impl Field50A {
 }
 
 // Party identifier and numbered lines.
-#[derive(Drop)]
+#[derive(Clone, Copy)]
 pub struct Field50F {}
 
 impl Field50F {
@@ -47,7 +49,7 @@ impl Field50F {
 }
 
 // Account or none, and name and address.
-#[derive(Drop)]
+#[derive(Clone, Copy)]
 pub struct Field50K {}
 
 impl Field50K {
@@ -59,7 +61,7 @@ impl Field50K {
 }
 
 // A BIC only.
-#[derive(Drop)]
+#[derive(Clone, Copy)]
 pub struct Field50C {}
 
 impl Field50C {
@@ -71,7 +73,7 @@ impl Field50C {
 }
 
 // Party identifier only.
-#[derive(Drop)]
+#[derive(Clone, Copy)]
 pub struct Field50L {}
 
 impl Field50L {
@@ -83,7 +85,7 @@ impl Field50L {
 }
 
 // Account and a BIC.
-#[derive(Drop)]
+#[derive(Clone, Copy)]
 pub struct Field50G {}
 
 impl Field50G {
@@ -95,7 +97,7 @@ impl Field50G {
 }
 
 // Account and name and address.
-#[derive(Drop)]
+#[derive(Clone, Copy)]
 pub struct Field50H {}
 
 impl Field50H {
@@ -107,7 +109,7 @@ impl Field50H {
 }
 
 // C or L.
-#[derive(Drop)]
+#[derive(Clone, Copy)]
 pub struct Field50InstructingParty {}
 
 impl Field50InstructingParty {
@@ -127,7 +129,7 @@ impl Field50InstructingParty {
 }
 
 // F, G or H.
-#[derive(Drop)]
+#[derive(Clone, Copy)]
 pub struct Field50OrderingCustomerFGH {}
 
 impl Field50OrderingCustomerFGH {
@@ -147,7 +149,7 @@ impl Field50OrderingCustomerFGH {
 }
 
 // A, F or K.
-#[derive(Drop)]
+#[derive(Clone, Copy)]
 pub struct Field50OrderingCustomerAFK {}
 
 impl Field50OrderingCustomerAFK {
@@ -167,7 +169,7 @@ impl Field50OrderingCustomerAFK {
 }
 
 // 50, C or F.
-#[derive(Drop)]
+#[derive(Clone, Copy)]
 pub struct Field50OrderingCustomerNCF {}
 
 impl Field50OrderingCustomerNCF {
@@ -187,7 +189,7 @@ impl Field50OrderingCustomerNCF {
 }
 
 // A or K.
-#[derive(Drop)]
+#[derive(Clone, Copy)]
 pub struct Field50Creditor {}
 
 impl Field50Creditor {

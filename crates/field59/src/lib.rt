@@ -1,4 +1,6 @@
 // The three options of field 59 and the two choices among them, ported from field59.rs of swift-mt-message.
+#![tactic(auto)]
+
 ghost use Rattle.std.specs.Prelude.{◌≡◌};
 ghost use Rattle.party.specs.declared.PartyOption.{PartyOption};
 ghost use Rattle.reader.specs.Reading.{told_answer};
@@ -11,7 +13,7 @@ use reader::choices::{Choice, parse, parse_with_variant};
 use reader::{Answer, read};
 
 // Party identifier or none, and numbered lines.
-#[derive(Drop)]
+#[derive(Clone, Copy)]
 pub struct Field59F {}
 
 impl Field59F {
@@ -23,7 +25,7 @@ impl Field59F {
 }
 
 // Account or none, and a BIC.
-#[derive(Drop)]
+#[derive(Clone, Copy)]
 pub struct Field59A {}
 
 impl Field59A {
@@ -35,7 +37,7 @@ impl Field59A {
 }
 
 // Account or none, and name and address.
-#[derive(Drop)]
+#[derive(Clone, Copy)]
 pub struct Field59NoOption {}
 
 impl Field59NoOption {
@@ -47,7 +49,7 @@ impl Field59NoOption {
 }
 
 // A, F or 59.
-#[derive(Drop)]
+#[derive(Clone, Copy)]
 pub struct Field59 {}
 
 impl Field59 {
@@ -67,7 +69,7 @@ impl Field59 {
 }
 
 // A or 59.
-#[derive(Drop)]
+#[derive(Clone, Copy)]
 pub struct Field59Debtor {}
 
 impl Field59Debtor {

@@ -1,4 +1,6 @@
 // Lines, identifiers and names, ported from field_utils.rs of swift-mt-message.
+#![tactic(auto)]
+
 use errors::{Outcome, ParseError};
 use lines::{Line, Lines, find, suffix};
 use party::{NO_PART, Numbering, Part, PartyOption, limits_of};
@@ -59,7 +61,7 @@ fn is_numbered_in(line: &[u8], classes: &[u8; 256]) -> bool
 }
 
 // The answer: no identifier, the line without its first slash, or the refusal.
-#[derive(Drop)]
+#[derive(Clone, Copy)]
 pub enum PartyIdentifier {
     Absent,
     Present,
@@ -246,7 +248,7 @@ fn digit_of(input: &[u8], numbering: Numbering) -> u8
 }
 
 // What the names give: accepted with how many there are, the parts of the body that the first four are, and their digits, or refused with none.
-#[derive(Drop)]
+#[derive(Clone, Copy)]
 pub struct Names {
     pub outcome: Outcome,
     pub count: usize,

@@ -90,13 +90,13 @@ pub fn find_lf(s: &[u8], from: usize) -> usize
 }
 
 // A cursor over the lines of a text: the place where the next one starts.
-#[derive(Drop)]
+#[derive(Clone, Copy)]
 pub struct Lines {
     pub at: usize,
 }
 
 // What a cursor finds: a line from start to end, with the cursor after it, or no more lines.
-#[derive(Drop)]
+#[derive(Clone, Copy)]
 pub enum Line {
     Next {
         start: usize,

@@ -1,6 +1,8 @@
 // Reads a page from standard input, files each record that reads and that a page carries on a new page, in the order met, up to the first
 // end line, closes that page and writes it to standard output. Says on standard error which answers are refusals, and how many of each
 // there are.
+#![tactic(auto)]
+
 mod tally;
 
 ghost use Rattle.std.specs.Prelude.{◌≡◌, ◌≤◌, ◌<◌, length};

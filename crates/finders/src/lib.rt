@@ -1,4 +1,6 @@
 // The finder of LFs and the plain loop that it replaced, for the benchmark of the two.
+#![tactic(auto)]
+
 ghost use Rattle.std.specs.Prelude.{◌≡◌, ◌+◌, drop};
 ghost use Rattle.field_utils.specs.Lines.{upto};
 

@@ -1,4 +1,6 @@
 // When a body, or a field of a page, is filed as the very bytes that came, and by which causes it is not. No Rust file has this.
+#![tactic(auto)]
+
 ghost use Rattle.std.specs.Prelude.{◌≡◌, ◌&&◌, ltb, eqb, get_or};
 ghost use Rattle.reader.specs.Reading.{told_answer};
 ghost use Rattle.kept.specs.Kept.{has_cr_lf, ends_lf, bic_line, is_after_bic, causes_of, no_causes, kept_of, kept_read, kept_parse, kept_parse_with_variant, told_kept};
@@ -12,7 +14,7 @@ use reader::Answer;
 use reader::choices::{Choice, read_text, tried_text};
 
 // By which causes the written field is other bytes than came; none where all are false.
-#[derive(Drop)]
+#[derive(Clone, Copy)]
 pub struct Causes {
     // a CR before an LF inside the body
     pub inner_cr: bool,
@@ -27,7 +29,7 @@ pub struct Causes {
 }
 
 // What is told of a body: the reading's outcome and, where it accepts, the causes.
-#[derive(Drop)]
+#[derive(Clone, Copy)]
 pub struct Kept {
     pub outcome: Outcome,
     pub causes: Causes,

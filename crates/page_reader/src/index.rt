@@ -21,7 +21,7 @@ pub const INDEX_SIZE: usize = 3 * INDEX_MOST + 1;
 
 // What a lookup gives: the field's record or its body's refusal, each with the field's position and the next, or 42, 18, 31 or 21, which
 // carry none.
-#[derive(Drop)]
+#[derive(Clone, Copy)]
 pub enum LookOutcome {
     Record {
         at: usize,
@@ -36,14 +36,14 @@ pub enum LookOutcome {
 }
 
 // The same with the record, which is blank but where it gives one.
-#[derive(Drop)]
+#[derive(Clone, Copy)]
 pub struct Lookup {
     pub outcome: LookOutcome,
     pub party: Party,
 }
 
 // Where a field that is looked up stands in the page, with its option and how many bytes precede its body; or the refusal.
-#[derive(Drop)]
+#[derive(Clone, Copy)]
 enum Place {
     Field {
         option: PartyOption,

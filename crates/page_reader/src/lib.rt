@@ -1,4 +1,6 @@
 // Reading pages of fields, which are ours: no Rust file has them. A page, also one of others, is read at a position, field by field.
+#![tactic(auto)]
+
 ghost use Rattle.std.specs.Prelude.{◌≡◌, false, true, ◌+◌, ◌≤◌, length, drop};
 ghost use Rattle.party.specs.Limits.{options};
 ghost use Rattle.record_bytes.specs.RecordBytes.{record_size};
@@ -16,7 +18,7 @@ use record_bytes::{RECORD_SIZE, load};
 pub mod index;
 
 // A read gives a record, the end, or a refusal.
-#[derive(Drop)]
+#[derive(Clone, Copy)]
 pub enum ReadOutcome {
     Record,
     End,
@@ -27,7 +29,7 @@ pub enum ReadOutcome {
 pub const PAGE_MOST: usize = 32768;
 
 // What a read gives, with the record, which is blank but where it gives one, and the next position.
-#[derive(Drop)]
+#[derive(Clone, Copy)]
 pub struct PageRead {
     pub outcome: ReadOutcome,
     pub party: Party,
@@ -35,14 +37,14 @@ pub struct PageRead {
 }
 
 // What a read into lent bytes gives, with the next position.
-#[derive(Drop)]
+#[derive(Clone, Copy)]
 pub struct ReadInto {
     pub outcome: ReadOutcome,
     pub next: usize,
 }
 
 // Where a body stands in the page, and its length; 0 and 0 where there is none.
-#[derive(Drop)]
+#[derive(Clone, Copy)]
 pub struct BodyPlace {
     pub start: usize,
     pub len: usize,
@@ -50,7 +52,7 @@ pub struct BodyPlace {
 
 // Which case a read is: a page that is too long, no position to read at, the page's length, or by the line there, with the position to
 // which the field, the end line or what is stray runs.
-#[derive(Drop)]
+#[derive(Clone, Copy)]
 enum ReadCase {
     TooLong,
     NoStart,
@@ -61,7 +63,7 @@ enum ReadCase {
 }
 
 // A field's tag: its option, and how many bytes precede the body.
-#[derive(Drop)]
+#[derive(Clone, Copy)]
 enum Tag {
     Unknown,
     Known { option: PartyOption, skip: usize },

@@ -186,7 +186,7 @@ module _ (p : Party) (d : List ℕ) (z : length d ≡ field_most) {e : List ℕ}
   room_held {n} q =
       let f = written_field (content p) in
       let m = room_measured q in
-      let s = (measure_and_place p d).decreases m in
+      let s = (measure_and_place p d).measured m in
       let g = (measured (content p) m).0 in
       let most = written_most p ((given_exact p).yes g) in
       let b : e ≡ f ++ drop n d = ap (λ (x : Placing). x.buffer) (q ∙ s.enough (omega (arith, s.exact))) in

@@ -1,4 +1,6 @@
 // Writing pages of fields, which are ours: no Rust file has them. Records are added to a page at a position, and it is closed.
+#![tactic(auto)]
+
 ghost use Rattle.std.specs.Prelude.{◌≡◌, false, true, ◌+◌, ◌-◌, ◌≤◌, ◌<◌, min, length, take, drop};
 ghost use Rattle.party.specs.Party.{content};
 ghost use Rattle.party.specs.Limits.{place_of};
@@ -20,7 +22,7 @@ use record_bytes::{RECORD_SIZE, option_of, store};
 use writer::{FIELD_MOST, Measured, place_record, put_text, tag_length};
 
 // Adding and closing answer the position after, or a refusal.
-#[derive(Drop)]
+#[derive(Clone, Copy)]
 pub enum Filed {
     Position(usize),
     Refused(ParseError),
@@ -121,7 +123,7 @@ fn file_line(buf: &mut [u8], at: usize, text: &[u8], spare: usize, free: bool) -
 }
 
 // What an add renders of a record: its field in a room, by its length and where its body starts; or the refusal: 21, 22.
-#[derive(Drop)]
+#[derive(Clone, Copy)]
 enum Rendered {
     Field { len: usize, start: usize },
     Refused(ParseError),

@@ -8,7 +8,7 @@ use native.Mathlib.Omega.{arith}
 use lib.ListN.{length, get_or, length-map}
 use mir.Syntax.{w8}
 use mir.Val.{Val}
-use borrow.Author.Rules.{elem_fits_field}
+use borrow.Author.Rules.{elem_Fits}
 use denote.Array.{each}
 use denote.Laws.{Is}
 use denote.Shadow.{shadow}
@@ -17,20 +17,20 @@ use Rattle.party.specs.declared.Parts.{Parts}
 use Rattle.party.specs.declared.Party.{Party}
 use Rattle.party.specs.Text.{IsText}
 use Rattle.party.specs.Party.{IsParty}
-use Rattle.party.specs.contracts.Text.{the_field as text}
+use Rattle.party.specs.contracts.Text.{the_field as text, the_row as text_row}
 use Rattle.party.specs.contracts.Part.{the_field as part}
 use Rattle.party.specs.contracts.Parts.{the_field as parts}
 use Rattle.party.specs.contracts.Party.{the_field as party}
 
 pub is_text_lem : (t : Text) (vs : List Val) → Is text.row (text.into t) vs → IsText t
 is_text_lem t vs h = record {
-  size = sym (length-map t.bytes (λ v. v)) ∙ h.1.1.0.1.0.1;
-  byte = λ i. (elem_fits_field w8 w8 t.bytes h.1.1.0.0 i h.1.1.0.1.1 tt).fits;
+  size = h.1.1.0.1.0.1;
+  byte = λ i. (elem_Fits w8 w8 t.bytes h.1.1.0.0 i h.1.1.0.1.1 tt).fits;
   fits = h.1.1.1.0.1;
 }
 
 all_texts :
-    (ts : List Text) (us : List Val) → shadow (each text.row.Denot text.row.own_val (map text.into ts) us) →
+    (ts : List Text) (us : List Val) → shadow (each text_row.Denot text_row.own_val ts us) →
     (i : ℕ) (none : Text) → i < length ts → IsText (get_or ts i none)
 all_texts [] us h i none l = absurd (omega arith)
 all_texts (t ∷ ts) [] h i none l = absurd h
@@ -41,15 +41,15 @@ pub is_party : (p : Party) (vs : List Val) → Is party.row (party.into p) vs �
 is_party p vs h =
     let texts = h.1.1.1.1.1.1.1.0 in
     let bytes = h.1.1.1.1.1.1.1.1.0 in
-    let four : length p.name_and_address ≡ 4 = sym (length-map p.name_and_address text.into) ∙ texts.1.0.1 in
+    let four : length p.name_and_address ≡ 4 = texts.1.0.1 in
     record {
       account = is_text_lem p.account _ h.1.1.1.1.0;
       bic = is_text_lem p.bic _ h.1.1.1.1.1.0;
       fits = h.1.1.1.1.1.1.0.1;
       size = four;
       name = λ i none l. all_texts p.name_and_address texts.0 texts.1.1 i none (omega arith);
-      digits = sym (length-map p.digits (λ v. v)) ∙ bytes.1.0.1;
-      digit = λ i. (elem_fits_field w8 w8 p.digits bytes.0 i bytes.1.1 tt).fits;
+      digits = bytes.1.0.1;
+      digit = λ i. (elem_Fits w8 w8 p.digits bytes.0 i bytes.1.1 tt).fits;
     }
 
 -- parts of a body: of four names and four digits
@@ -63,7 +63,7 @@ are_parts q vs h =
     let names = h.1.1.1.1.0 in
     let bytes = h.1.1.1.1.1.1.0 in
     record {
-      size = sym (length-map q.name_and_address part.into) ∙ names.1.0.1;
-      digits = sym (length-map q.digits (λ v. v)) ∙ bytes.1.0.1;
-      digit = λ i. (elem_fits_field w8 w8 q.digits bytes.0 i bytes.1.1 tt).fits;
+      size = names.1.0.1;
+      digits = bytes.1.0.1;
+      digit = λ i. (elem_Fits w8 w8 q.digits bytes.0 i bytes.1.1 tt).fits;
     }

@@ -1,5 +1,7 @@
 // The party record, which no Rust file has: it stands for the Rust's eleven structs, with their texts by value, and for the enums, with
 // the option beside one record. The limits of the eleven options stand here in one table.
+#![tactic(auto)]
+
 ghost use Rattle.std.specs.Prelude.{◌≡◌, [], ◌∷◌, take};
 ghost use Rattle.party.specs.Limits.{limits_of, place_of, option_at};
 ghost use Rattle.party.specs.Text.{text_of, used, part_in};
@@ -7,7 +9,7 @@ ghost use Rattle.party.specs.Party.{blank as blank_party, where_limit, names_of,
 ghost use Rattle.party.specs.Decides.{Decides};
 
 // The eleven options, under the names of the Rust's structs.
-#[derive(Drop)]
+#[derive(Clone, Copy)]
 pub enum PartyOption {
     Field50NoOption,
     Field50A,
@@ -26,7 +28,7 @@ pub enum PartyOption {
 pub const TEXT_MOST: usize = 38;
 
 // A text by value: the first len bytes.
-#[derive(Drop)]
+#[derive(Clone, Copy)]
 pub struct Text {
     pub bytes: [u8; TEXT_MOST],
     pub len: usize,
@@ -34,7 +36,7 @@ pub struct Text {
 
 // A party: its option, whether the body gave an account or identifier, that text, the BIC, as many names as count says, and in 50F the
 // digit of each name's line.
-#[derive(Drop)]
+#[derive(Clone, Copy)]
 pub struct Party {
     pub option: PartyOption,
     pub present: bool,
@@ -46,7 +48,7 @@ pub struct Party {
 }
 
 // A part of a body: where it starts, and its length.
-#[derive(Drop)]
+#[derive(Clone, Copy)]
 pub struct Part {
     pub start: usize,
     pub len: usize,
@@ -56,7 +58,7 @@ pub struct Part {
 pub const NO_PART: Part = Part { start: 0, len: 0 };
 
 // A party by the parts of a body that its texts are; the small fields stand last, so that it is copied without gaps.
-#[derive(Drop)]
+#[derive(Clone, Copy)]
 pub struct Parts {
     pub account: Part,
     pub bic: Part,
@@ -68,7 +70,7 @@ pub struct Parts {
 }
 
 // What a body is to an option: a BIC, a text, or lines.
-#[derive(Drop)]
+#[derive(Clone, Copy)]
 pub enum Layout {
     BicOnly,
     TextOnly,
@@ -76,7 +78,7 @@ pub enum Layout {
 }
 
 // What the first line is to an option: no account or identifier, an identifier, or an account, whose forms differ.
-#[derive(Drop)]
+#[derive(Clone, Copy)]
 pub enum First {
     NoAccount,
     Identified,
@@ -88,7 +90,7 @@ pub enum First {
 }
 
 // How the lines of names are numbered: not at all, with any digits, or in turn.
-#[derive(Drop)]
+#[derive(Clone, Copy)]
 pub enum Numbering {
     Unnumbered,
     Numbered,
@@ -96,7 +98,7 @@ pub enum Numbering {
 }
 
 // All that is said of an option: a row of the table.
-#[derive(Drop)]
+#[derive(Clone, Copy)]
 pub struct Limits {
     // the tag: its field, 50 or 59, and its letter, 0 for none
     pub field: u8,

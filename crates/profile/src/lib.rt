@@ -1,4 +1,6 @@
 // The network profile (document 02, Five): a body is read by an option or a choice as ever, then tested line by line as it came.
+#![tactic(auto)]
+
 ghost use Rattle.std.specs.Prelude.{◌≡◌, ◌&&◌};
 ghost use Rattle.errors.specs.Refusals.{told};
 ghost use Rattle.party.specs.Text.{used};

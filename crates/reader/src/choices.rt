@@ -21,7 +21,7 @@ use record_bytes::RECORD_SIZE;
 use swift_utils::{BIC_LONG, BIC_SHORT, all_alphanumeric, is_bic_length};
 
 // The seven choices, under the names of the Rust's enums.
-#[derive(Drop)]
+#[derive(Clone, Copy)]
 pub enum Choice {
     Field50InstructingParty,
     Field50OrderingCustomerFGH,
@@ -33,7 +33,7 @@ pub enum Choice {
 }
 
 // What is asked of a body's lines before an option is tried.
-#[derive(Drop)]
+#[derive(Clone, Copy)]
 pub enum Test {
     Always,
     // with 2 lines or more: a line after the first is numbered; the first has a slash and there are 2; the first has a slash
@@ -50,14 +50,14 @@ pub enum Test {
 }
 
 // An option that a choice tries, with its test; nothing at the third place of a choice between two.
-#[derive(Drop)]
+#[derive(Clone, Copy)]
 pub enum Trial {
     Try(PartyOption, Test),
     Nothing,
 }
 
 // What the tests ask first of a text's lines: what is seen of two, and where the others start. A line that is not there is empty.
-#[derive(Drop)]
+#[derive(Clone, Copy)]
 struct LineSummary {
     // how many lines there are, at most 3
     count: usize,

@@ -1,5 +1,7 @@
 // The readers of the eleven options: one for all, by option. What the Rust writes out in each `parse` of field50.rs and field59.rs
 // is here in parts: the first line, then a BIC or names. The choices among options are a module.
+#![tactic(auto)]
+
 use errors::{Outcome, ParseError};
 use field_utils::lines::{Line, Lines, count_lines, find_lf, is_ascii, suffix};
 use field_utils::{
@@ -25,14 +27,14 @@ ghost use Rattle.reader.specs.Options.{is_counted, length_reply, account_reply, 
 ghost use Rattle.reader.specs.Code.{told_parts, told_head, passed_head, has_account, account_by, nameless, IsRest, reading_of};
 
 // What a reader gives: accepted with the record, or refused with the blank record.
-#[derive(Drop)]
+#[derive(Clone, Copy)]
 pub struct Answer {
     pub outcome: Outcome,
     pub party: Party,
 }
 
 // What is found in a body: accepted with the parts of it that the record's texts are, or refused.
-#[derive(Drop)]
+#[derive(Clone, Copy)]
 struct FoundAt {
     parts: Parts,
     outcome: Outcome,
@@ -69,7 +71,7 @@ pub fn refuse(e: ParseError) -> Answer
 }
 
 // What was found of an account or identifier in the first line: its text is the line from skip on.
-#[derive(Drop)]
+#[derive(Clone, Copy)]
 struct HeadAt {
     outcome: Outcome,
     present: bool,
@@ -314,7 +316,7 @@ fn part_behind(start: usize, end: usize, skip: usize) -> Part
 }
 
 // Where the names or the BIC start, how many lines precede them, and the account or identifier that does.
-#[derive(Drop)]
+#[derive(Clone, Copy)]
 struct RestAt {
     from: Lines,
     start_idx: u8,

@@ -1,5 +1,7 @@
 // A party record as bytes, for programs in other languages. The place of the option in the table, the presence and the count are
 // a byte each; then come six texts, a length and 38 bytes each: the account, the BIC and the names; and last the four digits.
+#![tactic(auto)]
+
 use copies::put_bytes;
 use party::{
     NOTHING, Part, Parts, Party, PartyOption, TEXT_MOST, Text, blank, index_of, option_at, part_of,

@@ -3,7 +3,7 @@ use crate::list::{find, past};
 use libc::STDOUT_FILENO;
 
 // What differs from what is expected; or the line is malformed.
-#[derive(Drop)]
+#[derive(Clone, Copy)]
 pub enum Difference {
     Nothing,
     Malformed,

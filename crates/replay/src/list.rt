@@ -102,7 +102,7 @@ fn digit(b: u8) -> usize
 }
 
 // A byte, and how many bytes of a field stand for it: three of an escape, else one.
-#[derive(Drop)]
+#[derive(Clone, Copy)]
 struct Escape {
     width: usize,
     byte: u8,

@@ -1,6 +1,8 @@
 // Replays a list of calls from standard input, through the functions that C and Rust call, and compares what each gives with what the list
 // expects: bodies read, records written and causes told of 6,000 cases of which the Rust's answers are known; then pages filled, closed,
 // read, overwritten and looked up. Says which lines differ, and at the end how many there are of each kind.
+#![tactic(auto)]
+
 mod cases;
 mod count;
 mod list;

@@ -24,7 +24,7 @@ use Rattle.reader.specs.Options.{Head, head_by, with_bic, from_head, after, is_c
 use Rattle.reader.specs.Code.{nameless, reading_of}
 use Rattle.reader.proofs.Bodies.{body_passed}
 use Rattle.reader.proofs.LineCounts.{counts_open}
-use Rattle.swift_mt_message.specs.Std.{Str, Result, Ok, ◌and-then◌, err_if, let_lines, at}
+use Rattle.swift_mt_message.specs.Std.{Str, Result, Ok, ◌and_then◌, err_if, let_lines, at}
 use Rattle.swift_mt_message.specs.Std as S
 use Rattle.swift_mt_message.specs.SwiftUtils.{parse_swift_chars_lem, parse_bic_lem}
 use Rattle.swift_mt_message.specs.Structs.{Struct}

@@ -13,7 +13,7 @@ use Rattle.field_utils.specs.Lines.{starts}
 use Rattle.field_utils.specs.Trim.{trimmed_start, trimmed_end, trimmed}
 use Rattle.field_utils.specs.Identifier.{is_numbered}
 use Rattle.reader.specs.Detection.{any_numbered, first_line, last_line, bic_like, last_is_bic, test_line}
-use Rattle.swift_mt_message.specs.Std.{Str, slash, Ok, ◌and-then◌, ◌and◌, any, nth, equals, unwrap, at, is_digit, is_alphanumeric}
+use Rattle.swift_mt_message.specs.Std.{Str, slash, Ok, ◌and_then◌, ◌and◌, any, nth, equals, unwrap, at, is_digit, is_alphanumeric}
 use Rattle.swift_mt_message.specs.Field50.{numbered, last_is_bic_lem, is_variant, no_variant}
 use Rattle.swift_mt_message.specs.Field59 as rust
 use Rattle.swift_mt_message.specs.Equal.{variant}

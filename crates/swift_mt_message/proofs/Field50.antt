@@ -25,7 +25,7 @@ use Rattle.reader.proofs.Bodies.{body_passed}
 use Rattle.reader.proofs.Heads.{account_none, account_some}
 use Rattle.reader.specs.Detection.{first_line}
 use Rattle.reader.specs.Choices.{refusing}
-use Rattle.swift_mt_message.specs.Std.{Str, slash, newline, Result, Ok, ◌and-then◌, err_if, is_empty_lem, slice_from, starts_with}
+use Rattle.swift_mt_message.specs.Std.{Str, slash, newline, Result, Ok, ◌and_then◌, err_if, is_empty_lem, slice_from, starts_with}
 use Rattle.swift_mt_message.specs.Std as S
 use Rattle.swift_mt_message.specs.SwiftUtils.{parse_swift_chars_lem}
 use Rattle.swift_mt_message.specs.Field50 as rust

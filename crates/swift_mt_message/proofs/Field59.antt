@@ -18,7 +18,7 @@ use Rattle.field_utils.proofs.Identifiers.{identifier_absent, identifier_given, 
 use Rattle.reader.specs.Reading.{Reading, party_of}
 use Rattle.reader.specs.Options.{no_head, head, identifier_head, account_reply, short_account_head, after_head, body_reply, read}
 use Rattle.reader.proofs.Heads.{short_long, short_fits, account_none, account_some}
-use Rattle.swift_mt_message.specs.Std.{Str, slash, Result, Ok, ◌and-then◌, slice_from, starts_with}
+use Rattle.swift_mt_message.specs.Std.{Str, slash, Result, Ok, ◌and_then◌, slice_from, starts_with}
 use Rattle.swift_mt_message.specs.FieldUtils.{name_line, parse_name_and_address_lem}
 use Rattle.swift_mt_message.specs.Field50.{Field50K·line}
 use Rattle.swift_mt_message.specs.Field59 as rust

@@ -17,7 +17,7 @@ use Rattle.swift_utils.specs.Bytes.{between, digit}
 use Rattle.field_utils.specs.Identifier.{is_numbered}
 use Rattle.field_utils.specs.Names.{parse_line, parse_lines, parse_count, parse_name_and_address, kept}
 use Rattle.field_utils.proofs.NameLines.{numbered_room}
-use Rattle.swift_mt_message.specs.Std.{Str, slash, Result, Ok, ◌and-then◌, err_if, ◌or◌, for_from, is_empty_lem, push, nth, is_some_and, equals, unwrap, to_digit, is_digit}
+use Rattle.swift_mt_message.specs.Std.{Str, slash, Result, Ok, ◌and_then◌, err_if, ◌or◌, for_from, is_empty_lem, push, nth, is_some_and, equals, unwrap, to_digit, is_digit}
 use Rattle.swift_mt_message.specs.Std as S
 use Rattle.swift_mt_message.specs.SwiftUtils.{parse_swift_chars_lem}
 use Rattle.swift_mt_message.specs.Field50.{Field50NoOption·line, Field50F·line, Field50K·line, Field50H·line, numbered}

@@ -4,7 +4,7 @@ use mathlib.Core.Bool.{Bool, true, false, not}
 use Prim.Native.Nat.{ℕ}
 use Rattle.errors.specs.Refusals.{Reply, accepted, refused, must, ◌then◌}
 use Rattle.errors.proofs.Replies.{then_accepted}
-use Rattle.swift_mt_message.specs.Std.{Result, Ok, Err, ◌and-then◌, err_if}
+use Rattle.swift_mt_message.specs.Std.{Result, Ok, Err, ◌and_then◌, err_if}
 use Rattle.swift_mt_message.specs.Std as S
 
 -- by a test

@@ -11,7 +11,7 @@ use Rattle.errors.specs.Refusals.{Reply, must, ◌then◌}
 use Rattle.errors.proofs.Replies.{must_held, then_assoc}
 use Rattle.swift_utils.specs.Bytes.{all, between, letter, alphanumeric, legal}
 use Rattle.swift_utils.specs.Checks.{parse_swift_chars, parse_account, bic_length, parse_bic}
-use Rattle.swift_mt_message.specs.Std.{Str, Result, Ok, ◌and-then◌, err_if, ◌and◌, is_alphabetic, is_alphanumeric, contains, slice}
+use Rattle.swift_mt_message.specs.Std.{Str, Result, Ok, ◌and_then◌, err_if, ◌and◌, is_alphabetic, is_alphanumeric, contains, slice}
 use Rattle.swift_mt_message.specs.Std as S
 use Rattle.swift_mt_message.specs.SwiftUtils.{swift_special, parse_swift_chars_lem, parse_bic_lem}
 use Rattle.swift_mt_message.proofs.Results.{by_test, Is, ok, must_is, then_is, last_is, reply_is, then_same}

@@ -5,7 +5,7 @@ use Rattle.std.proofs.Math.Option
 use Rattle.std.proofs.Math.Option.{Option, none, some}
 use Rattle.party.specs.declared.PartyOption.{PartyOption}
 use Rattle.swift_utils.specs.Bytes.{bytes}
-use Rattle.swift_mt_message.specs.Std.{Str, Result, Ok, Err, ◌and-then◌}
+use Rattle.swift_mt_message.specs.Std.{Str, Result, Ok, Err, ◌and_then◌}
 use Rattle.swift_mt_message.specs.Field50 as rust50
 use Rattle.swift_mt_message.specs.Field59 as rust59
 use Rattle.swift_mt_message.specs.Structs as structs

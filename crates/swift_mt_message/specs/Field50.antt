@@ -4,7 +4,7 @@
 use Rattle.std.specs.Prelude.{ℕ, ◌+◌, Bool, true, false, not, ◌&&◌, ◌||◌, List, [], ◌∷◌, ◌++◌, ltb, leb, eqb, length, drop}
 use Rattle.std.proofs.Math.Option.{Option, none, some}
 use Rattle.swift_utils.specs.Bytes.{bytes}
-use Rattle.swift_mt_message.specs.Std.{Str, slash, newline, Result, Ok, Err, ◌and-then◌, ◌then◌, err_if, ◌and◌, minus, if_ok, arm, for_from, for_skip, is_empty_lem, push, all, any, last, nth, is_some_and, equals, at, let_lines, slice_from, same, contains, starts_with, within, is_digit, is_alphanumeric, trim, join, number}
+use Rattle.swift_mt_message.specs.Std.{Str, slash, newline, Result, Ok, Err, ◌and_then◌, ◌then◌, err_if, ◌and◌, minus, if_ok, arm, for_from, for_skip, is_empty_lem, push, all, any, last, nth, is_some_and, equals, at, let_lines, slice_from, same, contains, starts_with, within, is_digit, is_alphanumeric, trim, join, number}
 use Rattle.swift_mt_message.specs.SwiftUtils.{parse_swift_chars_lem, parse_bic_lem}
 use Rattle.swift_mt_message.specs.FieldUtils.{parse_party_identifier_lem}
 

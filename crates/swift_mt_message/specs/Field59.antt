@@ -2,7 +2,7 @@
 use Rattle.std.specs.Prelude.{ℕ, ◌+◌, Bool, true, false, not, ◌&&◌, ◌||◌, List, [], ◌∷◌, ◌++◌, ltb, leb, eqb, length}
 use Rattle.std.proofs.Math.Option.{Option, none, some}
 use Rattle.swift_utils.specs.Bytes.{bytes}
-use Rattle.swift_mt_message.specs.Std.{Str, slash, newline, Result, Ok, Err, ◌and-then◌, ◌then◌, err_if, ◌and◌, ◌or◌, minus, if_ok, arm, for_skip, is_empty_lem, push, nth, is_some, equals, unwrap, at, let_lines, slice_from, starts_with, is_digit, to_digit}
+use Rattle.swift_mt_message.specs.Std.{Str, slash, newline, Result, Ok, Err, ◌and_then◌, ◌then◌, err_if, ◌and◌, ◌or◌, minus, if_ok, arm, for_skip, is_empty_lem, push, nth, is_some, equals, unwrap, at, let_lines, slice_from, starts_with, is_digit, to_digit}
 use Rattle.swift_mt_message.specs.SwiftUtils.{parse_swift_chars_lem, parse_bic_lem}
 use Rattle.swift_mt_message.specs.FieldUtils.{parse_party_identifier_lem, parse_name_and_address_lem}
 use Rattle.swift_mt_message.specs.Field50.{is_variant, no_variant}

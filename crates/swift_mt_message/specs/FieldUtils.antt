@@ -1,7 +1,7 @@
 -- field_utils.rs: the functions that fields 50 and 59 use. An error of an identifier is one of body line 1.
 use Rattle.std.specs.Prelude.{ℕ, ◌+◌, true, false, not, ◌&&◌, ◌||◌, List, [], ◌∷◌, ◌++◌, ltb, leb, eqb, length}
 use Rattle.std.proofs.Math.Option.{Option, none, some}
-use Rattle.swift_mt_message.specs.Std.{Str, slash, Result, Ok, Err, ◌and-then◌, ◌then◌, err_if, minus, for_skip, is_empty_lem, push, all, slice_from, slice_to, starts_with, strip_prefix, find, within, is_alphabetic, is_digit}
+use Rattle.swift_mt_message.specs.Std.{Str, slash, Result, Ok, Err, ◌and_then◌, ◌then◌, err_if, minus, for_skip, is_empty_lem, push, all, slice_from, slice_to, starts_with, strip_prefix, find, within, is_alphabetic, is_digit}
 use Rattle.swift_mt_message.specs.SwiftUtils.{parse_swift_chars_lem}
 
 -- `parse_party_identifier`, where a later slash parts a code and an identifier

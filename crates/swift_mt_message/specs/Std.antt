@@ -26,8 +26,8 @@ pub data Result (A : Type 0) : Type 0 where
 
 module _ {A B : Type 0} where
   -- `?`: an error is returned, and a value is used by what follows; a panic ends it all
-  infixr 20 ◌and-then◌
-  abbrev pub ◌and-then◌ : Result A → (A → Result B) → Result B
+  infixr 20 ◌and_then◌
+  abbrev pub ◌and_then◌ : Result A → (A → Result B) → Result B
   Ok v and_then f = f v
   Err k n and_then f = Err k n
   Panic and_then f = Panic

@@ -1,7 +1,7 @@
 -- swift_utils.rs: the functions that fields 50 and 59 use. line is the body line of what an error's message names.
 use Rattle.std.specs.Prelude.{ℕ, not, ◌&&◌, ◌||◌, eqb, length}
 use Rattle.swift_utils.specs.Bytes.{bytes}
-use Rattle.swift_mt_message.specs.Std.{Str, Result, Ok, ◌and-then◌, ◌then◌, err_if, ◌and◌, all, contains, slice, is_alphabetic, is_alphanumeric}
+use Rattle.swift_mt_message.specs.Std.{Str, Result, Ok, ◌and_then◌, ◌then◌, err_if, ◌and◌, all, contains, slice, is_alphabetic, is_alphanumeric}
 
 -- `SWIFT_SPECIAL`
 unfoldable pub swift_special : Str

@@ -15,7 +15,7 @@ use Rattle.reader.specs.Reading.{party_of}
 use Rattle.reader.specs.Options.{after_head, read}
 use Rattle.reader.specs.declared.choices.Choice.TheVariants.{Field50InstructingParty, Field50OrderingCustomerFGH, Field50OrderingCustomerAFK, Field50OrderingCustomerNCF, Field50Creditor, Field59, Field59Debtor}
 use Rattle.writer.specs.Writing.{name_lines, written_lines, joined, written_body, written_field}
-use Rattle.swift_mt_message.specs.Std.{Ok, ◌and-then◌}
+use Rattle.swift_mt_message.specs.Std.{Ok, ◌and_then◌}
 use Rattle.swift_mt_message.specs.Std as std
 use Rattle.swift_mt_message.specs.SwiftUtils as swift
 use Rattle.swift_mt_message.specs.Field50 as rust50

@@ -1,4 +1,6 @@
 // The classes of bytes, parse_swift_chars, parse_account and parse_bic, ported from swift_utils.rs of swift-mt-message.
+#![tactic(auto)]
+
 ghost use Rattle.std.specs.Prelude.{◌≡◌};
 ghost use Rattle.errors.specs.Refusals.{told};
 ghost use Rattle.swift_utils.specs.Bytes.{legal, digit, alphanumeric, all};

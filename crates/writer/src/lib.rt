@@ -1,5 +1,7 @@
 // Writing a party as a field, ported from the `to_swift_string` of field50.rs and field59.rs of swift-mt-message. The Rust writes it out
 // for each option; here the parts are a tag, an account or identifier, a BIC and names, as the option has them.
+#![tactic(auto)]
+
 ghost use Rattle.std.specs.Prelude.{◌≡◌, true, false, not, [], ◌∷◌, ◌++◌, ◌+◌, ◌≤◌, ◌<◌, leb, length, get_or};
 ghost use Rattle.errors.specs.Refusals.{told};
 ghost use Rattle.party.specs.Limits.{limits_of};
@@ -32,7 +34,7 @@ use swift_utils::{DIGIT, PLAIN, all_in, class_table, parse_bic};
 pub const FIELD_MOST: usize = 187;
 
 // Measuring and placing answer the length of the written field, or a refusal.
-#[derive(Drop)]
+#[derive(Clone, Copy)]
 pub enum Measured {
     Length(usize),
     Refused(ParseError),

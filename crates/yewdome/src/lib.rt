@@ -1,6 +1,8 @@
 // Party fields and pages of them for programs in other languages, on numbers and lent bytes. A record is 241 bytes, as crate record_bytes lays it
 // out. The number that a call gives is the refusal's number × 65,536 and its line, or below 65,536 where it accepts; the reads and
 // the filing of a page give more beside it. A refusal changes no byte and no number that is lent.
+#![tactic(auto)]
+
 ghost use Rattle.std.specs.Prelude.{◌≡◌, ◌≤◌, ◌<◌, length};
 ghost use Rattle.errors.specs.Refusals.{told, told_error};
 ghost use Rattle.reader.specs.Reading.{told_answer};
@@ -445,7 +447,7 @@ fn filed_causes(page: &[u8], at: usize, bytes: &[u8], moved: usize, written: usi
 }
 
 // What a step of the loop over a page gives: its answer, and the position after it on the new page.
-#[derive(Drop)]
+#[derive(Clone, Copy)]
 struct Stepped {
     answer: u64,
     position: usize,
@@ -479,7 +481,7 @@ fn step(page: &[u8], at: usize, files: bool, buf: &mut [u8], position: usize) ->
 }
 
 // How many answers the loop over a page gave, and the position to close the new page at.
-#[derive(Drop)]
+#[derive(Clone, Copy)]
 struct Walked {
     count: usize,
     position: usize,
