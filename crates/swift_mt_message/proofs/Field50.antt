@@ -16,6 +16,7 @@ use Rattle.party.specs.declared.Numbering.TheVariants.{Unnumbered}
 use Rattle.swift_utils.specs.Bytes.{among, between, all, legal}
 use Rattle.swift_utils.specs.Checks.{parse_swift_chars, parse_account}
 use Rattle.field_utils.specs.Lines.{starts}
+use Rattle.field_utils.specs.Identifier.{identifier_reply}
 use Rattle.field_utils.specs.Names.{parse_name_and_address}
 use Rattle.field_utils.proofs.Identifiers.{identifier_absent, identifier_given, starts_long}
 use Rattle.reader.specs.Reading.{Reading, giving, party_of}
@@ -105,9 +106,10 @@ module _ (body : Str) (q : body_reply body ≡ accepted) where
       by_lines_lem Field50A _ body q refl refl (λ l ls.
       by_test (starts slash l)
       (λ s.
+      let d = head (drop 1 l) (identifier_reply 34 1 (drop 1 l)) in
       headed Field50A refl refl l ls (ap identifier_head (identifier_given Field50A 1 l s))
-      (and_is _ (identifier l s) (λ g. second_bic (λ bic. record { party_identifier = some (drop 1 l); bic = bic }) _ l ls))
-      (bic_party Field50A 2 _ ls))
+      (and_is _ (identifier l s) (λ g. second_bic (λ bic. record { party_identifier = some (drop 1 l); bic = bic }) d l ls))
+      (bic_party Field50A 2 d ls))
       (λ s.
       headed Field50A refl refl l ls (ap identifier_head (identifier_absent Field50A 1 l s))
       (and_is _ (no_identifier l s) (λ g. first_bic (λ bic. record { party_identifier = none; bic = bic }) no_head l ls))

@@ -87,9 +87,10 @@ module _ (body : Str) (q : body_reply body ≡ accepted) where
       by_lines_lem Field59A _ body q refl refl (λ l ls.
       by_account_lem Field59A refl l _ _
       (λ e t.
+      let d = head (drop 1 l) (account_reply Field59A (drop 1 l)) in
       headed Field59A refl refl l ls e
-      (short_is (drop 1 l) t (second_bic (λ bic. record { account = some (drop 1 l); bic = bic }) _ l ls))
-      (bic_party Field59A 2 _ ls))
+      (short_is (drop 1 l) t (second_bic (λ bic. record { account = some (drop 1 l); bic = bic }) d l ls))
+      (bic_party Field59A 2 d ls))
       (λ e. headed Field59A refl refl l ls e (first_bic (λ bic. record { account = none; bic = bic }) no_head l ls) (bic_party Field59A 1 no_head (l ∷ ls))))
 
   -- 59F: identifier or none, then lines numbered in order

@@ -1,0 +1,12 @@
+-- `choices::first_numbered` meets its contract, by the first byte. Assumes nothing.
+use mathlib.Core.Path.{sym, ◌∙◌, ap}
+use borrow.Author.Rules.{rules}
+use Rattle.field_utils.specs.Identifier.{is_numbered}
+use Rattle.reader.proofs.LineTests.{test_second, test_first}
+use Rattle.reader.proofs.choices.first_numbered.Goals as goal
+
+pub returns-then-starts_with_slash : goal.returns-then-starts_with_slash
+returns-then-starts_with_slash c = c.requires.two ∙ ap is_numbered (sym (test_second c.args.text.now c.starts_with_slash.ensures c.if-starts_with_slash.true))
+
+pub returns-else-starts_with_slash : goal.returns-else-starts_with_slash
+returns-else-starts_with_slash c = c.requires.one ∙ ap is_numbered (sym (test_first c.args.text.now c.starts_with_slash.ensures c.if-starts_with_slash.false))
