@@ -1,0 +1,76 @@
+-- `writer::is_name` meets its contract: the length, the number, the text's length, then all bytes. Assumes nothing.
+use Prim.Native.Nat.{ℕ, ◌+◌, ◌-◌}
+use mathlib.Core.Path.{◌≡◌, sym, ◌∙◌, ap}
+use mathlib.Core.Bool.{Bool, not, ◌&&◌}
+use native.Mathlib.Omega.{arith}
+use borrow.Author.Tests.{not-true, not-false}
+use lib.ListN.{length, drop, get_or, length-drop}
+use Rattle.party.specs.Text.{Used, used}
+use Rattle.swift_utils.specs.Bytes.{all, among}
+use Rattle.swift_utils.specs.Classes.{plain}
+use Rattle.swift_utils.proofs.Classes.{class_plain}
+use Rattle.swift_utils.proofs.Table.{by_entries}
+use Rattle.record_bytes.specs.RecordBytes.{digits_at, text_at}
+use Rattle.writer.specs.Given.{is_line}
+use Rattle.writer.specs.Code.{number_in}
+use Rattle.writer.proofs.Texts.{text_whole, line_whole}
+use Rattle.writer.proofs.Records.{in_turn, turn_room, name_not_line, name_not_turn, name_long, name_bytes}
+use borrow.Author.Rules.{rules}
+use Rattle.writer.proofs.is_name.Goals as goal
+use Rattle.writer.proofs.is_name.Goals.{After-is_in_turn, After-is_whole, After-number_length, Start}
+
+module _ (s : Start) where
+  abbrev digit : ℕ
+  digit = get_or s.args.«record».now (digits_at + s.args.i) 0
+
+  abbrev name : Used
+  name = used (text_at (2 + s.args.i) s.args.«record».now)
+
+-- what the test of the length says
+whole : (w : After-is_whole) {b : Bool} → w.is_whole.result ≡ b → is_line (name (goal.at.After-is_whole w).Start) ≡ (b && not (among (name (goal.at.After-is_whole w).Start).bytes 10))
+whole w e =
+    let r = w.args.«record».now in
+    let n = 2 + w.args.i in
+    let i = w.requires.1 in
+    line_whole (text_at n r) (text_whole r n (w.requires.0, omega arith)) (sym w.is_whole.ensures ∙ e)
+
+-- what the test of the number says
+module _ (t : After-is_in_turn) where
+  turn : {b : Bool} → t.is_in_turn.result ≡ b → in_turn t.args.numbering (t.args.i + 1) (digit (goal.at.After-is_in_turn t).Start) (name (goal.at.After-is_in_turn t).Start).bytes ≡ b
+  turn e =
+      ap (in_turn t.args.numbering (t.args.i + 1) (digit (goal.at.After-is_in_turn t).Start)) (sym t.used_text-text.ensures.is) ∙ sym t.is_in_turn.ensures ∙ e
+
+-- the length of the text after the number
+text-length :
+    (l : After-number_length) → length (drop (number_in l.args.numbering) (name (goal.at.After-number_length l).Start).bytes) ≡ length l.used_text-text.result.now - l.number_length.result
+text-length l =
+    omega (arith, length-drop (number_in l.args.numbering) (name (goal.at.After-number_length l).Start).bytes, ap length l.used_text-text.ensures.is, l.number_length.ensures)
+
+pub returns-then-not-is_whole : goal.returns-then-not-is_whole
+returns-then-not-is_whole c =
+    let at = goal.at.returns-then-not-is_whole c in
+    sym (name_not_line c.args.numbering c.args.longest (c.args.i + 1) (digit at.Start) (name at.Start) (whole at.After-is_whole c.if-not-is_whole.true))
+
+pub returns-then-not-is_in_turn : goal.returns-then-not-is_in_turn
+returns-then-not-is_in_turn c =
+    let at = goal.at.returns-then-not-is_in_turn c in
+    sym (name_not_turn c.args.numbering c.args.longest (c.args.i + 1) (digit at.Start) (name at.Start) (turn at.After-is_in_turn c.if-not-is_in_turn.true))
+
+pub returns-then-longest-text : goal.returns-then-longest-text
+returns-then-longest-text c =
+    let at = goal.at.returns-then-longest-text c in
+    sym (name_long c.args.numbering c.args.longest (c.args.i + 1) (digit at.Start) (name at.Start) (turn at.After-is_in_turn c.if-not-is_in_turn.false) (omega (arith, text-length at.After-number_length)))
+
+pub returns : goal.returns
+returns c =
+    let at = goal.at.returns c in
+    c.all_in.ensures
+    ∙ by_entries 2 plain class_plain c.args.classes.now c.used_text-text.result.now c.requires.2
+    ∙ ap (all plain) c.used_text-text.ensures.is
+    ∙ sym (name_bytes c.args.numbering c.args.longest (c.args.i + 1) (digit at.Start) (name at.Start) (turn at.After-is_in_turn c.if-not-is_in_turn.false) (omega (arith, text-length at.After-number_length))
+    (whole at.After-is_whole c.if-not-is_whole.false))
+
+pub overflow_sub-text : goal.overflow_sub-text
+overflow_sub-text c =
+    let at = goal.at.overflow_sub-text c in
+    omega (arith, turn_room c.args.numbering (c.args.i + 1) (digit at.Start) (name at.Start).bytes (turn at.After-is_in_turn c.if-not-is_in_turn.false), ap length c.used_text-text.ensures.is, c.number_length.ensures)

@@ -1,0 +1,12 @@
+-- `writer::tag_length` meets its contract. Assumes nothing.
+use mathlib.Core.Path.{ap}
+use lib.ListN.{length}
+use Rattle.writer.proofs.Fields.{tag_plain, tag_lettered}
+use borrow.Author.Rules.{rules}
+use Rattle.writer.proofs.tag_length.Goals as goal
+
+pub returns-then-limits-eq0 : goal.returns-then-limits-eq0
+returns-then-limits-eq0 c = ap length (tag_plain c.args.option c.limits_of-limits.ensures c.if-limits-eq0.true)
+
+pub returns-else-limits-eq0 : goal.returns-else-limits-eq0
+returns-else-limits-eq0 c = ap length (tag_lettered c.args.option c.limits_of-limits.ensures c.if-limits-eq0.false)
