@@ -13,7 +13,7 @@ use Rattle.party.specs.declared.Layout.TheVariants.{BicOnly, TextOnly, ByLines}
 use Rattle.party.specs.declared.Party.{Party}
 use Rattle.party.specs.Decides.{Decides}
 use Rattle.party.specs.Party.{Content, content, Same}
-use Rattle.field_utils.specs.Lines.{lines, without_cr}
+use Rattle.field_utils.specs.Lines.{without_cr}
 use Rattle.field_utils.specs.Tags.{tag_of}
 use Rattle.field_utils.proofs.Places.{without_cr_short}
 use Rattle.reader.specs.Options.{read, found_by}

@@ -2,10 +2,10 @@
 -- owning each field says, in the fields' order; owning an array gives machine values, its length, and what owning each element says.
 -- Assumes nothing.
 use Prim.Native.Nat.{ℕ, zero, suc, ◌<◌}
-use mathlib.Core.Path.{◌≡◌, ◌∙◌, sym}
-use mathlib.Core.List.{List, [], ◌∷◌, map}
+use mathlib.Core.Path.{◌≡◌}
+use mathlib.Core.List.{List, [], ◌∷◌}
 use native.Mathlib.Omega.{arith}
-use lib.ListN.{length, get_or, length-map}
+use lib.ListN.{length, get_or}
 use mir.Syntax.{w8}
 use mir.Val.{Val}
 use borrow.Author.Rules.{elem_Fits}
@@ -18,7 +18,6 @@ use Rattle.party.specs.declared.Party.{Party}
 use Rattle.party.specs.Text.{IsText}
 use Rattle.party.specs.Party.{IsParty}
 use Rattle.party.specs.contracts.Text.{the_field as text, the_row as text_row}
-use Rattle.party.specs.contracts.Part.{the_field as part}
 use Rattle.party.specs.contracts.Parts.{the_field as parts}
 use Rattle.party.specs.contracts.Party.{the_field as party}
 

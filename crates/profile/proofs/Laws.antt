@@ -9,7 +9,7 @@ use lib.Dec.{eqb}
 use lib.ListN.{length, drop, get_or, drop_of_length-le}
 use lib.Seq.{drop-cons}
 use borrow.Author.Tests.{eq-eqb, ne_eqb, lt-ltb, le-ltb, not-true}
-use Rattle.errors.specs.Refusals.{Reply, accepted, refused, must, ◌then◌}
+use Rattle.errors.specs.Refusals.{Reply, accepted, refused, must}
 use Rattle.errors.proofs.Replies.{must_held, then_first, then_second}
 use Rattle.party.specs.declared.Party.{Party}
 use Rattle.party.specs.Limits.{limits_of}

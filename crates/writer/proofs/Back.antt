@@ -7,7 +7,7 @@ use native.Mathlib.Omega.{arith}
 use lib.Dec.{leb}
 use lib.ListN.{length}
 use borrow.Author.Tests.{leb-true, not-true}
-use Rattle.errors.specs.Refusals.{Reply, accepted, refused, must, ◌then◌}
+use Rattle.errors.specs.Refusals.{Reply, accepted, must, ◌then◌}
 use Rattle.errors.proofs.Replies.{refused≢accepted, must_held, then_first, then_second}
 use Rattle.party.specs.declared.PartyOption.{PartyOption}
 use Rattle.party.specs.declared.PartyOption.TheVariants.{Field50NoOption, Field50A, Field50F, Field50K, Field50C, Field50L, Field50G, Field50H, Field59NoOption, Field59A, Field59F}

@@ -5,12 +5,11 @@ use native.Mathlib.Numerals.{add-one}
 use native.Mathlib.Omega.{arith}
 use mathlib.Core.Path.{◌≡◌, refl, ◌∙◌, sym, ap}
 use mathlib.Core.List.{List, [], ◌∷◌, ◌++◌, append_assoc, append-nil}
-use mathlib.Core.Bool.{true, false}
-use borrow.Author.Tests.{le-leb, lt-leb}
+use borrow.Author.Tests.{le-leb}
 use lib.ListN.{length, take, drop, set, length-append}
 use lib.Seq.{paste, set_split, append_snoc, take-length, take-paste, drop-paste, drop-drop, length-paste, paste-zero}
 use Rattle.record_bytes.proofs.Stores.{stores, stores_paste}
-use Rattle.writer.specs.Writing.{put, fits, placed}
+use Rattle.writer.specs.Writing.{put, placed}
 use Rattle.writer.specs.Code.{Puts}
 
 pub put_put : (d : List ℕ) (at : ℕ) (s t : List ℕ) → at ≤ length d → put (put d at s) (at + length s) t ≡ put d at (s ++ t)

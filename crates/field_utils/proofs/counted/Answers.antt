@@ -1,5 +1,5 @@
 -- `counted` meets its contract: an illegal byte refuses the names, and else their count says. Assumes nothing.
-use Rattle.std.proofs.Common.{◌≡◌, ℕ, List, sym, ap, ◌∙◌, rules}
+use Rattle.std.proofs.Common.{◌≡◌, ℕ, List, sym, ap, ◌∙◌}
 use Rattle.errors.specs.declared.ParseError.{ParseError}
 use Rattle.errors.specs.declared.Outcome.TheVariants.{Refused}
 use Rattle.errors.specs.Refusals.{Reply, told_error, told}

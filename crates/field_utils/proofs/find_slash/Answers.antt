@@ -1,6 +1,5 @@
 -- `find_slash` meets its contract: where no slash is among the bytes, none is found. Assumes nothing.
-use Rattle.std.proofs.Common.{sym, ◌∙◌, rules}
-use borrow.Author.Tests.{not-true}
+use Rattle.std.proofs.Common.{sym, ◌∙◌}
 use Rattle.field_utils.proofs.Identifiers.{upto_none}
 use Rattle.field_utils.proofs.find_slash.Goals as goal
 

@@ -1,8 +1,6 @@
 -- `has_slash` meets its contract: a slash was seen or is among the bytes left where it is among all. Assumes nothing.
-use Rattle.std.proofs.Common.{◌≡◌, ◌+◌, ◌-◌, ◌≤◌, Bool, ◌||◌, eqb, length, get_or, drop, sym, refl, ap, ◌∙◌, arith}
-use mathlib.Core.Bool.{or_assoc, or-false}
+use Rattle.std.proofs.Common.{◌≡◌, ◌-◌, ◌≤◌, ◌||◌, length, drop}
 use Rattle.swift_utils.specs.Bytes.{among}
-use Rattle.field_utils.proofs.Identifiers.{among_next, among_done}
 use Rattle.field_utils.proofs.has_slash.Given as goal
 
 abbrev pub invariant-loop-i : goal.invariant-loop-i

@@ -1,5 +1,5 @@
 -- `is_numbered_in` meets its contract: a case of the rule for a short line, and two for a longer, by the entry of its digit. Assumes nothing.
-use Rattle.std.proofs.Common.{◌<◌, get_or, sym, refl, ◌∙◌, arith, rules}
+use Rattle.std.proofs.Common.{◌<◌, get_or, sym, refl, ◌∙◌, arith}
 use Rattle.swift_utils.proofs.Classes.{class_digit}
 use Rattle.swift_utils.proofs.Table.{by_entry}
 use Rattle.field_utils.proofs.Identifiers.{numbered_short, numbered_other, numbered_slash}

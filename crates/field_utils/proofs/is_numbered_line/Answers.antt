@@ -1,5 +1,5 @@
 -- `is_numbered_line` meets its contract: a case of the rule for a short line, and two for a longer. Assumes nothing.
-use Rattle.std.proofs.Common.{sym, ◌∙◌, rules}
+use Rattle.std.proofs.Common.{sym, ◌∙◌}
 use Rattle.field_utils.proofs.Identifiers.{numbered_short, numbered_other, numbered_slash}
 use Rattle.field_utils.proofs.is_numbered_line.Goals as goal
 

@@ -1,5 +1,5 @@
 -- `parse_digit` meets its contract, by what the test says. Assumes nothing.
-use Rattle.std.proofs.Common.{◌≡◌, Bool, sym, ap, ◌∙◌, rules}
+use Rattle.std.proofs.Common.{◌≡◌, Bool, sym, ap, ◌∙◌}
 use Rattle.errors.specs.Refusals.{must}
 use Rattle.field_utils.specs.Identifier.{is_numbered}
 use Rattle.field_utils.proofs.parse_digit.Goals as goal

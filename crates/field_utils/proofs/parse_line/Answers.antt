@@ -1,5 +1,5 @@
 -- `parse_line` meets its contract: past the test of its number, a line has room for what stands before its text. Assumes nothing.
-use Rattle.std.proofs.Common.{◌≡◌, ℕ, ◌-◌, ◌≤◌, List, length, drop, sym, ap, ◌∙◌, arith, length-drop, rules, le-leb}
+use Rattle.std.proofs.Common.{◌≡◌, ℕ, ◌-◌, ◌≤◌, List, length, drop, sym, ap, ◌∙◌, arith, length-drop, le-leb}
 use borrow.Author.Tests.{lt-leb}
 use Rattle.errors.specs.Refusals.{accepted, told}
 use Rattle.field_utils.specs.Names.{skip_of, parse_number}

@@ -1,6 +1,6 @@
 -- `parse_name_and_address` meets its contract. Of the lines: what all of them say is what those from the cursor on say, and those passed
 -- are filled. Of a line's bytes: the test of all is the test of those left. Assumes nothing.
-use Rattle.std.proofs.Common.{◌≡◌, ℕ, suc, ◌+◌, ◌-◌, ◌<◌, ◌≤◌, Bool, List, [], ◌∷◌, length, get_or, drop, sym, refl, ap, ◌∙◌, subst, ⊎_elim, arith, rules, eq-eqb, ne_eqb}
+use Rattle.std.proofs.Common.{◌≡◌, ℕ, suc, ◌+◌, ◌-◌, ◌<◌, ◌≤◌, Bool, List, [], ◌∷◌, length, get_or, drop, sym, refl, ap, ◌∙◌, subst, arith, eq-eqb, ne_eqb}
 use Rattle.errors.specs.Refusals.{Reply, accepted, refused, told, must}
 use Rattle.party.specs.declared.PartyOption.{PartyOption}
 use Rattle.party.specs.declared.Limits.{Limits}
@@ -14,7 +14,7 @@ use Rattle.swift_utils.proofs.Classes.{class_legal, all_fails, all_passes, all_d
 use Rattle.swift_utils.proofs.Table.{by_entry, by_entries}
 use Rattle.swift_utils.proofs.Parts.{part, part_length, part_end, part_drop}
 use Rattle.field_utils.specs.Lines.{lines}
-use Rattle.field_utils.specs.Names.{parse_line, parse_count, dropped_prefix, NamesRead, read_names, told_names}
+use Rattle.field_utils.specs.Names.{parse_line, dropped_prefix, NamesRead, read_names, told_names}
 use Rattle.field_utils.specs.declared.Names.{Names}
 use Rattle.field_utils.specs.Cursor.{next_line, line_places, name_places}
 use Rattle.field_utils.specs.Code.{parse_shape, parse_rest, given_names, parts_or}
@@ -22,7 +22,7 @@ use Rattle.field_utils.proofs.Places.{Found, found}
 use Rattle.field_utils.proofs.NameLines.{kept_room, line_refused, line_bytes, rest_illegal, rest_counted, given_reply, read_refused}
 use Rattle.field_utils.proofs.NameTexts.{Passed, no_parts, passed_none, passed_refused, passed_more, passed_past, passed_all}
 use Rattle.field_utils.proofs.AllBytes.{all_part}
-use Rattle.field_utils.proofs.NamePlaces.{Marked, marked_none, marked_more, marked_past, marked_all}
+use Rattle.field_utils.proofs.NamePlaces.{marked_none, marked_more, marked_past, marked_all}
 use Rattle.field_utils.proofs.parse_name_and_address.Goals as goal
 use Rattle.field_utils.proofs.parse_name_and_address.Goals.{in_default, in-Next+in_default-outcome+then-loop-i-test+then-classes-b-ne-LEGAL, After-loop-i, After-parse_line-outcome, After-shared_slice_known-in-loop-i-1, At-lines, At-loop-i, In-Next, In_default, Joined-found, Then-classes-b-ne-LEGAL}
 
@@ -173,24 +173,24 @@ module _ (m : Joined-found) where
   ends =
       let at = (goal.at.Joined-found m).At-lines in
       elim m.match-found.branch [
-        in_default w ↦ (
+        | in_default w ↦ (
           ap gives (rest_counted m.match-found.illegal (limits at).max_names (count at) w.illegal-is)
               ∙ sym (passed_all (option at) m.limits_of-limits.ensures m.dropped_prefix-kept.ensures (subst (Passed _ _ _ _ _ _ _ _ _) ((found (body at) (place at) m.next-found.ensures w.in_default.is).0) m.lines.invariant.1)),
           marked_all m.lines.invariant.2 (sym m.next-found.ensures) w.in_default.is rests,
         )
-      | in-Next+in_default-outcome+then-loop-i-test+then-classes-b-ne-LEGAL w ↦
-          let line : List ℕ = part w.in-Next.start w.in-Next.end (body at) in
-          let byte : ℕ = get_or line w.loop-i.i 0 in
-          let number : ℕ = earlier at + (count at + 1) in
-          let fits = found (body at) (place at) m.next-found.ensures w.in-Next.is in
-          let shaped = sym w.parse_line-outcome.ensures ∙ ap told w.in_default-outcome.is in
-          let illegal = sym (class_legal byte) ∙ by_entry 1 byte m.class_table-classes.ensures (ne_eqb _ _ w.if-classes-b-ne-LEGAL.true) in
-          let says = line_bytes _ _ _ _ _ shaped (w.loop-i.invariant ∙ all_fails legal line w.loop-i.i (length line) w.loop-i-test.true (omega arith) illegal) in
-          let refuses : rests ≡ refused 3 m.match-found.illegal = rest_illegal m.match-found.illegal (limits at).max_names (count at) (λ z. omega (arith, z, w.illegal-is)) in (
-            ap gives (refuses ∙ ap (refused 3) w.illegal-is)
-                ∙ sym (read_refused (option at) m.limits_of-limits.ensures (suc (earlier at)) (names at) (passed_refused (subst (Passed _ _ _ _ _ _ _ _ _) fits.line m.lines.invariant.1) says)),
-            ap (λ (r : Reply). parts_or r (parts at)) refuses ∙ sym (ap (λ (r : Reply). name_places r (skip at) (places at)) refuses),
-          )
+        | in-Next+in_default-outcome+then-loop-i-test+then-classes-b-ne-LEGAL w ↦
+            let line : List ℕ = part w.in-Next.start w.in-Next.end (body at) in
+            let byte : ℕ = get_or line w.loop-i.i 0 in
+            let number : ℕ = earlier at + (count at + 1) in
+            let fits = found (body at) (place at) m.next-found.ensures w.in-Next.is in
+            let shaped = sym w.parse_line-outcome.ensures ∙ ap told w.in_default-outcome.is in
+            let illegal = sym (class_legal byte) ∙ by_entry 1 byte m.class_table-classes.ensures (ne_eqb _ _ w.if-classes-b-ne-LEGAL.true) in
+            let says = line_bytes _ _ _ _ _ shaped (w.loop-i.invariant ∙ all_fails legal line w.loop-i.i (length line) w.loop-i-test.true (omega arith) illegal) in
+            let refuses : rests ≡ refused 3 m.match-found.illegal = rest_illegal m.match-found.illegal (limits at).max_names (count at) (λ z. omega (arith, z, w.illegal-is)) in (
+              ap gives (refuses ∙ ap (refused 3) w.illegal-is)
+                  ∙ sym (read_refused (option at) m.limits_of-limits.ensures (suc (earlier at)) (names at) (passed_refused (subst (Passed _ _ _ _ _ _ _ _ _) fits.line m.lines.invariant.1) says)),
+              ap (λ (r : Reply). parts_or r (parts at)) refuses ∙ sym (ap (λ (r : Reply). name_places r (skip at) (places at)) refuses),
+            )
       ]
 
 pub lines-init : goal.lines-init
@@ -274,8 +274,7 @@ lines-smaller-then-count-lt4 c =
 
 pub lines-preserved-then-count-lt4 : goal.lines-preserved-then-count-lt4
 lines-preserved-then-count-lt4 c =
-    let at = goal.at.lines-preserved-then-count-lt4 c in
-    (
+    let at = goal.at.lines-preserved-then-count-lt4 c in (
       counts at.In-Next,
       passed_more (so_far at.In-Next) (passes at.After-loop-i) _ c.if-count-lt4.true (sym (part_drop (skip at.At-lines) (start at.In-Next) (end at.In-Next) (body at.At-lines))) c.digit_of.ensures,
       marked_more c.lines.invariant.2 (is-next at.In-Next) c.in-Next.is c.if-count-lt4.true

@@ -1,5 +1,5 @@
 -- `parse_number` meets its contract: a case of the rule for each numbering. Assumes nothing.
-use Rattle.std.proofs.Common.{◌≡◌, ◌+◌, eqb, get_or, sym, ap, ◌∙◌, arith, rules}
+use Rattle.std.proofs.Common.{◌≡◌, ◌+◌, eqb, get_or, sym, ap, ◌∙◌, arith}
 use Rattle.errors.specs.Refusals.{Reply, told, must, ◌then◌}
 use Rattle.party.specs.declared.Numbering.{Numbering}
 use Rattle.party.specs.declared.Numbering.TheVariants.{Numbered}

@@ -1,6 +1,5 @@
 -- `parse_party_identifier` meets its contract: the rule's case by the first byte, and then what follows it. Assumes nothing.
-use Rattle.std.proofs.Common.{◌≡◌, ℕ, ◌≤◌, true, List, length, drop, sym, ap, ◌∙◌, arith, rules}
-use borrow.Author.Tests.{not-true, not-false}
+use Rattle.std.proofs.Common.{◌≡◌, ℕ, ◌≤◌, true, List, length, drop, sym, ap, ◌∙◌, arith}
 use Rattle.errors.specs.declared.Outcome.{Outcome}
 use Rattle.errors.specs.Refusals.{told}
 use Rattle.party.specs.declared.PartyOption.{PartyOption}

@@ -1,6 +1,5 @@
 -- `parse_remaining` meets its contract: a case of the rule for each way through the tests. Assumes nothing.
 use Rattle.std.proofs.Common.{ℕ, drop, sym, ap, ◌∙◌, add-one, length-take-le, rules}
-use borrow.Author.Tests.{not-true, not-false}
 use Rattle.swift_utils.specs.Checks.{parse_account}
 use Rattle.swift_utils.proofs.Parts.{part_end}
 use Rattle.field_utils.proofs.Identifiers.{no_slash, two_slashes, code_long, code_other, code_good}

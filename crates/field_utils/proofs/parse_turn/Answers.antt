@@ -1,5 +1,5 @@
 -- `parse_turn` meets its contract, by what the test says. Assumes nothing.
-use Rattle.std.proofs.Common.{arith, rules, eq-eqb, ne_eqb}
+use Rattle.std.proofs.Common.{eq-eqb, ne_eqb}
 use Rattle.field_utils.proofs.parse_turn.Goals as goal
 
 pub returns-then-input-turn : goal.returns-then-input-turn

@@ -1,5 +1,5 @@
 -- `starts_with_slash` meets its contract: a case of the rule for an empty line, and one for any other. Assumes nothing.
-use Rattle.std.proofs.Common.{sym, rules}
+use Rattle.std.proofs.Common.{sym}
 use Rattle.field_utils.proofs.Identifiers.{starts_none, starts_first}
 use Rattle.field_utils.proofs.starts_with_slash.Goals as goal
 

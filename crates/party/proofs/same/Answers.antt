@@ -3,7 +3,7 @@ use Rattle.std.proofs.Common.{◌∙◌, sym, ap}
 use borrow.Author.Tests.{not-true, not-false}
 use Rattle.party.specs.Decides.{Decides}
 use Rattle.party.specs.Limits.{limits_of, place_of}
-use Rattle.party.specs.Party.{where_limit, Same}
+use Rattle.party.specs.Party.{where_limit}
 use Rattle.party.proofs.Laws.{holds, fails, decides_as, equal_true, equal_false, where_none, where_same}
 use Rattle.party.proofs.Options.{place_one}
 use Rattle.party.proofs.Content.{SameHead, SameAccount, SameBic, SameNames, SameDigits, head, account, bic, names, digits, same}

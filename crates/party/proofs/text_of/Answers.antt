@@ -1,7 +1,7 @@
 -- The invariant holds at first and from turn to turn, and where the loop is left, the text is that of the slice.
-use Rattle.std.proofs.Common.{◌≡◌, ◌<◌, length, refl, arith, min}
+use Rattle.std.proofs.Common.{◌<◌, length, refl, arith}
 use borrow.Author.Tests.{ltb-true, ltb-false}
-use Rattle.party.specs.Text.{padded, text_most, text_of}
+use Rattle.party.specs.Text.{padded}
 use Rattle.party.proofs.Laws.{padded_more, padded_all}
 use Rattle.party.proofs.text_of.Goals as goal
 

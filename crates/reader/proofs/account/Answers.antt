@@ -1,7 +1,6 @@
 -- `reader::account` meets its contract. Assumes nothing.
 use mathlib.Core.Path.{◌∙◌}
 use Rattle.reader.proofs.Heads.{account_reply_lem}
-use borrow.Author.Rules.{rules}
 use Rattle.reader.proofs.account.Goals as goal
 
 pub returns : goal.returns

@@ -1,11 +1,9 @@
 -- `reader::account_head` meets its contract, by whether there is one. Assumes nothing.
 use mathlib.Core.Path.{sym, ◌∙◌, ap}
 use lib.ListN.{drop}
-use borrow.Author.Tests.{not-true, not-false}
 use Rattle.reader.specs.Code.{told_head}
 use Rattle.reader.specs.Options.{account_reply, head}
 use Rattle.reader.proofs.Heads.{by_none, by_some}
-use borrow.Author.Rules.{rules}
 use Rattle.reader.proofs.account_head.Goals as goal
 
 pub returns-then-not-has_account : goal.returns-then-not-has_account

@@ -1,7 +1,6 @@
 -- `reader::account_length` meets its contract. Assumes nothing.
 use mathlib.Core.Path.{◌∙◌}
 use Rattle.reader.proofs.Heads.{length_reply_lem}
-use borrow.Author.Rules.{rules}
 use Rattle.reader.proofs.account_length.Goals as goal
 
 pub returns : goal.returns

@@ -5,7 +5,6 @@ use Rattle.errors.specs.declared.Outcome.TheVariants.{Accepted}
 use Rattle.party.specs.declared.Party.{Party}
 use Rattle.reader.specs.declared.Answer.{Answer}
 use Rattle.reader.specs.Reading.{answer_from}
-use borrow.Author.Rules.{rules}
 use Rattle.reader.proofs.answer_from.Goals as goal
 
 pub returns-in-Accepted : goal.returns-in-Accepted

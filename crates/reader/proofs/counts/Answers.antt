@@ -6,7 +6,6 @@ use Prim.Native.Nat.{ℕ, ◌+◌, ◌≤◌, ◌<◌}
 use native.Mathlib.Omega.{arith}
 use lib.Dec.{leb}
 use lib.ListN.{length}
-use borrow.Author.Rules.{rules}
 use Rattle.party.specs.declared.PartyOption.{PartyOption}
 use Rattle.field_utils.specs.Lines.{lines}
 use Rattle.reader.specs.Options.{is_counted}

@@ -4,12 +4,10 @@ use mathlib.Core.List.{List}
 use Prim.Native.Nat.{ℕ}
 use lib.Dec.{leb}
 use lib.ListN.{length, drop}
-use borrow.Author.Rules.{rules}
-use borrow.Author.Tests.{not-true, not-false}
 use Rattle.party.specs.declared.First.{First}
 use Rattle.party.specs.declared.Limits.{Limits}
 use Rattle.reader.specs.Code.{has_account}
-use Rattle.reader.proofs.Heads.{has_none, has_short, has_other}
+use Rattle.reader.proofs.Heads.{has_none, has_short}
 use Rattle.reader.proofs.has_account.Goals as goal
 
 pub returns-then-not-starts_with_slash : goal.returns-then-not-starts_with_slash

@@ -3,7 +3,6 @@ use mathlib.Core.Path.{sym, ◌∙◌, ap}
 use Rattle.field_utils.specs.Identifier.{told_identifier}
 use Rattle.reader.specs.Code.{told_head}
 use Rattle.reader.specs.Options.{identifier_head}
-use borrow.Author.Rules.{rules}
 use Rattle.reader.proofs.identifier_head.Goals as goal
 
 pub returns-in-Absent : goal.returns-in-Absent

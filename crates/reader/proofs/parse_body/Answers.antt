@@ -1,7 +1,6 @@
 -- `reader::parse_body` meets its contract. Assumes nothing.
 use mathlib.Core.Path.{sym, ◌∙◌}
 use borrow.Author.Tests.{le-leb, lt-leb}
-use borrow.Author.Rules.{rules}
 use Rattle.reader.proofs.parse_body.Goals as goal
 
 pub returns-then-body-gt-BODY_MOST : goal.returns-then-body-gt-BODY_MOST

@@ -11,7 +11,6 @@ use Rattle.party.specs.Limits.{limits_of}
 use Rattle.reader.specs.Code.{told_head}
 use Rattle.reader.specs.Options.{length_reply, account_reply, slash_head, head, head_by}
 use Rattle.reader.proofs.Heads.{by_first}
-use borrow.Author.Rules.{rules}
 use Rattle.reader.proofs.parse_head.Goals as goal
 use Rattle.reader.proofs.parse_head.Goals.{After-limits_of-limits}
 

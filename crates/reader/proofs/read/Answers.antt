@@ -6,7 +6,6 @@ use Rattle.record_bytes.specs.RecordBytes.{record_size}
 use Rattle.reader.specs.Reading.{told_answer}
 use Rattle.reader.specs.Options.{read}
 use Rattle.reader.proofs.Loading.{read_back, answered}
-use borrow.Author.Rules.{rules}
 use Rattle.reader.proofs.read.Goals as goal
 
 pub returns : goal.returns

@@ -15,7 +15,6 @@ use Rattle.reader.specs.Reading.{party_of}
 use Rattle.reader.specs.Options.{with_bic}
 use Rattle.reader.specs.Code.{passed_head}
 use Rattle.reader.proofs.Readings.{refusing, accepting}
-use borrow.Author.Rules.{rules}
 use Rattle.reader.proofs.read_bic.Goals as goal
 use Rattle.reader.proofs.read_bic.Goals.{After-parse_bic-outcome, In-Next}
 

@@ -9,7 +9,6 @@ use Rattle.reader.specs.Reading.{party_of}
 use Rattle.reader.specs.Options.{bic_only}
 use Rattle.reader.specs.Code.{nameless}
 use Rattle.reader.proofs.Readings.{refusing, accepting}
-use borrow.Author.Rules.{rules}
 use Rattle.reader.proofs.read_bic_only.Goals as goal
 
 pub returns-in-Refused : goal.returns-in-Refused

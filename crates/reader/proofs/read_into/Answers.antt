@@ -9,7 +9,6 @@ use Rattle.reader.specs.Options.{read}
 use Rattle.record_bytes.specs.RecordBytes.{record_size}
 use Rattle.reader.proofs.Into.{into_whole, into_short}
 use Rattle.reader.proofs.Bodies.{body_refused, body_passed}
-use borrow.Author.Rules.{rules}
 use Rattle.reader.proofs.read_into.Goals as goal
 use Rattle.reader.proofs.read_into.Goals.{After-parse_body-outcome}
 

@@ -5,7 +5,6 @@ use mathlib.Core.List.{List, [], ◌∷◌}
 use Prim.Native.Nat.{ℕ, suc}
 use native.Mathlib.Omega.{arith}
 use lib.ListN.{length, drop}
-use borrow.Author.Tests.{not-true, not-false}
 use Rattle.errors.specs.Refusals.{accepted, told}
 use Rattle.party.specs.declared.PartyOption.{PartyOption}
 use Rattle.party.specs.Text.{part_in}
@@ -17,7 +16,6 @@ use Rattle.reader.specs.Options.{is_counted, after_head, by_lines}
 use Rattle.reader.specs.Code.{passed_head, reading_of}
 use Rattle.reader.proofs.Readings.{refusing}
 use Rattle.reader.proofs.Bodies.{lines_count, head_refused, head_there, head_none, told_text, told_none}
-use borrow.Author.Rules.{rules}
 use Rattle.reader.proofs.read_lines.Goals as goal
 use Rattle.reader.proofs.read_lines.Goals.{After-counts, After-rest_of-later, In-Next}
 

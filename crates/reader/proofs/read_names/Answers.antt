@@ -11,7 +11,6 @@ use Rattle.field_utils.specs.Names.{parse_name_and_address, NamesRead}
 use Rattle.reader.specs.Options.{with_names}
 use Rattle.reader.specs.Code.{passed_head}
 use Rattle.reader.proofs.Readings.{refusing, accepting, names_reply, party_named}
-use borrow.Author.Rules.{rules}
 use Rattle.reader.proofs.read_names.Goals as goal
 use Rattle.reader.proofs.read_names.Goals.{After-parse_name_and_address-names}
 

@@ -4,7 +4,6 @@ use Rattle.party.specs.declared.Layout.{Layout}
 use Rattle.party.specs.declared.Limits.{Limits}
 use Rattle.reader.specs.Options.{found_by, read_own}
 use Rattle.reader.specs.Code.{reading_of}
-use borrow.Author.Rules.{rules}
 use Rattle.reader.proofs.read_own.Goals as goal
 use Rattle.reader.proofs.read_own.Goals.{After-limits_of-limits}
 

@@ -7,7 +7,6 @@ use Rattle.errors.specs.Refusals.{accepted, told}
 use Rattle.party.specs.Party.{party_in}
 use Rattle.reader.specs.Reading.{Reading, giving, Into, leaves}
 use Rattle.reader.specs.Options.{read_own}
-use borrow.Author.Rules.{rules}
 use Rattle.reader.proofs.read_own_into.Goals as goal
 use Rattle.reader.proofs.read_own_into.Goals.{After-read_own-found}
 

@@ -6,7 +6,6 @@ use Rattle.party.specs.Text.{part_in}
 use Rattle.field_utils.specs.Lines.{lines}
 use Rattle.reader.specs.Code.{passed_head, reading_of}
 use Rattle.reader.proofs.Readings.{rest_bic, rest_names}
-use borrow.Author.Rules.{rules}
 use Rattle.reader.proofs.read_rest.Goals as goal
 
 pub returns-then-limits-eq0 : goal.returns-then-limits-eq0

@@ -11,7 +11,6 @@ use Rattle.reader.specs.Options.{text_only}
 use Rattle.reader.proofs.LineCounts.{among_found, among_none}
 use Rattle.reader.specs.Code.{nameless}
 use Rattle.reader.proofs.Readings.{refusing, accepting, text_lf, text_line}
-use borrow.Author.Rules.{rules}
 use Rattle.reader.proofs.read_text_only.Goals as goal
 
 pub returns-then-find_lf-body : goal.returns-then-find_lf-body

@@ -3,7 +3,6 @@ use mathlib.Core.Path.{ap}
 use Rattle.errors.specs.declared.Outcome.TheVariants.{Refused}
 use Rattle.party.specs.declared.Party.{Party}
 use Rattle.reader.specs.declared.Answer.{Answer}
-use borrow.Author.Rules.{rules}
 use Rattle.reader.proofs.refuse.Goals as goal
 
 pub returns : goal.returns

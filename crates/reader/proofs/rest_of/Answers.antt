@@ -1,7 +1,6 @@
 -- `reader::rest_of` meets its contract. Assumes nothing.
 use mathlib.Core.Path.{refl, sym, ◌∙◌}
 use mathlib.Core.Bool.{false≢true}
-use borrow.Author.Rules.{rules}
 use Rattle.reader.proofs.rest_of.Goals as goal
 
 pub returns-then-present : goal.returns-then-present

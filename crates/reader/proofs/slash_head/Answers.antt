@@ -3,7 +3,6 @@ use mathlib.Core.Path.{sym, ◌∙◌, ap}
 use Rattle.errors.specs.Refusals.{told}
 use Rattle.reader.specs.Code.{told_head}
 use Rattle.reader.proofs.Heads.{slash_there, slash_missing}
-use borrow.Author.Rules.{rules}
 use Rattle.reader.proofs.slash_head.Goals as goal
 
 pub returns-then-starts_with_slash : goal.returns-then-starts_with_slash

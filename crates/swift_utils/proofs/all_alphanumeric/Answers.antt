@@ -3,7 +3,6 @@ use mathlib.Core.Path.{◌∙◌}
 use Rattle.swift_utils.specs.Bytes.{alphanumeric}
 use Rattle.swift_utils.proofs.Classes.{class_alphanumeric}
 use Rattle.swift_utils.proofs.Table.{by_entries}
-use borrow.Author.Rules.{rules}
 use Rattle.swift_utils.proofs.all_alphanumeric.Goals as goal
 
 pub returns : goal.returns

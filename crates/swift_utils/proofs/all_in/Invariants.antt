@@ -1,14 +1,11 @@
 -- `swift_utils::all_in` meets its contract: the bits that the entries passed have in common say what those entries say. Assumes nothing.
-use mathlib.Core.Path.{◌≡◌, sym, ◌∙◌, ap}
-use mathlib.Core.Bool.{◌&&◌, and_assoc, and-true}
-use mathlib.Core.List.{List}
-use Prim.Native.Nat.{ℕ, ◌+◌, ◌-◌, ◌≤◌, ◌<◌}
-use native.Mathlib.Omega.{arith}
-use lib.ListN.{length, get_or}
+use mathlib.Core.Path.{◌≡◌}
+use mathlib.Core.Bool.{◌&&◌}
+use Prim.Native.Nat.{◌-◌, ◌≤◌}
+use lib.ListN.{length}
 use Rattle.swift_utils.specs.Bytes.{all}
 use Rattle.swift_utils.specs.Classes.{has_bits, entry_in}
-use Rattle.swift_utils.proofs.Bits.{has_and, has_all}
-use Rattle.swift_utils.proofs.Parts.{part, part_end, part_cons, part_none}
+use Rattle.swift_utils.proofs.Parts.{part}
 use Rattle.swift_utils.proofs.all_in.Given as goal
 
 abbrev pub invariant-loop-i : goal.invariant-loop-i

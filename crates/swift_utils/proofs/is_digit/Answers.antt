@@ -1,6 +1,5 @@
 -- `swift_utils::is_digit` meets its contract, by what the classes say. Assumes nothing.
 use mathlib.Core.Path.{◌∙◌}
-use borrow.Author.Rules.{rules}
 use Rattle.swift_utils.proofs.Classes.{class_digit}
 use Rattle.swift_utils.proofs.is_digit.Goals as goal
 

@@ -4,7 +4,6 @@ use mathlib.Core.List.{List}
 use Prim.Native.Nat.{ℕ}
 use lib.ListN.{get_or}
 use Rattle.swift_utils.specs.Classes.{has_bits}
-use borrow.Author.Rules.{rules}
 use Rattle.swift_utils.proofs.Table.{classes_at}
 use Rattle.swift_utils.proofs.is_in.Goals as goal
 

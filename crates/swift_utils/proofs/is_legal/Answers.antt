@@ -1,6 +1,5 @@
 -- `swift_utils::is_legal` meets its contract, by what the classes say. Assumes nothing.
 use mathlib.Core.Path.{◌∙◌}
-use borrow.Author.Rules.{rules}
 use Rattle.swift_utils.proofs.Classes.{class_legal}
 use Rattle.swift_utils.proofs.is_legal.Goals as goal
 

@@ -1,6 +1,5 @@
 -- `swift_utils::parse_account` meets its contract: the length says what comes of the bytes. Assumes nothing.
 use mathlib.Core.Path.{◌≡◌, sym, ◌∙◌, ap}
-use borrow.Author.Rules.{rules}
 use Rattle.errors.specs.declared.Outcome.{Outcome}
 use Rattle.errors.specs.Refusals.{told, ◌then◌}
 use Rattle.swift_utils.specs.Checks.{parse_swift_chars, parse_account}

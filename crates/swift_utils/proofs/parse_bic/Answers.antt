@@ -1,13 +1,11 @@
 -- `swift_utils::parse_bic` meets its contract: a case of the rule for each way through the tests. Assumes nothing.
 use mathlib.Core.Path.{◌≡◌, sym, ◌∙◌, ap}
-use mathlib.Core.Logic.{⊎_elim}
 use mathlib.Core.Bool.{Bool, true}
 use mathlib.Core.List.{List}
 use Prim.Native.Nat.{ℕ, ◌≤◌}
 use native.Mathlib.Omega.{arith}
 use lib.ListN.{length, take, drop}
 use lib.Seq.{length-take-le}
-use borrow.Author.Tests.{not-true, not-false}
 use Rattle.errors.specs.Refusals.{must}
 use Rattle.swift_utils.specs.Bytes.{all, letter, alphanumeric}
 use Rattle.swift_utils.specs.Classes.{entry_in}
@@ -15,7 +13,6 @@ use Rattle.swift_utils.specs.Checks.{bic_length, parse_bic}
 use Rattle.swift_utils.proofs.Classes.{class_letter, class_alphanumeric}
 use Rattle.swift_utils.proofs.Table.{by_entries}
 use Rattle.swift_utils.proofs.Checks.{bic_length_least, bic_length_other, bic_length_lem, bic_bank, bic_rest}
-use borrow.Author.Rules.{rules}
 use Rattle.swift_utils.proofs.Parts.{part, part_end}
 use Rattle.swift_utils.proofs.parse_bic.Goals as goal
 use Rattle.swift_utils.proofs.parse_bic.Goals.{then-input-eq-BIC_SHORT, else-input-eq-BIC_SHORT, After-all_in, Else-input-eq-BIC_SHORT, Else-not-all_in, Else-not-is_bic_length, Joined-input-eq-BIC_SHORT}
@@ -78,10 +75,10 @@ either : (c : Joined-input-eq-BIC_SHORT) {t : Bool} → c.if-input-eq-BIC_SHORT.
 either c e =
     let at = goal.at.Joined-input-eq-BIC_SHORT c in
     elim c.if-input-eq-BIC_SHORT.branch [
-      then-input-eq-BIC_SHORT w ↦ rest at.Else-not-all_in w.if-input-eq-BIC_SHORT.true (sym e ∙ w.is_rest_good-is ∙ w.all_in-is_rest_good.ensures)
-    | else-input-eq-BIC_SHORT w ↦
-        rest at.Else-not-all_in (bic_length_other _ (right at.Else-not-is_bic_length) w.if-input-eq-BIC_SHORT.false)
-        (sym e ∙ w.is_rest_good-is ∙ w.all_in-is_rest_good-else-input-eq-BIC_SHORT.ensures)
+      | then-input-eq-BIC_SHORT w ↦ rest at.Else-not-all_in w.if-input-eq-BIC_SHORT.true (sym e ∙ w.is_rest_good-is ∙ w.all_in-is_rest_good.ensures)
+      | else-input-eq-BIC_SHORT w ↦
+          rest at.Else-not-all_in (bic_length_other _ (right at.Else-not-is_bic_length) w.if-input-eq-BIC_SHORT.false)
+          (sym e ∙ w.is_rest_good-is ∙ w.all_in-is_rest_good-else-input-eq-BIC_SHORT.ensures)
     ]
 
 pub returns-then-is_rest_good : goal.returns-then-is_rest_good

@@ -7,7 +7,6 @@ use Rattle.swift_utils.specs.Checks.{parse_swift_chars}
 use Rattle.swift_utils.proofs.Classes.{class_legal}
 use Rattle.swift_utils.proofs.Table.{by_entries}
 use Rattle.swift_utils.proofs.Checks.{chars}
-use borrow.Author.Rules.{rules}
 use Rattle.swift_utils.proofs.parse_swift_chars.Goals as goal
 use Rattle.swift_utils.proofs.parse_swift_chars.Goals.{After-all_in}
 

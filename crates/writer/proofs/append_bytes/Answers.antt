@@ -1,6 +1,5 @@
 -- `writer::append_bytes` meets its contract: a slice that fits is copied. Assumes nothing.
 use mathlib.Core.Path.{refl, ◌∙◌}
-use borrow.Author.Rules.{rules}
 use Rattle.writer.proofs.Puts.{placed_fits}
 use Rattle.writer.proofs.append_bytes.Goals as goal
 

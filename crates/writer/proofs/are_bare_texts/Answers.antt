@@ -1,12 +1,10 @@
 -- `writer::are_bare_texts` meets its contract. Assumes nothing.
 use mathlib.Core.Path.{◌≡◌, refl, sym, ◌∙◌}
 use mathlib.Core.Bool.{false}
-use borrow.Author.Tests.{not-true, not-false}
 use Rattle.party.specs.declared.Party.{Party}
 use Rattle.record_bytes.specs.RecordBytes.{party_from}
 use Rattle.writer.specs.Code.{names_pass, texts_test}
 use Rattle.writer.proofs.Records.{none_pass, bare_by}
-use borrow.Author.Rules.{rules}
 use Rattle.writer.proofs.are_bare_texts.Goals as goal
 use Rattle.writer.proofs.are_bare_texts.Goals.{After-is_no_account, Else-is_taken}
 

@@ -1,11 +1,9 @@
 -- `writer::are_texts` meets its contract. Assumes nothing.
 use mathlib.Core.Path.{◌≡◌, sym, ◌∙◌, ap}
 use mathlib.Core.Bool.{Bool, true, ◌&&◌}
-use borrow.Author.Tests.{not-true, not-false}
 use Rattle.record_bytes.specs.RecordBytes.{party_from}
 use Rattle.writer.specs.Code.{names_pass, texts_test}
 use Rattle.writer.proofs.Records.{none_pass}
-use borrow.Author.Rules.{rules}
 use Rattle.writer.proofs.are_texts.Goals as goal
 use Rattle.writer.proofs.are_texts.Goals.{After-is_account, Else-not-is_account}
 

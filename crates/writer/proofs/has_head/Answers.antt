@@ -4,7 +4,6 @@ use mathlib.Core.Bool.{and-false, and-true}
 use native.Mathlib.Omega.{arith}
 use borrow.Author.Tests.{lt-ltb}
 use Rattle.party.specs.Limits.{limits_of}
-use borrow.Author.Rules.{rules}
 use Rattle.writer.proofs.has_head.Goals as goal
 
 pub returns-then-limits-eq0 : goal.returns-then-limits-eq0

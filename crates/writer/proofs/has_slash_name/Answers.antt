@@ -10,7 +10,6 @@ use Rattle.record_bytes.specs.RecordBytes.{party_from}
 use Rattle.record_bytes.proofs.Laws.{party_names}
 use Rattle.writer.specs.Code.{name_count, slash_name}
 use Rattle.writer.proofs.Names.{names_in, content_names, names_next, lent_count}
-use borrow.Author.Rules.{rules}
 use Rattle.writer.proofs.has_slash_name.Goals as goal
 use Rattle.writer.proofs.has_slash_name.Goals.{After-name_count}
 

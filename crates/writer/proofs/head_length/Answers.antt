@@ -1,10 +1,8 @@
 -- `writer::head_length` meets its contract. Assumes nothing.
 use mathlib.Core.Path.{ap}
 use native.Mathlib.Omega.{arith}
-use borrow.Author.Tests.{not-true, not-false}
 use lib.ListN.{length, length-append}
 use Rattle.record_bytes.specs.RecordBytes.{party_from}
-use borrow.Author.Rules.{rules}
 use Rattle.writer.proofs.head_length.Goals as goal
 
 pub returns-then-not-written : goal.returns-then-not-written

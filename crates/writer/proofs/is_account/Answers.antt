@@ -4,7 +4,6 @@ use mathlib.Core.Bool.{Bool, true, not, ◌&&◌}
 use mathlib.Core.List.{List, [], ◌∷◌}
 use Prim.Native.Nat.{ℕ}
 use native.Mathlib.Omega.{arith}
-use borrow.Author.Tests.{not-true, not-false}
 use Rattle.party.specs.declared.Text.{Text}
 use Rattle.party.specs.Limits.{limits_of}
 use Rattle.party.specs.Text.{used}
@@ -15,7 +14,6 @@ use Rattle.writer.specs.Given.{passes, every, text_reply, is_account}
 use Rattle.writer.specs.Code.{line_reply}
 use Rattle.writer.proofs.Texts.{text_whole, line_whole}
 use Rattle.writer.proofs.Records.{every_none, every_one}
-use borrow.Author.Rules.{rules}
 use Rattle.writer.proofs.is_account.Goals as goal
 use Rattle.writer.proofs.is_account.Goals.{After-is_whole}
 

@@ -3,7 +3,6 @@ use mathlib.Core.Path.{◌≡◌, sym, ◌∙◌, ap}
 use mathlib.Core.Bool.{Bool, true, not, ◌&&◌, and-false}
 use mathlib.Core.List.{List}
 use Prim.Native.Nat.{ℕ}
-use borrow.Author.Tests.{not-true, not-false}
 use Rattle.errors.specs.Refusals.{Reply}
 use Rattle.party.specs.declared.PartyOption.{PartyOption}
 use Rattle.party.specs.declared.First.TheVariants.{AnyAccount}
@@ -18,7 +17,6 @@ use Rattle.writer.specs.Code.{line_reply}
 use Rattle.writer.proofs.Ascii.{all_legal}
 use Rattle.writer.proofs.Texts.{all_plain}
 use Rattle.writer.proofs.Records.{line_by, any_account}
-use borrow.Author.Rules.{rules}
 use Rattle.writer.proofs.is_any_account.Goals as goal
 use Rattle.writer.proofs.is_any_account.Goals.{After-is_accepted}
 

@@ -4,7 +4,6 @@ use mathlib.Core.Bool.{Bool, not, ◌&&◌}
 use mathlib.Core.List.{List, [], ◌∷◌}
 use Prim.Native.Nat.{ℕ}
 use native.Mathlib.Omega.{arith}
-use borrow.Author.Tests.{not-true, not-false}
 use Rattle.party.specs.declared.Text.{Text}
 use Rattle.party.specs.Limits.{limits_of}
 use Rattle.party.specs.Text.{used}
@@ -16,7 +15,6 @@ use Rattle.writer.specs.Given.{passes, every, is_bic}
 use Rattle.writer.proofs.Texts.{text_whole, line_whole}
 use Rattle.writer.proofs.Records.{every_none, every_one}
 use Rattle.writer.proofs.Necessary.{bic_line_lem}
-use borrow.Author.Rules.{rules}
 use Rattle.writer.proofs.is_bic.Goals as goal
 use Rattle.writer.proofs.is_bic.Goals.{After-is_whole}
 

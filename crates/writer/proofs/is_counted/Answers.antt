@@ -17,7 +17,6 @@ use Rattle.record_bytes.proofs.Laws.{party_names}
 use Rattle.writer.specs.Given.{passes}
 use Rattle.writer.specs.Code.{name_count, count_test}
 use Rattle.writer.proofs.Names.{names_in, content_names, names_length_lem, lent_limits, lent_count}
-use borrow.Author.Rules.{rules}
 use Rattle.writer.proofs.is_counted.Goals as goal
 use Rattle.writer.proofs.is_counted.Goals.{After-name_count-n}
 

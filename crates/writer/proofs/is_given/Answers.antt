@@ -11,7 +11,6 @@ use Rattle.record_bytes.proofs.Laws.{party_names}
 use Rattle.writer.specs.Given.{is_presence, is_given}
 use Rattle.writer.specs.Code.{texts_test}
 use Rattle.writer.proofs.Records.{given_in_order}
-use borrow.Author.Rules.{rules}
 use borrow.Author.Tests.{eq-eqb, ne_eqb}
 use Rattle.writer.proofs.is_given.Goals as goal
 use Rattle.writer.proofs.is_given.Goals.{After-is_counted, After-is_presence, Else-not-is_presence}

@@ -1,14 +1,12 @@
 -- `writer::is_identifier` meets its contract: no LF, then what follows the first slash. Assumes nothing.
 use mathlib.Core.Path.{◌≡◌, sym, ◌∙◌, ap}
 use mathlib.Core.Bool.{Bool, not}
-use borrow.Author.Tests.{not-true, not-false}
 use Rattle.party.specs.declared.Limits.{Limits}
 use Rattle.party.specs.declared.First.TheVariants.{Identified}
 use Rattle.swift_utils.specs.Bytes.{among}
 use Rattle.field_utils.specs.Identifier.{identifier_reply}
 use Rattle.writer.specs.Given.{passes, text_reply}
 use Rattle.writer.proofs.Records.{line_by}
-use borrow.Author.Rules.{rules}
 use Rattle.writer.proofs.is_identifier.Goals as goal
 use Rattle.writer.proofs.is_identifier.Goals.{After-is_one_line}
 

@@ -6,14 +6,12 @@ use mathlib.Core.List.{List}
 use native.Mathlib.Omega.{arith}
 use lib.Dec.{eqb}
 use lib.ListN.{length, get_or}
-use borrow.Author.Tests.{not-true, not-false}
 use Rattle.party.specs.declared.Numbering.{Numbering}
 use Rattle.swift_utils.specs.Classes.{has_bits}
 use Rattle.swift_utils.proofs.Classes.{class_digit}
 use Rattle.swift_utils.proofs.Table.{classes_at}
 use Rattle.field_utils.proofs.NameLines.{numbered_room}
 use Rattle.writer.proofs.Records.{in_turn, turn_kept, turn_written}
-use borrow.Author.Rules.{rules}
 use Rattle.writer.proofs.is_in_turn.Goals as goal
 use Rattle.writer.proofs.is_in_turn.Goals.{After-is_numbered_line, Else-not-is_numbered_line}
 

@@ -3,7 +3,6 @@ use Prim.Native.Nat.{ℕ, ◌+◌, ◌-◌}
 use mathlib.Core.Path.{◌≡◌, sym, ◌∙◌, ap}
 use mathlib.Core.Bool.{Bool, not, ◌&&◌}
 use native.Mathlib.Omega.{arith}
-use borrow.Author.Tests.{not-true, not-false}
 use lib.ListN.{length, drop, get_or, length-drop}
 use Rattle.party.specs.Text.{Used, used}
 use Rattle.swift_utils.specs.Bytes.{all, among}
@@ -15,7 +14,6 @@ use Rattle.writer.specs.Given.{is_line}
 use Rattle.writer.specs.Code.{number_in}
 use Rattle.writer.proofs.Texts.{text_whole, line_whole}
 use Rattle.writer.proofs.Records.{in_turn, turn_room, name_not_line, name_not_turn, name_long, name_bytes}
-use borrow.Author.Rules.{rules}
 use Rattle.writer.proofs.is_name.Goals as goal
 use Rattle.writer.proofs.is_name.Goals.{After-is_in_turn, After-is_whole, After-number_length, Start}
 

@@ -9,7 +9,6 @@ use Rattle.record_bytes.specs.RecordBytes.{text_at, party_from}
 use Rattle.record_bytes.proofs.Laws.{text_length_lem}
 use Rattle.writer.specs.Given.{is_account}
 use Rattle.writer.proofs.Records.{every_none, every_one, empty_line}
-use borrow.Author.Rules.{rules}
 use Rattle.writer.proofs.is_no_account.Goals as goal
 
 pub returns-then-limits-eq0 : goal.returns-then-limits-eq0

@@ -4,7 +4,6 @@ use native.Mathlib.Nat.{zero-add}
 use lib.Dec.{leb}
 use lib.ListN.{length}
 use Rattle.writer.proofs.Texts.{no_lf}
-use borrow.Author.Rules.{rules}
 use Rattle.writer.proofs.is_one_line.Goals as goal
 
 pub returns : goal.returns

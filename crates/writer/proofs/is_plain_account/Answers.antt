@@ -1,14 +1,12 @@
 -- `writer::is_plain_account` meets its contract: the length, then the class of each byte. Assumes nothing.
 use mathlib.Core.Path.{◌≡◌, sym, ◌∙◌, ap}
 use mathlib.Core.Bool.{Bool}
-use borrow.Author.Tests.{not-true, not-false}
 use Rattle.swift_utils.specs.Classes.{plain}
 use Rattle.swift_utils.proofs.Classes.{class_plain}
 use Rattle.swift_utils.proofs.Table.{by_entries}
 use Rattle.reader.specs.Options.{length_reply}
 use Rattle.writer.specs.Given.{passes}
 use Rattle.writer.proofs.Records.{plain_account}
-use borrow.Author.Rules.{rules}
 use Rattle.writer.proofs.is_plain_account.Goals as goal
 use Rattle.writer.proofs.is_plain_account.Goals.{After-is_accepted}
 

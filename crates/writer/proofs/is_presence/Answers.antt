@@ -2,7 +2,6 @@
 use mathlib.Core.Path.{ap}
 use lib.Dec.{ltb, eqb}
 use Rattle.party.specs.declared.Limits.{Limits}
-use borrow.Author.Rules.{rules}
 use Rattle.writer.proofs.is_presence.Goals as goal
 
 pub returns-then-present : goal.returns-then-present

@@ -9,7 +9,6 @@ use Rattle.party.specs.declared.Limits.{Limits}
 use Rattle.record_bytes.specs.RecordBytes.{party_from}
 use Rattle.writer.specs.Given.{is_taken}
 use Rattle.writer.proofs.Records.{taken_account, taken_short}
-use borrow.Author.Rules.{rules}
 use Rattle.writer.proofs.is_taken.Goals as goal
 use Rattle.writer.proofs.is_taken.Goals.{After-limits_of-limits}
 

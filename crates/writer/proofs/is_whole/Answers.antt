@@ -1,12 +1,9 @@
 -- `writer::is_whole` meets its contract. Assumes nothing.
-use Prim.Native.Nat.{ℕ, ◌+◌, ◌*◌}
+use Prim.Native.Nat.{ℕ}
 use mathlib.Core.Path.{sym, ap}
-use native.Mathlib.Omega.{arith}
 use lib.Dec.{leb}
 use Rattle.party.specs.Text.{text_most}
-use Rattle.record_bytes.specs.RecordBytes.{text_size}
 use Rattle.record_bytes.proofs.Laws.{text_length_lem}
-use borrow.Author.Rules.{rules}
 use Rattle.writer.proofs.is_whole.Goals as goal
 
 pub returns : goal.returns

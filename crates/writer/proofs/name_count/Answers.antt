@@ -2,7 +2,6 @@
 use mathlib.Core.Path.{sym}
 use native.Mathlib.Omega.{arith}
 use Rattle.writer.proofs.Names.{count_none, count_some}
-use borrow.Author.Rules.{rules}
 use Rattle.writer.proofs.name_count.Goals as goal
 
 pub returns-then-limits-eq0 : goal.returns-then-limits-eq0

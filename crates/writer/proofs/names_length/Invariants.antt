@@ -1,24 +1,13 @@
 -- `writer::names_length` meets its contract. The loop's invariant: the total so far and the length of what is left make the length of all
 -- names. Assumes nothing.
-use Prim.Native.Nat.{ℕ, ◌+◌, ◌*◌, ◌-◌, ◌≤◌}
-use mathlib.Core.Path.{◌≡◌, ◌∙◌, ap}
-use mathlib.Core.List.{List}
-use native.Mathlib.Numerals.{add-one}
-use native.Mathlib.Omega.{arith}
+use Prim.Native.Nat.{◌+◌, ◌*◌, ◌-◌, ◌≤◌}
+use mathlib.Core.Path.{◌≡◌}
 use lib.ListN.{length, drop}
-use Rattle.party.specs.declared.Party.{Party}
-use Rattle.party.specs.declared.Text.{Text}
 use Rattle.party.specs.Limits.{limits_of}
-use Rattle.party.specs.Text.{used}
-use Rattle.party.specs.declared.Limits.{Limits}
-use Rattle.party.specs.declared.Numbering.{Numbering}
-use Rattle.field_utils.specs.Names.{dropped_prefix}
 use Rattle.record_bytes.specs.RecordBytes.{party_from}
-use Rattle.record_bytes.proofs.Laws.{party_names, party_name}
 use Rattle.writer.specs.Writing.{name_lines}
-use Rattle.writer.specs.Code.{led, name_count}
-use Rattle.writer.proofs.Names.{names_in, few as names-few, marks_most, content_lines, left_length, left_end, lent_limits, lent_count}
-use borrow.Author.Rules.{rules}
+use Rattle.writer.specs.Code.{led}
+use Rattle.writer.proofs.Names.{names_in}
 use Rattle.writer.proofs.names_length.Given as goal
 
 abbrev pub invariant-loop-i : goal.invariant-loop-i

@@ -1,6 +1,5 @@
 -- `writer::number_length` meets its contract: no more of a number is left out than there is. Assumes nothing.
 use native.Mathlib.Omega.{arith}
-use borrow.Author.Rules.{rules}
 use Rattle.field_utils.proofs.NameLines.{kept_least}
 use Rattle.writer.proofs.number_length.Goals as goal
 

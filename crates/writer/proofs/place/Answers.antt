@@ -3,7 +3,6 @@ use mathlib.Core.Path.{◌∙◌, ap}
 use mathlib.Core.List.{List}
 use Prim.Native.Nat.{ℕ}
 use native.Mathlib.Nat.{le_refl}
-use borrow.Author.Rules.{rules}
 use Rattle.party.specs.Party.{content}
 use Rattle.party.proofs.Values.{is_party}
 use Rattle.record_bytes.specs.RecordBytes.{record_size, decoded}

@@ -1,7 +1,6 @@
 -- `writer::place_record` meets its contract: it measures for itself. Assumes nothing.
 use mathlib.Core.Path.{◌≡◌, sym, ◌∙◌, ap}
 use native.Mathlib.Omega.{arith}
-use borrow.Author.Rules.{rules}
 use Rattle.party.specs.Party.{Content, content}
 use Rattle.record_bytes.specs.RecordBytes.{decoded}
 use Rattle.writer.specs.declared.Measured.{Measured}

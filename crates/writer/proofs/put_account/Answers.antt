@@ -1,13 +1,11 @@
 -- `writer::put_account` meets its contract: slash and text are put one after the other. Assumes nothing.
 use Prim.Native.Nat.{◌+◌, ◌≤◌}
 use mathlib.Core.List.{◌++◌}
-use borrow.Author.Tests.{not-true, not-false}
 use lib.ListN.{length}
 use Rattle.party.specs.Text.{used}
 use Rattle.record_bytes.specs.RecordBytes.{text_at, party_from}
 use Rattle.writer.specs.Writing.{slash_of}
 use Rattle.writer.proofs.Puts.{puts_none, puts_as, space, space_first, both}
-use borrow.Author.Rules.{rules}
 use Rattle.writer.proofs.put_account.Goals as goal
 use Rattle.writer.proofs.put_account.Goals.{Else-not-written}
 

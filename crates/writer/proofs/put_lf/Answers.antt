@@ -3,7 +3,6 @@ use Prim.Native.Nat.{◌+◌, ◌≤◌, ◌<◌}
 use native.Mathlib.Omega.{arith}
 use lib.ListN.{length}
 use Rattle.writer.proofs.Puts.{puts_none, puts_byte}
-use borrow.Author.Rules.{rules}
 use Rattle.writer.proofs.put_lf.Goals as goal
 use Rattle.writer.proofs.put_lf.Goals.{Then-later}
 

@@ -5,7 +5,6 @@ use lib.ListN.{length}
 use Rattle.writer.specs.Writing.{number_of}
 use Rattle.writer.specs.Code.{lead}
 use Rattle.writer.proofs.Puts.{space, space_first, both}
-use borrow.Author.Rules.{rules}
 use Rattle.writer.proofs.put_line.Goals as goal
 use Rattle.writer.proofs.put_line.Goals.{After-put_lf-start}
 

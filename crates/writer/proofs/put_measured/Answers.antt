@@ -5,8 +5,6 @@ use mathlib.Core.List.{List}
 use Prim.Native.Nat.{ℕ}
 use native.Mathlib.Omega.{arith}
 use lib.ListN.{length}
-use borrow.Author.Rules.{rules}
-use borrow.Author.Tests.{not-true, not-false}
 use Rattle.party.specs.declared.Party.{Party}
 use Rattle.party.specs.Party.{blank, content}
 use Rattle.record_bytes.specs.RecordBytes.{holds_record, party_from}

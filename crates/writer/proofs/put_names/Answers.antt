@@ -1,5 +1,5 @@
 -- `writer::put_names` meets its contract. The loop's invariant: the names passed are put, and the others are left. Assumes nothing.
-use Prim.Native.Nat.{ℕ, suc, ◌+◌, ◌-◌, ◌≤◌, ◌<◌}
+use Prim.Native.Nat.{ℕ, suc, ◌+◌, ◌≤◌, ◌<◌}
 use mathlib.Core.Path.{◌≡◌, ap}
 use mathlib.Core.Bool.{true}
 use mathlib.Core.List.{List, ◌++◌}
@@ -16,8 +16,7 @@ use Rattle.record_bytes.proofs.Laws.{party_names, party_name, party_digit}
 use Rattle.writer.specs.Writing.{number_of, name_lines}
 use Rattle.writer.specs.Code.{lead, led, name_count}
 use Rattle.writer.proofs.Names.{names_in, few as names-few, content_lines, left_next, left_end, lent_limits, lent_count}
-use Rattle.writer.proofs.Puts.{Partway, begun, finished, kept, next, next_space}
-use borrow.Author.Rules.{rules}
+use Rattle.writer.proofs.Puts.{Partway, begun, finished, next, next_space}
 use Rattle.writer.proofs.put_names.Goals as goal
 use Rattle.writer.proofs.put_names.Goals.{At-loop-i}
 

@@ -1,23 +1,12 @@
 -- `writer::put_names` meets its contract. The loop's invariant: the names passed are put, and the others are left. Assumes nothing.
-use Prim.Native.Nat.{ℕ, suc, ◌+◌, ◌-◌, ◌≤◌, ◌<◌}
-use mathlib.Core.Path.{◌≡◌, ap}
-use mathlib.Core.Bool.{true}
-use mathlib.Core.List.{List, ◌++◌}
-use native.Mathlib.Numerals.{add-one}
-use native.Mathlib.Omega.{arith}
-use lib.ListN.{length, drop, get_or}
-use Rattle.party.specs.declared.Party.{Party}
-use Rattle.party.specs.Text.{used}
-use Rattle.party.specs.declared.Numbering.{Numbering}
+use Prim.Native.Nat.{◌-◌, ◌≤◌}
+use lib.ListN.{drop}
 use Rattle.party.specs.Limits.{limits_of}
-use Rattle.party.specs.declared.Limits.{Limits}
-use Rattle.record_bytes.specs.RecordBytes.{digits_at, text_at, party_from}
-use Rattle.record_bytes.proofs.Laws.{party_names, party_name, party_digit}
-use Rattle.writer.specs.Writing.{number_of, name_lines}
-use Rattle.writer.specs.Code.{lead, led, name_count}
-use Rattle.writer.proofs.Names.{names_in, few as names-few, content_lines, left_next, left_end, lent_limits, lent_count}
-use Rattle.writer.proofs.Puts.{Partway, begun, finished, kept, next, next_space}
-use borrow.Author.Rules.{rules}
+use Rattle.record_bytes.specs.RecordBytes.{party_from}
+use Rattle.writer.specs.Writing.{name_lines}
+use Rattle.writer.specs.Code.{led}
+use Rattle.writer.proofs.Names.{names_in}
+use Rattle.writer.proofs.Puts.{Partway}
 use Rattle.writer.proofs.put_names.Given as goal
 
 abbrev pub invariant-loop-i : goal.invariant-loop-i

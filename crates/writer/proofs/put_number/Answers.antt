@@ -3,9 +3,8 @@ use Prim.Native.Nat.{◌+◌, ◌≤◌}
 use mathlib.Core.Path.{refl}
 use mathlib.Core.List.{[], ◌∷◌}
 use native.Mathlib.Omega.{arith}
-use lib.ListN.{length, length-set}
+use lib.ListN.{length}
 use Rattle.writer.proofs.Puts.{puts_none, puts_stores}
-use borrow.Author.Rules.{rules}
 use Rattle.writer.proofs.put_number.Goals as goal
 use Rattle.writer.proofs.put_number.Goals.{In-Numbered}
 

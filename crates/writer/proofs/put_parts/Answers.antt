@@ -11,7 +11,6 @@ use Rattle.writer.specs.Writing.{written_field}
 use Rattle.writer.specs.Code.{head_of, rest_on}
 use Rattle.writer.proofs.Fields.{lent_parts}
 use Rattle.writer.proofs.Puts.{space, space_first, both}
-use borrow.Author.Rules.{rules}
 use Rattle.writer.proofs.put_parts.Goals as goal
 use Rattle.writer.proofs.put_parts.Goals.{After-has_head-later, After-put_tag-head}
 

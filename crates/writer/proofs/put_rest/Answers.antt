@@ -9,7 +9,6 @@ use Rattle.writer.specs.Code.{lead, names_on, rest_on}
 use Rattle.writer.proofs.Fields.{rest_names, rest_bic}
 use Rattle.writer.proofs.Names.{lent_limits}
 use Rattle.writer.proofs.Puts.{space, space_first, both, puts_as}
-use borrow.Author.Rules.{rules}
 use Rattle.writer.proofs.put_rest.Goals as goal
 use Rattle.writer.proofs.put_rest.Goals.{Else-limits-eq0, Then-limits-eq0}
 

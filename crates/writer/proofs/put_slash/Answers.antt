@@ -7,7 +7,6 @@ use lib.ListN.{length}
 use Rattle.writer.specs.Writing.{slash_of}
 use Rattle.writer.proofs.Fields.{slash_here, slash_none}
 use Rattle.writer.proofs.Puts.{puts_none, puts_byte}
-use borrow.Author.Rules.{rules}
 use Rattle.writer.proofs.put_slash.Goals as goal
 use Rattle.writer.proofs.put_slash.Goals.{Then-limits}
 

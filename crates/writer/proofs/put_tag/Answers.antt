@@ -8,7 +8,6 @@ use Rattle.party.specs.declared.Limits.{Limits}
 use Rattle.field_utils.specs.Tags.{tag_of}
 use Rattle.writer.proofs.Fields.{tag_plain, tag_lettered, tag_sizes}
 use Rattle.writer.proofs.Puts.{puts_as, puts_stores}
-use borrow.Author.Rules.{rules}
 use Rattle.writer.proofs.put_tag.Goals as goal
 use Rattle.writer.proofs.put_tag.Goals.{After-limits_of-limits, Else-letter-eq0}
 

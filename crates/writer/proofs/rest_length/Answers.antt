@@ -5,7 +5,6 @@ use lib.ListN.{length, length-append}
 use Rattle.record_bytes.specs.RecordBytes.{party_from}
 use Rattle.writer.proofs.Fields.{rest_names, rest_bic}
 use Rattle.writer.proofs.Names.{lent_limits}
-use borrow.Author.Rules.{rules}
 use Rattle.writer.proofs.rest_length.Goals as goal
 
 pub returns-then-limits-eq0 : goal.returns-then-limits-eq0

@@ -2,7 +2,6 @@
 use mathlib.Core.Path.{ap}
 use lib.ListN.{length}
 use Rattle.writer.proofs.Fields.{tag_plain, tag_lettered}
-use borrow.Author.Rules.{rules}
 use Rattle.writer.proofs.tag_length.Goals as goal
 
 pub returns-then-limits-eq0 : goal.returns-then-limits-eq0

@@ -6,7 +6,6 @@ use lib.ListN.{get_or}
 use Rattle.party.specs.Text.{text_most}
 use Rattle.record_bytes.specs.RecordBytes.{text_size}
 use Rattle.writer.proofs.Texts.{all_used, part_used}
-use borrow.Author.Rules.{rules}
 use Rattle.writer.proofs.used_text.Goals as goal
 
 pub returns-then-len-gt-TEXT_MOST : goal.returns-then-len-gt-TEXT_MOST

@@ -2,7 +2,6 @@
 use native.Mathlib.Omega.{arith}
 use lib.ListN.{length-append}
 use Rattle.writer.proofs.Fields.{lent_parts, tag_most}
-use borrow.Author.Rules.{rules}
 use Rattle.writer.proofs.written_length.Goals as goal
 
 pub overflow_add-result : goal.overflow_add-result

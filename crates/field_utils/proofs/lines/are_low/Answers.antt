@@ -1,9 +1,9 @@
 -- `lines::are_low` meets its contract: the test of all is that of the bytes left. Assumes nothing.
-use Rattle.std.proofs.Common.{◌≡◌, ◌-◌, length, sym, ap, ◌∙◌, arith, le-leb}
+use Rattle.std.proofs.Common.{length, sym, ap, ◌∙◌, arith, le-leb}
 use borrow.Author.Tests.{lt-leb}
 use Rattle.swift_utils.specs.Bytes.{all}
 use Rattle.swift_utils.proofs.Classes.{all_fails, all_passes, all_done}
-use Rattle.swift_utils.proofs.Parts.{part, part_end}
+use Rattle.swift_utils.proofs.Parts.{part_end}
 use Rattle.field_utils.proofs.AllBytes.{low}
 use Rattle.field_utils.proofs.lines.are_low.Goals as goal
 

@@ -1,6 +1,5 @@
 -- `lines::count_lines` meets its contract: the lines counted and those left are all of them. Assumes nothing.
-use Rattle.std.proofs.Common.{◌≡◌, ◌+◌, ◌-◌, ◌≤◌, length, drop, ap, arith, rules}
-use Rattle.field_utils.specs.Lines.{lines}
+use Rattle.std.proofs.Common.{length, ap, arith}
 use Rattle.field_utils.proofs.Places.{Found, found}
 use Rattle.field_utils.proofs.lines.count_lines.Goals as goal
 use Rattle.field_utils.proofs.lines.count_lines.Goals.{In-Next}

@@ -1,7 +1,6 @@
 -- `lines::count_lines` meets its contract: the lines counted and those left are all of them. Assumes nothing.
-use Rattle.std.proofs.Common.{◌≡◌, ◌+◌, ◌-◌, ◌≤◌, length, drop, ap, arith, rules}
+use Rattle.std.proofs.Common.{◌≡◌, ◌+◌, ◌-◌, ◌≤◌, length, drop}
 use Rattle.field_utils.specs.Lines.{lines}
-use Rattle.field_utils.proofs.Places.{Found, found}
 use Rattle.field_utils.proofs.lines.count_lines.Given as goal
 
 abbrev pub invariant-loop-rest : goal.invariant-loop-rest

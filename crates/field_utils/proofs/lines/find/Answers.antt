@@ -1,6 +1,5 @@
 -- `lines::find` meets its contract: while other bytes pass, the place found from the start is the one found from there. Assumes nothing.
-use Rattle.std.proofs.Common.{◌≡◌, ◌+◌, ◌-◌, length, drop, refl, arith}
-use Rattle.field_utils.specs.Lines.{upto}
+use Rattle.std.proofs.Common.{refl, arith}
 use Rattle.field_utils.proofs.Places.{upto_here, upto_next, upto_done}
 use Rattle.field_utils.proofs.lines.find.Goals as goal
 

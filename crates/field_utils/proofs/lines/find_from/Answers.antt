@@ -1,5 +1,5 @@
 -- `lines::find_from` meets its contract: the part from a place on is what is left there. Assumes nothing.
-use Rattle.std.proofs.Common.{◌≡◌, ℕ, List, drop, ap, ◌∙◌, arith, length-drop, rules}
+use Rattle.std.proofs.Common.{◌≡◌, ℕ, List, drop, ap, ◌∙◌, arith, length-drop}
 use Rattle.swift_utils.proofs.Parts.{part_end}
 use Rattle.field_utils.specs.Lines.{upto}
 use Rattle.field_utils.proofs.Places.{upto_length}

@@ -1,5 +1,5 @@
 -- `lines::find_lf` meets its contract: an LF that is near is the first; where there is none, what is near is passed, and then the blocks. Assumes nothing.
-use Rattle.std.proofs.Common.{◌≡◌, ℕ, ◌+◌, ◌-◌, List, take, drop, sym, refl, ap, ◌∙◌, arith, length-take, rules}
+use Rattle.std.proofs.Common.{◌≡◌, ℕ, ◌+◌, ◌-◌, List, take, drop, sym, refl, ap, ◌∙◌, arith, length-take}
 use Rattle.field_utils.specs.Lines.{upto}
 use Rattle.field_utils.proofs.Places.{upto_length, upto_done}
 use Rattle.field_utils.proofs.Passing.{part_of, passed_part}

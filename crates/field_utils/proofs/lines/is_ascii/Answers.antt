@@ -1,8 +1,7 @@
 -- `lines::is_ascii` meets its contract: a word of low bytes is passed, and the last word says what is left to say. Assumes nothing.
-use Rattle.std.proofs.Common.{◌≡◌, ℕ, ◌-◌, ◌≤◌, Bool, List, length, take, drop, sym, ap, ◌∙◌, arith, length-drop, take_all, rules}
-use borrow.Author.Tests.{not-true, not-false}
+use Rattle.std.proofs.Common.{◌≡◌, ℕ, ◌-◌, Bool, List, length, take, drop, sym, ap, ◌∙◌, arith, length-drop, take_all}
 use Rattle.swift_utils.specs.Bytes.{all}
-use Rattle.field_utils.proofs.AllBytes.{low, all_first, Says, says_none, says_more}
+use Rattle.field_utils.proofs.AllBytes.{low, all_first, says_none, says_more}
 use Rattle.field_utils.proofs.lines.is_ascii.Goals as goal
 use Rattle.field_utils.proofs.lines.is_ascii.Goals.{After-is_low}
 

@@ -1,5 +1,5 @@
 -- `lines::line_end` meets its contract, by the byte before its end. Assumes nothing.
-use Rattle.std.proofs.Common.{◌≡◌, ◌-◌, true, false, arith, rules, eq-eqb, ne_eqb}
+use Rattle.std.proofs.Common.{◌≡◌, ◌-◌, true, false, arith, eq-eqb, ne_eqb}
 use Rattle.field_utils.specs.Lines.{without_cr}
 use Rattle.field_utils.proofs.Places.{line_end_lem}
 use Rattle.field_utils.proofs.lines.line_end.Goals as goal

@@ -1,7 +1,5 @@
 -- `lines::pass_blocks` meets its contract: a block that is seen to be clear is passed. Assumes nothing.
-use Rattle.std.proofs.Common.{◌-◌, length, refl, arith}
-use borrow.Author.Tests.{not-false}
-use Rattle.field_utils.specs.Words.{Passed}
+use Rattle.std.proofs.Common.{refl, arith}
 use Rattle.field_utils.proofs.Passing.{passed_none, passed_more}
 use Rattle.field_utils.proofs.lines.pass_blocks.Goals as goal
 

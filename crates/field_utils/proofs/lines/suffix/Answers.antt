@@ -1,5 +1,5 @@
 -- `lines::suffix` meets its contract. Assumes nothing.
-use Rattle.std.proofs.Common.{sym, arith, drop_of_length-le, rules}
+use Rattle.std.proofs.Common.{sym, arith, drop_of_length-le}
 use Rattle.swift_utils.proofs.Parts.{part_end}
 use Rattle.field_utils.proofs.lines.suffix.Goals as goal
 

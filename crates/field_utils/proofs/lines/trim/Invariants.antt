@@ -1,9 +1,6 @@
 -- `lines::trim` meets its contract: while bytes are taken away, the trimmed start is that of the part after them. Assumes nothing.
-use Rattle.std.proofs.Common.{◌≡◌, ◌-◌, length, drop, sym, refl, ap, ◌∙◌, arith, rules}
-use borrow.Author.Tests.{not-true, not-false}
-use Rattle.swift_utils.proofs.Parts.{part_end}
-use Rattle.field_utils.specs.Trim.{trimmed, trimmed_start, trimmed_end}
-use Rattle.field_utils.proofs.Trims.{start_more, start_there, start_none}
+use Rattle.std.proofs.Common.{◌≡◌, ◌-◌, length, drop}
+use Rattle.field_utils.specs.Trim.{trimmed_start}
 use Rattle.field_utils.proofs.lines.trim.Given as goal
 
 abbrev pub invariant-loop-start : goal.invariant-loop-start

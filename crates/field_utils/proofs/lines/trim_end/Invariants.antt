@@ -1,9 +1,6 @@
 -- `lines::trim_end` meets its contract: while bytes are taken away, the trimmed text is that of the part before them. Assumes nothing.
-use Rattle.std.proofs.Common.{◌≡◌, ◌≤◌, length, take, sym, refl, ◌∙◌, arith, length-take-le, rules}
-use lib.Seq.{take-length}
-use borrow.Author.Tests.{not-true, not-false}
+use Rattle.std.proofs.Common.{◌≡◌, ◌≤◌, length, take}
 use Rattle.field_utils.specs.Trim.{trimmed_end}
-use Rattle.field_utils.proofs.Trims.{end_less, end_there}
 use Rattle.field_utils.proofs.lines.trim_end.Given as goal
 
 abbrev pub invariant-loop-end : goal.invariant-loop-end

@@ -1,5 +1,5 @@
 -- `lines::without_cr` meets its contract: it is the part up to where the line ends. Assumes nothing.
-use Rattle.std.proofs.Common.{◌≡◌, ℕ, ◌-◌, List, length, take, sym, ap, ◌∙◌, arith, length-take-le, take_all, rules}
+use Rattle.std.proofs.Common.{◌≡◌, ℕ, ◌-◌, List, length, take, sym, ap, ◌∙◌, arith, length-take-le, take_all}
 use Rattle.field_utils.specs.Lines.{without_cr}
 use Rattle.field_utils.proofs.Places.{without_cr_part, without_cr_short}
 use Rattle.field_utils.proofs.lines.without_cr.Goals as goal

@@ -1,5 +1,5 @@
 -- `words::is_clear` meets its contract: while no word that was seen has a highest bit, none of them has an LF. Assumes nothing.
-use Rattle.std.proofs.Common.{◌≡◌, ℕ, ◌+◌, ◌-◌, ◌%◌, ◌≤◌, sym, ap, ◌∙◌, subst, arith, rules, eqb-true}
+use Rattle.std.proofs.Common.{◌≡◌, ℕ, ◌+◌, sym, ap, ◌∙◌, subst, arith, eqb-true}
 use lib.Bits.{bit_and, bit_or, or_comm}
 use Rattle.field_utils.specs.Lines.{upto}
 use Rattle.field_utils.specs.Words.{every, Passed}

@@ -1,10 +1,7 @@
 -- `words::is_clear` meets its contract: while no word that was seen has a highest bit, none of them has an LF. Assumes nothing.
-use Rattle.std.proofs.Common.{◌≡◌, ℕ, ◌+◌, ◌-◌, ◌%◌, ◌≤◌, sym, ap, ◌∙◌, subst, arith, rules, eqb-true}
-use lib.Bits.{bit_and, bit_or, or_comm}
-use Rattle.field_utils.specs.Lines.{upto}
+use Rattle.std.proofs.Common.{◌≡◌, ◌+◌, ◌-◌, ◌%◌, ◌≤◌}
+use lib.Bits.{bit_and}
 use Rattle.field_utils.specs.Words.{every, Passed}
-use Rattle.field_utils.proofs.FirstLf.{clear_or, clear_word}
-use Rattle.field_utils.proofs.Passing.{passed_none, passed_more, passed_part}
 use Rattle.field_utils.proofs.words.is_clear.Given as goal
 
 abbrev pub invariant-loop-i : goal.invariant-loop-i

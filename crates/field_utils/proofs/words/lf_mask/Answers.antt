@@ -1,5 +1,5 @@
 -- `words::lf_mask` meets its contract. Assumes nothing.
-use Rattle.std.proofs.Common.{ℕ, ◌-◌, ◌^◌, ap, rules}
+use Rattle.std.proofs.Common.{ℕ, ◌-◌, ◌^◌, ap}
 use lib.Bits.{bit_and}
 use Rattle.field_utils.specs.Words.{every, flipped}
 use Rattle.field_utils.proofs.words.lf_mask.Goals as goal

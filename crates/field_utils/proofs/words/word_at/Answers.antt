@@ -1,5 +1,5 @@
 -- `words::word_at` meets its contract: its bytes are those of the part. Assumes nothing.
-use Rattle.std.proofs.Common.{◌≡◌, ℕ, ◌+◌, ◌-◌, ◌<◌, length, get_or, take, drop, sym, ap, ◌∙◌, subst, arith, length-drop, length-take-le, get_or-drop, get_or-take, rules}
+use Rattle.std.proofs.Common.{◌≡◌, ℕ, ◌+◌, ◌-◌, ◌<◌, length, get_or, take, drop, sym, ap, ◌∙◌, subst, arith, length-drop, length-take-le, get_or-drop, get_or-take}
 use Rattle.field_utils.specs.Words.{eight, low_bytes}
 use Rattle.field_utils.proofs.FirstLf.{low_eight}
 use Rattle.field_utils.proofs.words.word_at.Goals as goal

@@ -1,7 +1,6 @@
 -- `choices::any_numbered` meets its contract, by what was seen of two lines and how many there are. Assumes nothing.
 use mathlib.Core.Path.{◌∙◌}
 use borrow.Author.Tests.{le-ltb}
-use borrow.Author.Rules.{rules}
 use Rattle.reader.proofs.Walks.{seen_any, seen_later, seen_few}
 use Rattle.reader.proofs.choices.any_numbered.Goals as goal
 

@@ -2,7 +2,6 @@
 use mathlib.Core.Path.{sym, ◌∙◌, ap}
 use Prim.Native.Nat.{ℕ}
 use lib.ListN.{length}
-use borrow.Author.Rules.{rules}
 use Rattle.reader.proofs.LineTests.{test_second, test_first}
 use Rattle.reader.proofs.choices.bic_line_length.Goals as goal
 

@@ -1,6 +1,5 @@
 -- `choices::first_numbered` meets its contract, by the first byte. Assumes nothing.
 use mathlib.Core.Path.{sym, ◌∙◌, ap}
-use borrow.Author.Rules.{rules}
 use Rattle.field_utils.specs.Identifier.{is_numbered}
 use Rattle.reader.proofs.LineTests.{test_second, test_first}
 use Rattle.reader.proofs.choices.first_numbered.Goals as goal

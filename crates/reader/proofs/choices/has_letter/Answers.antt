@@ -2,7 +2,6 @@
 use mathlib.Core.Path.{ap}
 use lib.Dec.{eqb}
 use Rattle.party.specs.declared.Limits.{Limits}
-use borrow.Author.Rules.{rules}
 use Rattle.reader.proofs.choices.has_letter.Goals as goal
 
 pub returns : goal.returns

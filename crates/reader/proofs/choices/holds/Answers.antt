@@ -4,7 +4,6 @@ use mathlib.Core.Bool.{Bool, ◌&&◌}
 use mathlib.Core.List.{List}
 use Prim.Native.Nat.{ℕ}
 use lib.Dec.{eqb}
-use borrow.Author.Rules.{rules}
 use Rattle.swift_utils.specs.Bytes.{between}
 use Rattle.swift_utils.specs.Checks.{bic_short, bic_long}
 use Rattle.field_utils.specs.Lines.{lines}

@@ -1,8 +1,6 @@
 -- `choices::is_bic_like` meets its contract. Assumes nothing.
 use mathlib.Core.Path.{sym, ◌∙◌}
-use borrow.Author.Tests.{not-true, not-false}
 use Rattle.reader.proofs.LineTests.{bic_other, bic_letters}
-use borrow.Author.Rules.{rules}
 use Rattle.reader.proofs.choices.is_bic_like.Goals as goal
 
 pub returns-then-not-is_bic_length : goal.returns-then-not-is_bic_length

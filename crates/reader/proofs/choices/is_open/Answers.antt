@@ -1,6 +1,5 @@
 -- `choices::is_open` meets its contract. Assumes nothing.
 use mathlib.Core.Path.{sym, ◌∙◌}
-use borrow.Author.Rules.{rules}
 use Rattle.reader.proofs.choices.is_open.Goals as goal
 
 pub returns-then-is_ruled_out : goal.returns-then-is_ruled_out

@@ -1,14 +1,9 @@
 -- `choices::is_ruled_out` meets its contract: each arm is its option's case. Assumes nothing.
-use mathlib.Core.Path.{◌≡◌, refl, sym, ◌∙◌, ap}
-use mathlib.Core.Bool.{Bool, false, not}
+use mathlib.Core.Path.{◌≡◌, sym, ◌∙◌, ap}
+use mathlib.Core.Bool.{Bool, not}
 use mathlib.Core.List.{List, [], ◌∷◌}
 use Prim.Native.Nat.{ℕ}
-use denote.Enum.Declared.{tag_of}
-use types.Run.{OneOf, miss}
-use borrow.Author.Rules.{rules}
 use Rattle.party.specs.declared.PartyOption.{PartyOption}
-use Rattle.party.specs.contracts.PartyOption.{the_type}
-use Rattle.party.proofs.Options.{by_option}
 use Rattle.swift_utils.specs.Checks.{bic_length}
 use Rattle.field_utils.specs.Lines.{lines}
 use Rattle.reader.specs.ChoicesCode.{ruled_out}

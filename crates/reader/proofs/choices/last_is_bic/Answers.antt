@@ -1,6 +1,5 @@
 -- `choices::last_is_bic` meets its contract. Assumes nothing.
 use mathlib.Core.Path.{◌∙◌, ap}
-use borrow.Author.Rules.{rules}
 use Rattle.field_utils.specs.Trim.{trimmed}
 use Rattle.reader.specs.Detection.{bic_like}
 use Rattle.reader.proofs.choices.last_is_bic.Goals as goal

@@ -1,15 +1,11 @@
 -- `choices::last_line` meets its contract: the last line of all is that of those left, or the last one passed. Assumes nothing.
-use mathlib.Core.Path.{◌≡◌, sym, ◌∙◌, ap}
+use mathlib.Core.Path.{◌≡◌}
 use Prim.Native.Nat.{◌-◌, ◌≤◌}
-use native.Mathlib.Omega.{arith}
 use lib.ListN.{length, drop}
 use Rattle.swift_utils.proofs.Parts.{part}
 use Rattle.field_utils.specs.Lines.{lines}
-use Rattle.field_utils.proofs.Places.{Found, found}
 use Rattle.reader.specs.Detection.{last_line}
 use Rattle.reader.proofs.LineTests.{last_or}
-use Rattle.reader.proofs.Walks.{seen_last, found_last}
-use borrow.Author.Rules.{rules}
 use Rattle.reader.proofs.choices.last_line.Given as goal
 
 abbrev pub invariant-loop-start : goal.invariant-loop-start

@@ -1,13 +1,8 @@
 -- `choices::numbered_from` meets its contract: where the lines passed have no number, one has where one of those left has. Assumes nothing.
-use mathlib.Core.Path.{◌≡◌, refl, sym, ◌∙◌}
-use Prim.Native.Nat.{◌-◌}
+use mathlib.Core.Path.{refl, sym, ◌∙◌}
 use native.Mathlib.Omega.{arith}
-use lib.ListN.{length, drop}
-use Rattle.field_utils.specs.Lines.{lines}
 use Rattle.field_utils.proofs.Places.{Found, found}
-use Rattle.reader.specs.Detection.{any_numbered}
 use Rattle.reader.proofs.Walks.{found_numbered, none_numbered}
-use borrow.Author.Rules.{rules}
 use Rattle.reader.proofs.choices.numbered_from.Goals as goal
 use Rattle.reader.proofs.choices.numbered_from.Goals.{In-Next}
 

@@ -1,13 +1,9 @@
 -- `choices::numbered_from` meets its contract: where the lines passed have no number, one has where one of those left has. Assumes nothing.
-use mathlib.Core.Path.{◌≡◌, refl, sym, ◌∙◌}
+use mathlib.Core.Path.{◌≡◌}
 use Prim.Native.Nat.{◌-◌}
-use native.Mathlib.Omega.{arith}
 use lib.ListN.{length, drop}
 use Rattle.field_utils.specs.Lines.{lines}
-use Rattle.field_utils.proofs.Places.{Found, found}
 use Rattle.reader.specs.Detection.{any_numbered}
-use Rattle.reader.proofs.Walks.{found_numbered, none_numbered}
-use borrow.Author.Rules.{rules}
 use Rattle.reader.proofs.choices.numbered_from.Given as goal
 
 abbrev pub invariant-loop-start : goal.invariant-loop-start

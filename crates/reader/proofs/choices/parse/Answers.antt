@@ -7,7 +7,6 @@ use Rattle.reader.specs.Reading.{told_answer}
 use Rattle.reader.specs.Choices.{parse}
 use Rattle.reader.proofs.ByValue.{parse_back}
 use Rattle.reader.proofs.Loading.{answered}
-use borrow.Author.Rules.{rules}
 use Rattle.reader.proofs.choices.parse.Goals as goal
 
 pub returns : goal.returns

@@ -9,7 +9,6 @@ use Rattle.reader.specs.Choices.{parse}
 use Rattle.record_bytes.specs.RecordBytes.{record_size}
 use Rattle.reader.proofs.Into.{into_whole, into_short}
 use Rattle.reader.proofs.Trials.{check_refused, check_passed}
-use borrow.Author.Rules.{rules}
 use Rattle.reader.proofs.choices.parse_into.Goals as goal
 use Rattle.reader.proofs.choices.parse_into.Goals.{After-parse_body-outcome}
 

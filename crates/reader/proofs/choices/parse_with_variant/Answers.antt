@@ -7,7 +7,6 @@ use Rattle.reader.specs.Reading.{told_answer}
 use Rattle.reader.specs.Choices.{parse_with_variant}
 use Rattle.reader.proofs.ByValue.{variant_back}
 use Rattle.reader.proofs.Loading.{answered}
-use borrow.Author.Rules.{rules}
 use Rattle.reader.proofs.choices.parse_with_variant.Goals as goal
 
 pub returns : goal.returns

@@ -4,7 +4,6 @@ use mathlib.Core.Bool.{Bool, true, false, ◌||◌, or-false}
 use mathlib.Core.List.{List, [], ◌∷◌}
 use Prim.Native.Nat.{ℕ}
 use lib.Dec.{eqb}
-use borrow.Author.Rules.{rules}
 use Rattle.party.specs.declared.PartyOption.TheVariants.{Field50C, Field50L}
 use Rattle.reader.specs.declared.choices.Choice.{Choice}
 use Rattle.reader.specs.declared.choices.Choice.TheVariants.{Field50OrderingCustomerFGH, Field50OrderingCustomerAFK, Field50OrderingCustomerNCF, Field50Creditor, Field59, Field59Debtor}

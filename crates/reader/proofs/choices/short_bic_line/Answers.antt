@@ -6,7 +6,6 @@ use lib.ListN.{length}
 use Rattle.party.specs.declared.Limits.{Limits}
 use Rattle.field_utils.specs.Lines.{lines}
 use Rattle.reader.proofs.LineTests.{short_long, short_fits}
-use borrow.Author.Rules.{rules}
 use Rattle.reader.proofs.choices.short_bic_line.Goals as goal
 
 pub returns-then-limits-seen : goal.returns-then-limits-seen

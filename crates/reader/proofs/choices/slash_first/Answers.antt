@@ -2,7 +2,6 @@
 use native.Mathlib.Omega.{arith}
 use lib.ListN.{length, length-take}
 use borrow.Author.Tests.{le-leb, lt-leb}
-use borrow.Author.Rules.{rules}
 use Rattle.field_utils.specs.Lines.{lines}
 use Rattle.reader.proofs.LineTests.{slash_at}
 use Rattle.reader.proofs.choices.slash_first.Goals as goal

@@ -4,7 +4,6 @@ use mathlib.Core.Bool.{and-true, and-false}
 use native.Mathlib.Omega.{arith}
 use lib.ListN.{length, length-take}
 use borrow.Author.Tests.{ne_eqb}
-use borrow.Author.Rules.{rules}
 use Rattle.field_utils.specs.Lines.{lines}
 use Rattle.reader.proofs.LineTests.{slash_at}
 use Rattle.reader.proofs.choices.slash_first_of_two.Goals as goal

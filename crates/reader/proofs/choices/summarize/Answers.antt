@@ -7,7 +7,6 @@ use Rattle.field_utils.specs.Identifier.{is_numbered}
 use Rattle.field_utils.proofs.Places.{Found, found}
 use Rattle.reader.specs.Detection.{first_line, last_line}
 use Rattle.reader.proofs.Walks.{walked_as}
-use borrow.Author.Rules.{rules}
 use Rattle.reader.proofs.choices.summarize.Goals as goal
 use Rattle.reader.proofs.choices.summarize.Goals.{In-Next, In-Next-found_second}
 

@@ -7,7 +7,6 @@ use Rattle.swift_utils.proofs.Parts.{part_length}
 use Rattle.field_utils.specs.Lines.{lines}
 use Rattle.reader.specs.Detection.{first_line, last_line}
 use Rattle.reader.proofs.Walks.{one_left, none_left}
-use borrow.Author.Rules.{rules}
 use Rattle.reader.proofs.choices.summarize_two.Goals as goal
 use Rattle.reader.proofs.choices.summarize_two.Goals.{Joined-rest-text, then-rest-text, else-rest-text}
 
@@ -18,7 +17,7 @@ counted c =
     let a = c.args in
     let s = a.text.now in
     elim c.if-rest-text.branch [
-      then-rest-text w ↦ omega (arith, w.count-is, one_left s a.rest.at w.if-rest-text.true)
+      | then-rest-text w ↦ omega (arith, w.count-is, one_left s a.rest.at w.if-rest-text.true)
       | else-rest-text w ↦ omega (arith, w.count-is, none_left s a.rest.at w.if-rest-text.false)
     ]
 

@@ -1,6 +1,5 @@
 -- `choices::trials_of` meets its contract. Assumes nothing.
 use mathlib.Core.Path.{sym, ap}
-use borrow.Author.Rules.{rules}
 use Rattle.reader.specs.Choices.{trials_of}
 use Rattle.reader.proofs.choices.trials_of.Goals as goal
 

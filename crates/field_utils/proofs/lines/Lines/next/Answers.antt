@@ -1,5 +1,5 @@
 -- `lines::Lines::next` meets its contract: a case of the rule for each answer. Assumes nothing.
-use Rattle.std.proofs.Common.{sym, arith, rules}
+use Rattle.std.proofs.Common.{sym, arith}
 use native.Mathlib.Nat.{add-sub_cancel_left}
 use Rattle.field_utils.proofs.Places.{next_done, next_last, next_lf}
 use Rattle.field_utils.proofs.lines.Lines.next.Goals as goal

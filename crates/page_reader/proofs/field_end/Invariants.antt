@@ -1,0 +1,13 @@
+-- `page_reader::field_end` meets its contract: where no opening or end line follows an LF, the field runs to where it runs from there on.
+-- Assumes nothing.
+use mathlib.Core.Path.{◌≡◌}
+use Prim.Native.Nat.{◌+◌, ◌-◌, ◌≤◌}
+use lib.ListN.{length, drop}
+use Rattle.page_reader.specs.Pages.{runs}
+use Rattle.page_reader.proofs.field_end.Given as goal
+
+abbrev pub invariant-loop-at : goal.invariant-loop-at
+invariant-loop-at l = (l.at + runs (drop l.at l.page) ≡ l.i + runs (drop l.i l.page)) × (l.i ≤ length l.page)
+
+abbrev pub decreases-loop-at : goal.decreases-loop-at
+decreases-loop-at l = length l.page - l.i
