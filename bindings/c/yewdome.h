@@ -1,6 +1,6 @@
 /*
  * Party fields 50 and 59 of SWIFT MT messages, and pages of them: the functions of the static
- * library that `rt staticlib yewdome` builds, target/staticlib/libyewdome.a, for x86-64.
+ * library that `bindings/build` builds, target/staticlib/libyewdome.a, for x86-64.
  *
  * Every function takes any bytes, any lengths and any numbers, keeps no pointer and no state, and
  * is proved equal to its definition in crates/yewdome/specs/Interface.antt. The caller owes only

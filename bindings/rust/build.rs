@@ -1,4 +1,4 @@
-//! Links the static library that `rt staticlib yewdome` writes.
+//! Links the static library that `bindings/build` writes.
 
 use std::path::Path;
 

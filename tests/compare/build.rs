@@ -1,4 +1,4 @@
-//! Links the static library that `rt staticlib yewdome` writes, and hands on what its header defines.
+//! Links the static library that `bindings/build` writes, and hands on what its header defines.
 
 use std::path::Path;
 

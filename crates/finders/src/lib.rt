@@ -7,16 +7,14 @@ ghost use Rattle.field_utils.specs.Lines.{upto};
 use field_utils::lines::{find, find_lf};
 
 // The finder.
-#[unsafe(no_mangle)]
-pub extern "C" fn yewdome_find_lf(s: &[u8], from: usize) -> usize
+pub fn yewdome_find_lf(s: &[u8], from: usize) -> usize
     ensures { result ≡ from + upto 10 (drop from s.now) }
 {
     find_lf(s, from)
 }
 
 // The plain loop, byte by byte: its judge.
-#[unsafe(no_mangle)]
-pub extern "C" fn yewdome_find_lf_plain(s: &[u8], from: usize) -> usize
+pub fn yewdome_find_lf_plain(s: &[u8], from: usize) -> usize
     ensures { result ≡ from + upto 10 (drop from s.now) }
 {
     find(s, from, b'\n')

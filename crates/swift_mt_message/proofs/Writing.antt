@@ -34,7 +34,7 @@ use Rattle.writer.proofs.Written.{found_of}
 use Rattle.writer.proofs.Witness.{found_content_back, fitting}
 use Rattle.writer.proofs.Sufficient.{given_facts, sufficient}
 use Rattle.writer.proofs.Theorems.{necessary}
-use Rattle.swift_mt_message.specs.Std.{Str, join, digits, number}
+use Rattle.swift_mt_message.specs.Std.{Str, join, digits}
 use Rattle.swift_mt_message.specs.Field50 as rust50
 use Rattle.swift_mt_message.specs.Field59 as rust59
 use Rattle.swift_mt_message.specs.Structs.{to_swift_string}

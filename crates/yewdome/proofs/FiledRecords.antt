@@ -1,5 +1,5 @@
 -- The records that filing a page leaves on the new one are those whose answers tell a filing. Assumes nothing.
-use Prim.Native.Nat.{ℕ, zero, suc, ◌+◌, ◌*◌, ◌-◌, ◌≤◌, ◌<◌}
+use Prim.Native.Nat.{ℕ, zero, suc}
 use mathlib.Core.Path.{◌≡◌, refl, sym, ap, ◌∙◌, subst}
 use mathlib.Core.Bool.{Bool, true, false}
 use mathlib.Core.List.{List, [], ◌∷◌, map}
@@ -19,7 +19,7 @@ use Rattle.page_writer.specs.Demand3.{adds, accepted_adds, ListedPage}
 use Rattle.page_writer.proofs.Theorems.{whole_page}
 use Rattle.kept.specs.Fields.{causes_by}
 use Rattle.yewdome.specs.Filing.{record_of, records_in, records_of, filed_as, file_outcome, open_page}
-use Rattle.yewdome.specs.Interface.{causes_code, caused_number, number_step, file_numbers}
+use Rattle.yewdome.specs.Interface.{caused_number, number_step, file_numbers}
 use Rattle.yewdome.specs.Code.{Within}
 use Rattle.yewdome.specs.FiledRecords.{tells_filing, filed_in, FiledRecords}
 use Rattle.yewdome.proofs.Causes.{causes_most}

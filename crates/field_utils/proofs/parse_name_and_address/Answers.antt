@@ -96,8 +96,8 @@ module _ (k : In-Next) where
   fits : Found (body (goal.at.In-Next k).At-lines) (place (goal.at.In-Next k).At-lines) start end rest
   fits = found (body (goal.at.In-Next k).At-lines) (place (goal.at.In-Next k).At-lines) k.next-found.ensures k.in-Next.is
 
-  is-next : next_line (body (goal.at.In-Next k).At-lines) (place (goal.at.In-Next k).At-lines) ≡ k.next-found.result
-  is-next = sym k.next-found.ensures
+  is_next : next_line (body (goal.at.In-Next k).At-lines) (place (goal.at.In-Next k).At-lines) ≡ k.next-found.result
+  is_next = sym k.next-found.ensures
 
   counts : turn ≤ rest
   counts = omega (arith, fits.moved, k.lines.invariant.0)
@@ -121,13 +121,13 @@ module _ (k : In-Next) where
       (passed_refused so_far e))
 
 -- what the test of its number and its length says
-shape-says : (p : After-parse_line-outcome) → shape (goal.at.After-parse_line-outcome p).In-Next ≡ told p.parse_line-outcome.result
-shape-says p = sym p.parse_line-outcome.ensures
+shape_says : (p : After-parse_line-outcome) → shape (goal.at.After-parse_line-outcome p).In-Next ≡ told p.parse_line-outcome.result
+shape_says p = sym p.parse_line-outcome.ensures
 
 -- past that test, at its bytes
 module _ (l : At-loop-i) where
   shaped : shape (goal.at.At-loop-i l).In-Next ≡ accepted
-  shaped = shape-says (goal.at.At-loop-i l).After-parse_line-outcome ∙ ap told l.in_default-outcome.is
+  shaped = shape_says (goal.at.At-loop-i l).After-parse_line-outcome ∙ ap told l.in_default-outcome.is
 
   -- those left say the rest
   by_bytes : {t : Bool} → all legal (part l.loop-i.i (length (line (goal.at.At-loop-i l).In-Next)) (line (goal.at.At-loop-i l).In-Next)) ≡ t → says (goal.at.At-loop-i l).In-Next ≡ must t 3 (number (goal.at.At-loop-i l).In-Next)
@@ -145,8 +145,8 @@ module _ (c : After-shared_slice_known-in-loop-i-1) where
   abbrev class : ℕ
   class = get_or c.class_table-classes.result byte 0
 
-  by-table : {t : Bool} → has_bits 1 class ≡ t → legal byte ≡ t
-  by-table e = sym (class_legal byte) ∙ by_entry 1 byte c.class_table-classes.ensures e
+  by_table : {t : Bool} → has_bits 1 class ≡ t → legal byte ≡ t
+  by_table e = sym (class_legal byte) ∙ by_entry 1 byte c.class_table-classes.ensures e
 
 -- a line that passed
 module _ (e : After-loop-i) where
@@ -154,8 +154,8 @@ module _ (e : After-loop-i) where
   room = omega (arith, kept_room (numbering (goal.at.After-loop-i e).At-lines) (limits (goal.at.After-loop-i e).At-lines).name_max (number (goal.at.After-loop-i e).In-Next) (turn (goal.at.After-loop-i e).In-Next) (line (goal.at.After-loop-i e).In-Next) (shaped (goal.at.After-loop-i e).At-loop-i), e.dropped_prefix-kept.ensures)
 
   -- what is kept of it starts before its end
-  ends-at : (start (goal.at.After-loop-i e).In-Next + skip (goal.at.After-loop-i e).At-lines ≤ end (goal.at.After-loop-i e).In-Next) × (end (goal.at.After-loop-i e).In-Next ≤ length (body (goal.at.After-loop-i e).At-lines))
-  ends-at = (omega (arith, room, part_length (start (goal.at.After-loop-i e).In-Next) (end (goal.at.After-loop-i e).In-Next) (body (goal.at.After-loop-i e).At-lines) (omega (arith, (fits (goal.at.After-loop-i e).In-Next).before, (fits (goal.at.After-loop-i e).In-Next).within)), (fits (goal.at.After-loop-i e).In-Next).forward), omega (arith, (fits (goal.at.After-loop-i e).In-Next).before, (fits (goal.at.After-loop-i e).In-Next).within))
+  ends_at : (start (goal.at.After-loop-i e).In-Next + skip (goal.at.After-loop-i e).At-lines ≤ end (goal.at.After-loop-i e).In-Next) × (end (goal.at.After-loop-i e).In-Next ≤ length (body (goal.at.After-loop-i e).At-lines))
+  ends_at = (omega (arith, room, part_length (start (goal.at.After-loop-i e).In-Next) (end (goal.at.After-loop-i e).In-Next) (body (goal.at.After-loop-i e).At-lines) (omega (arith, (fits (goal.at.After-loop-i e).In-Next).before, (fits (goal.at.After-loop-i e).In-Next).within)), (fits (goal.at.After-loop-i e).In-Next).forward), omega (arith, (fits (goal.at.After-loop-i e).In-Next).before, (fits (goal.at.After-loop-i e).In-Next).within))
 
   passes : says (goal.at.After-loop-i e).In-Next ≡ accepted
   passes = by_bytes (goal.at.After-loop-i e).At-loop-i (all_done legal (line (goal.at.After-loop-i e).In-Next) _ (length (line (goal.at.After-loop-i e).In-Next)) e.loop-i-test.false)
@@ -224,7 +224,7 @@ unfolding four
 returns-in-Refused c =
     let at = goal.at.returns-in-Refused c in
     record {
-      result_value = ap (told_names (body at.At-lines)) c.refuse_names.ensures ∙ refusal at.In-Next (line_refused _ _ _ _ _ (shape-says at.After-parse_line-outcome ∙ ap told c.in-Refused.is));
+      result_value = ap (told_names (body at.At-lines)) c.refuse_names.ensures ∙ refusal at.In-Next (line_refused _ _ _ _ _ (shape_says at.After-parse_line-outcome ∙ ap told c.in-Refused.is));
       places = ap (λ (w : Names). w.parts) c.refuse_names.ensures
           ∙ sym (ap (λ (w : Names). name_places (told w.outcome) (dropped_prefix (limits_of (option at.At-lines)).numbering) (places at.At-lines)) c.refuse_names.ensures);
     }
@@ -234,8 +234,8 @@ pub pass_bytes-i-requires : goal.pass_bytes-i-requires
 pass_bytes-i-requires c = λ e.
     let at = goal.at.pass_bytes-i-requires c in
     let from = c.args.from.at in
-    let all-legal = sym (by_entries 1 legal class_legal _ c.suffix.result.now c.class_table-classes.ensures) ∙ sym c.all_in-known.ensures ∙ e in
-    all_part legal (body at.At-lines) from (start at.In-Next) (end at.In-Next - start at.In-Next) (omega (arith, c.lines.invariant.3, (fits at.In-Next).onward)) (sym (ap (all legal) c.suffix.ensures) ∙ all-legal)
+    let all_legal = sym (by_entries 1 legal class_legal _ c.suffix.result.now c.class_table-classes.ensures) ∙ sym c.all_in-known.ensures ∙ e in
+    all_part legal (body at.At-lines) from (start at.In-Next) (end at.In-Next - start at.In-Next) (omega (arith, c.lines.invariant.3, (fits at.In-Next).onward)) (sym (ap (all legal) c.suffix.ensures) ∙ all_legal)
 
 pub loop-i-init : goal.loop-i-init
 loop-i-init c = c.pass_bytes-i.ensures.says ∙ ap (all legal) (sym (part_end (line (goal.at.loop-i-init c).In-Next) c.pass_bytes-i.result))
@@ -250,13 +250,13 @@ pub loop-i-preserved : goal.loop-i-preserved
 loop-i-preserved c =
     let at = goal.at.loop-i-preserved c in
     c.loop-i.invariant
-    ∙ all_passes legal (line at.In-Next) _ (length (line at.In-Next)) c.loop-i-test.true (omega arith) (by-table at.After-shared_slice_known-in-loop-i-1 (eq-eqb _ _ c.if-classes-b-ne-LEGAL.false))
+    ∙ all_passes legal (line at.In-Next) _ (length (line at.In-Next)) c.loop-i-test.true (omega arith) (by_table at.After-shared_slice_known-in-loop-i-1 (eq-eqb _ _ c.if-classes-b-ne-LEGAL.false))
 
 pub overflow_add-start : goal.overflow_add-start
-overflow_add-start c = omega (arith, ends-at (goal.at.overflow_add-start c).After-loop-i)
+overflow_add-start c = omega (arith, ends_at (goal.at.overflow_add-start c).After-loop-i)
 
 pub overflow_sub-len : goal.overflow_sub-len
-overflow_sub-len c = omega (arith, ends-at (goal.at.overflow_sub-len c).After-loop-i)
+overflow_sub-len c = omega (arith, ends_at (goal.at.overflow_sub-len c).After-loop-i)
 
 pub offset_bounds-parts-count : goal.offset_bounds-parts-count
 offset_bounds-parts-count c = omega (arith, c.if-count-lt4.true)
@@ -277,7 +277,7 @@ lines-preserved-then-count-lt4 c =
     let at = goal.at.lines-preserved-then-count-lt4 c in (
       counts at.In-Next,
       passed_more (so_far at.In-Next) (passes at.After-loop-i) _ c.if-count-lt4.true (sym (part_drop (skip at.At-lines) (start at.In-Next) (end at.In-Next) (body at.At-lines))) c.digit_of.ensures,
-      marked_more c.lines.invariant.2 (is-next at.In-Next) c.in-Next.is c.if-count-lt4.true
+      marked_more c.lines.invariant.2 (is_next at.In-Next) c.in-Next.is c.if-count-lt4.true
           (ap {B = Part} (λ (n : ℕ). record { start = start at.In-Next + skip at.At-lines; len = n }) (omega arith)),
       omega (arith, c.lines.invariant.3, (fits at.In-Next).moved),
     )
@@ -290,7 +290,7 @@ lines-smaller c =
 pub lines-preserved : goal.lines-preserved
 lines-preserved c =
     let at = goal.at.lines-preserved c in
-    (counts at.In-Next, passed_past (so_far at.In-Next) (passes at.After-loop-i) c.if-count-lt4.false, marked_past c.lines.invariant.2 (is-next at.In-Next) c.in-Next.is c.if-count-lt4.false, omega (arith, c.lines.invariant.3, (fits at.In-Next).moved))
+    (counts at.In-Next, passed_past (so_far at.In-Next) (passes at.After-loop-i) c.if-count-lt4.false, marked_past c.lines.invariant.2 (is_next at.In-Next) c.in-Next.is c.if-count-lt4.false, omega (arith, c.lines.invariant.3, (fits at.In-Next).moved))
 
 pub returns : goal.returns
 returns c =

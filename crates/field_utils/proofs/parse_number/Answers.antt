@@ -9,15 +9,15 @@ use Rattle.field_utils.proofs.parse_number.Goals as goal
 use Rattle.field_utils.proofs.parse_number.Goals.{After-parse_digit-outcome}
 
 -- in the arm of 59F: what the digit says, and then the turn
-in-turn : (c : After-parse_digit-outcome) {r : Reply} → told c.parse_digit-outcome.result ≡ r → let a = c.args in
+in_turn : (c : After-parse_digit-outcome) {r : Reply} → told c.parse_digit-outcome.result ≡ r → let a = c.args in
     (r then must (eqb (get_or a.input.now 0 0) (48 + a.turn)) 6 a.line) ≡ parse_number a.numbering a.line a.turn a.input.now
-in-turn c e =
+in_turn c e =
     let a = c.args in
     ap (λ (r : Reply). r then must (eqb (get_or a.input.now 0 0) (48 + a.turn)) 6 a.line) (sym e ∙ c.parse_digit-outcome.ensures)
     ∙ sym (ap (λ (f : Numbering). parse_number f a.line a.turn a.input.now) c.in-InTurn.is)
 
 pub returns-in-Refused : goal.returns-in-Refused
-returns-in-Refused c = in-turn (goal.at.returns-in-Refused c).After-parse_digit-outcome (ap told c.in-Refused.is)
+returns-in-Refused c = in_turn (goal.at.returns-in-Refused c).After-parse_digit-outcome (ap told c.in-Refused.is)
 
 pub parse_turn-requires : goal.parse_turn-requires
 parse_turn-requires c =
@@ -30,4 +30,4 @@ returns-in-Numbered c =
     c.parse_digit.ensures ∙ sym (ap (λ (f : Numbering). parse_number f a.line a.turn a.input.now) c.in-Numbered.is)
 
 pub returns-in_default : goal.returns-in_default
-returns-in_default c = c.parse_turn.ensures ∙ in-turn (goal.at.returns-in_default c).After-parse_digit-outcome (ap told c.in_default.is)
+returns-in_default c = c.parse_turn.ensures ∙ in_turn (goal.at.returns-in_default c).After-parse_digit-outcome (ap told c.in_default.is)

@@ -14,15 +14,15 @@ use Rattle.page_reader.proofs.body_place.Goals.{After-read_case, In-Opening}
 
 module _ (k : After-read_case) {x : ReadCase} (e : k.read_case.result ≡ x) where
   -- which case it is
-  case-of : let a = k.args in read_case a.page.now a.at ≡ x
-  case-of = sym k.read_case.ensures ∙ e
+  case_of : let a = k.args in read_case a.page.now a.at ≡ x
+  case_of = sym k.read_case.ensures ∙ e
 
   place_of : let a = k.args in place_by x a.page.now a.at ≡ body_place a.page.now a.at
-  place_of = sym (place_by_lem _ _ case-of)
+  place_of = sym (place_by_lem _ _ case_of)
 
 -- where a field stands
 field_of : (t : In-Opening) → let a = t.args in Stands a.page.now a.at t.in-Opening.to
-field_of t = ends_by _ _ (case-of (goal.at.In-Opening t).After-read_case t.in-Opening.is)
+field_of t = ends_by _ _ (case_of (goal.at.In-Opening t).After-read_case t.in-Opening.is)
 
 pub text_in-text-requires : goal.text_in-text-requires
 text_in-text-requires c = ((field_of c).from, (field_of c).most)
@@ -50,5 +50,5 @@ returns-in-Stray c = c.nowhere-in-Stray.ensures ∙ place_of (goal.at.returns-in
 pub overflow_add-at : goal.overflow_add-at
 overflow_add-at c =
     let a = c.args in
-    let s = ends_by _ _ (case-of (goal.at.overflow_add-at c).After-read_case c.in-Opening.is) in
+    let s = ends_by _ _ (case_of (goal.at.overflow_add-at c).After-read_case c.in-Opening.is) in
     omega (arith, ap length c.text_in-text.ensures, text_within a.page.now a.at c.in-Opening.to s.from s.most, s.most)

@@ -12,8 +12,8 @@ use Rattle.page_reader.proofs.read_case.Goals as goal
 use Rattle.page_reader.proofs.read_case.Goals.{After-ends_at, After-opens_at, Else-not-is_readable}
 
 -- the position is one to read at
-readable-at : (e : Else-not-is_readable) → let a = e.args in readable a.page.now a.at ≡ true
-readable-at e = sym e.is_readable.ensures ∙ e.if-not-is_readable.false
+readable_at : (e : Else-not-is_readable) → let a = e.args in readable a.page.now a.at ≡ true
+readable_at e = sym e.is_readable.ensures ∙ e.if-not-is_readable.false
 
 -- what the tests on the line there say
 module _ (n : After-ends_at) where
@@ -39,19 +39,19 @@ returns-then-not-is_readable c =
 
 pub returns-then-page-at : goal.returns-then-page-at
 returns-then-page-at c =
-    let a = c.args in sym (case_length a.page.now a.at (omega arith) (readable-at (goal.at.returns-then-page-at c).Else-not-is_readable) (omega arith))
+    let a = c.args in sym (case_length a.page.now a.at (omega arith) (readable_at (goal.at.returns-then-page-at c).Else-not-is_readable) (omega arith))
 
 pub returns-then-ends_at : goal.returns-then-ends_at
 returns-then-ends_at c =
     let g = goal.at.returns-then-ends_at c in
-    ap Ending c.find_lf-to.ensures ∙ sym (case_ending (page g.After-ends_at) (at g.After-ends_at) (omega arith) (readable-at g.Else-not-is_readable) (omega arith) (ending g.After-ends_at c.if-ends_at.true))
+    ap Ending c.find_lf-to.ensures ∙ sym (case_ending (page g.After-ends_at) (at g.After-ends_at) (omega arith) (readable_at g.Else-not-is_readable) (omega arith) (ending g.After-ends_at c.if-ends_at.true))
 
 pub returns-then-opens_at : goal.returns-then-opens_at
 returns-then-opens_at c =
     let g = goal.at.returns-then-opens_at c in
-    ap Opening c.field_end-to.ensures ∙ sym (case_opening (page g.After-ends_at) (at g.After-ends_at) (omega arith) (readable-at g.Else-not-is_readable) (omega arith) (opening g.After-opens_at c.if-opens_at.true))
+    ap Opening c.field_end-to.ensures ∙ sym (case_opening (page g.After-ends_at) (at g.After-ends_at) (omega arith) (readable_at g.Else-not-is_readable) (omega arith) (opening g.After-opens_at c.if-opens_at.true))
 
 pub returns : goal.returns
 returns c =
     let g = goal.at.returns c in
-    ap Stray c.field_end-to.ensures ∙ sym (case_stray (page g.After-ends_at) (at g.After-ends_at) (omega arith) (readable-at g.Else-not-is_readable) (omega arith) (opening g.After-opens_at c.if-opens_at.false) (ending g.After-ends_at c.if-ends_at.false))
+    ap Stray c.field_end-to.ensures ∙ sym (case_stray (page g.After-ends_at) (at g.After-ends_at) (omega arith) (readable_at g.Else-not-is_readable) (omega arith) (opening g.After-opens_at c.if-opens_at.false) (ending g.After-ends_at c.if-ends_at.false))

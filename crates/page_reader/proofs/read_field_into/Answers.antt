@@ -11,9 +11,9 @@ use Rattle.page_reader.proofs.read_field_into.Goals as goal
 use Rattle.page_reader.proofs.read_field_into.Goals.{After-read_into-outcome}
 
 -- what the option's reader said, as the read's outcome
-by-reader : (c : After-read_into-outcome) {w : Outcome} → c.read_into-outcome.result ≡ w → let a = c.args in
+by_reader : (c : After-read_into-outcome) {w : Outcome} → c.read_into-outcome.result ≡ w → let a = c.args in
     Tells (record { outcome = went w; next = a.next }) (read_field a.text.now a.next) a.«record».now c.read_into-outcome.new.record
-by-reader c {w} e =
+by_reader c {w} e =
     let a = c.args in
     tagged_tells a.text.now a.next (ap (told_tag a.text.now) (sym c.in-Known.is) ∙ c.parse_tag-tag.ensures) (record { outcome = went w; next = a.next }) a.«record».now
     (answer_tells c.in-Known.option (drop c.in-Known.skip a.text.now) a.next c.read_into-outcome.result a.«record».now c.requires (c.read_into-outcome.ensures ∙ ap (λ l. read_into (read c.in-Known.option l) a.«record».now) c.suffix.ensures) e)
@@ -26,10 +26,10 @@ returns-in_default c =
 
 pub returns-in-Accepted : goal.returns-in-Accepted
 returns-in-Accepted c =
-    let t = by-reader (goal.at.returns-in-Accepted c).After-read_into-outcome c.in-Accepted.is in
+    let t = by_reader (goal.at.returns-in-Accepted c).After-read_into-outcome c.in-Accepted.is in
     record { result_value = t.0; bytes = t.1 }
 
 pub returns-in-Refused : goal.returns-in-Refused
 returns-in-Refused c =
-    let t = by-reader (goal.at.returns-in-Refused c).After-read_into-outcome c.in-Refused.is in
+    let t = by_reader (goal.at.returns-in-Refused c).After-read_into-outcome c.in-Refused.is in
     record { result_value = ap told_read_into c.refuse-in-Refused.ensures ∙ t.0; bytes = t.1 }

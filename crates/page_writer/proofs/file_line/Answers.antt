@@ -27,20 +27,20 @@ module _ (s : After-has_space) where
       let k : to ≡ a.at + (length a.text.now + 1 + a.spare) = omega (arith, length-append a.text.now (10 ∷ [])) in
       ap (has_space (length a.buf.now)) k ∙ (sym s.has_space.ensures ∙ e)
 
-  by-test : {t : Bool} → s.has_space.result ≡ t → let a = s.args in
+  by_test : {t : Bool} → s.has_space.result ≡ t → let a = s.args in
       putting (must t 24 0 then must a.free 31 0) a.buf.now a.at text ≡ line_call a.buf.now a.at a.text.now a.spare a.free
-  by-test e = let a = s.args in ap (λ (t : Bool). putting (must t 24 0 then must a.free 31 0) a.buf.now a.at text) (sym (tested e))
+  by_test e = let a = s.args in ap (λ (t : Bool). putting (must t 24 0 then must a.free 31 0) a.buf.now a.at text) (sym (tested e))
 
 -- by whether an entry is free
-by-free : (c : After-has_space) {t : Bool} → c.has_space.result ≡ true → c.args.free ≡ t → let a = c.args in
+by_free : (c : After-has_space) {t : Bool} → c.has_space.result ≡ true → c.args.free ≡ t → let a = c.args in
     putting (must t 31 0) a.buf.now a.at (text c) ≡ line_call a.buf.now a.at a.text.now a.spare a.free
-by-free c e f = let a = c.args in ap (λ (t : Bool). putting (must t 31 0) a.buf.now a.at (text c)) (sym f) ∙ by-test c e
+by_free c e f = let a = c.args in ap (λ (t : Bool). putting (must t 31 0) a.buf.now a.at (text c)) (sym f) ∙ by_test c e
 
 pub returns-then-not-has_space : goal.returns-then-not-has_space
-returns-then-not-has_space c = by-test (goal.at.returns-then-not-has_space c).After-has_space c.if-not-has_space.true
+returns-then-not-has_space c = by_test (goal.at.returns-then-not-has_space c).After-has_space c.if-not-has_space.true
 
 pub returns-then-not-free : goal.returns-then-not-free
-returns-then-not-free c = by-free (goal.at.returns-then-not-free c).After-has_space c.if-not-has_space.false c.if-not-free.true
+returns-then-not-free c = by_free (goal.at.returns-then-not-free c).After-has_space c.if-not-has_space.false c.if-not-free.true
 
 pub put_line-end-requires : goal.put_line-end-requires
 put_line-end-requires c =

@@ -9,8 +9,8 @@ module _ (s : Start) {x : Rendered} (e : s.args.rendered ≡ x) where
   fits : Fits x s.args.room.now
   fits = subst (λ (y : Rendered). Fits y s.args.room.now) e s.requires
 
-  as-rendered : rendered_call s.args.buf.now s.args.at x s.args.room.now s.args.free ≡ rendered_call s.args.buf.now s.args.at s.args.rendered s.args.room.now s.args.free
-  as-rendered = ap (λ (y : Rendered). rendered_call s.args.buf.now s.args.at y s.args.room.now s.args.free) (sym e)
+  as_rendered : rendered_call s.args.buf.now s.args.at x s.args.room.now s.args.free ≡ rendered_call s.args.buf.now s.args.at s.args.rendered s.args.room.now s.args.free
+  as_rendered = ap (λ (y : Rendered). rendered_call s.args.buf.now s.args.at y s.args.room.now s.args.free) (sym e)
 
 pub returns-in-Refused : goal.returns-in-Refused
-returns-in-Refused c = as-rendered (goal.at.returns-in-Refused c).Start c.in-Refused.is
+returns-in-Refused c = as_rendered (goal.at.returns-in-Refused c).Start c.in-Refused.is

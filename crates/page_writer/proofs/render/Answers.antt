@@ -25,11 +25,11 @@ module _ (k : After-place_record) where
   abbrev room : List ℕ
   room = k.place_record.new.buf
 
-  writable-here : writable k.args.buf.now k.args.at ≡ true
-  writable-here = sym k.is_writable.ensures ∙ k.if-not-is_writable.false
+  writable_here : writable k.args.buf.now k.args.at ≡ true
+  writable_here = sym k.is_writable.ensures ∙ k.if-not-is_writable.false
 
-  placed-here : {m : Measured} → k.place_record.result ≡ m → told_placing m room ≡ place (content p) k.args.room.now
-  placed-here e = sym (ap (λ (r : Measured). told_placing r room) e) ∙ k.place_record.ensures
+  placed_here : {m : Measured} → k.place_record.result ≡ m → told_placing m room ≡ place (content p) k.args.room.now
+  placed_here e = sym (ap (λ (r : Measured). told_placing r room) e) ∙ k.place_record.ensures
 
   tagged : k.tag_length-start.result ≡ length (tag_of p.option)
   tagged = k.tag_length-start.ensures ∙ ap (λ (o : PartyOption). length (tag_of o)) k.option_of.ensures
@@ -43,15 +43,15 @@ pub returns-in-Length : goal.returns-in-Length
 returns-in-Length c =
     let at = goal.at.returns-in-Length c in
     let a = c.args in
-    let h = room_held (p at.After-place_record) a.room.now c.requires (placed-here at.After-place_record c.in-Length.is) in
+    let h = room_held (p at.After-place_record) a.room.now c.requires (placed_here at.After-place_record c.in-Length.is) in
     record {
       fits = (omega (arith, tagged at.After-place_record, tag_within (p at.After-place_record), h.len), omega (arith, ap length h.text, h.len, length-take c.in-Length.len (room at.After-place_record)), omega (arith, ap length h.text, h.len, length-take c.in-Length.len (room at.After-place_record), h.size));
-      adds = λ b. field_is (p at.After-place_record) a.buf.now a.at b h.given (writable-here at.After-place_record) h.text (tagged at.After-place_record);
+      adds = λ b. field_is (p at.After-place_record) a.buf.now a.at b h.given (writable_here at.After-place_record) h.text (tagged at.After-place_record);
     }
 
 pub returns-in-Refused : goal.returns-in-Refused
 returns-in-Refused c =
     let at = goal.at.returns-in-Refused c in
     let a = c.args in
-    let m = room_measured (p at.After-place_record) a.room.now c.requires (placed-here at.After-place_record c.in-Refused.is) in
-    record { fits = tt; adds = λ b. sym (add_asked a.buf.now a.at b (content (p at.After-place_record)) (writable-here at.After-place_record) (asked_unmeasured (content (p at.After-place_record)) m)) }
+    let m = room_measured (p at.After-place_record) a.room.now c.requires (placed_here at.After-place_record c.in-Refused.is) in
+    record { fits = tt; adds = λ b. sym (add_asked a.buf.now a.at b (content (p at.After-place_record)) (writable_here at.After-place_record) (asked_unmeasured (content (p at.After-place_record)) m)) }

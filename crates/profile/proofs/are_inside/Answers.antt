@@ -30,8 +30,8 @@ module _ (c : At-loop-i) where
   abbrev entry : ℕ
   entry = get_or c.args.classes.now b 0
 
-  narrow-is : {t : Bool} → has_bits 4 entry ≡ t → narrow b ≡ t
-  narrow-is e = sym (class_narrow b) ∙ by_entry 4 b c.requires e
+  narrow_is : {t : Bool} → has_bits 4 entry ≡ t → narrow b ≡ t
+  narrow_is e = sym (class_narrow b) ∙ by_entry 4 b c.requires e
 
   small_is : {t : Bool} → has_bits 64 entry ≡ t → small b ≡ t
   small_is e = sym (class_small b) ∙ by_entry 64 b c.requires e
@@ -43,7 +43,7 @@ module _ (c : At-loop-i) where
 passed : (c : Joined-else-holds) → byte_inside (holds (goal.at.Joined-else-holds c).At-loop-i) (b (goal.at.Joined-else-holds c).At-loop-i) ≡ true
 passed c =
     let at = (goal.at.Joined-else-holds c).At-loop-i in
-    let n : narrow (b at) ≡ true = narrow-is at (eq-eqb _ _ c.if-class-ne-NARROW.false) in
+    let n : narrow (b at) ≡ true = narrow_is at (eq-eqb _ _ c.if-class-ne-NARROW.false) in
     let other : (not (holds at) || not (small (b at))) ≡ true =
     elim c.else-holds.branch [
       | else-holds-via-then-holds+else-class-eq-SMALL w ↦
@@ -59,7 +59,7 @@ loop-i-init c = (omega arith, ap (all _) (sym (part_end c.args.line.now 0)))
 pub returns-then-class-ne-NARROW : goal.returns-then-class-ne-NARROW
 returns-then-class-ne-NARROW c =
     let at = goal.at.returns-then-class-ne-NARROW c in
-    let n : narrow (b at.At-loop-i) ≡ false = narrow-is at.At-loop-i (ne_eqb _ _ c.if-class-ne-NARROW.true) in
+    let n : narrow (b at.At-loop-i) ≡ false = narrow_is at.At-loop-i (ne_eqb _ _ c.if-class-ne-NARROW.true) in
     sym (sym (bytes_inside (holds at.At-loop-i) (line at.At-loop-i)) ∙ fails at.At-loop-i (omega arith) (rw n))
 
 pub returns-then-class-eq-SMALL : goal.returns-then-class-eq-SMALL

@@ -28,8 +28,8 @@ module _ (k : After-count_lines-n) where
   few h = sym (counts_few o k.limits_of-limits.ensures all (omega (arith, h, counted)))
 
   module _ (h : k.limits_of-limits.result.min_lines ≤ 1 + k.count_lines-n.result) where
-    open-ended : k.limits_of-limits.result.max_lines ≡ 0 → true ≡ is_counted o all
-    open-ended z = sym (counts_open o k.limits_of-limits.ensures all (omega (arith, h, counted)) z)
+    open_ended : k.limits_of-limits.result.max_lines ≡ 0 → true ≡ is_counted o all
+    open_ended z = sym (counts_open o k.limits_of-limits.ensures all (omega (arith, h, counted)) z)
 
     bounded : (k.limits_of-limits.result.max_lines ≡ 0 → ⊥) → leb (1 + k.count_lines-n.result) k.limits_of-limits.result.max_lines ≡ is_counted o all
     bounded z = ap (λ (n : ℕ). leb n k.limits_of-limits.result.max_lines) counted ∙ sym (counts_most o k.limits_of-limits.ensures all (omega (arith, h, counted)) z)
@@ -56,7 +56,7 @@ pub returns-then-n-limits : goal.returns-then-n-limits
 returns-then-n-limits c = few (goal.at.returns-then-n-limits c).After-count_lines-n c.if-n-limits.true
 
 pub returns-then-limits-eq0-2 : goal.returns-then-limits-eq0-2
-returns-then-limits-eq0-2 c = open-ended (goal.at.returns-then-limits-eq0-2 c).After-count_lines-n c.if-n-limits.false c.if-limits-eq0-2.true
+returns-then-limits-eq0-2 c = open_ended (goal.at.returns-then-limits-eq0-2 c).After-count_lines-n c.if-n-limits.false c.if-limits-eq0-2.true
 
 pub returns : goal.returns
 returns c = bounded (goal.at.returns c).After-count_lines-n c.if-n-limits.false c.if-limits-eq0-2.false

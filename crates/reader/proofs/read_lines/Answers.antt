@@ -58,15 +58,15 @@ module _ (o : After-rest_of-later) where
   accepts : told o.parse_head-head.result.outcome ≡ accepted
   accepts = ap told o.in_default-outcome.is
 
-  rest-is : (t : Bool) → o.parse_head-head.result.present ≡ t
+  rest_is : (t : Bool) → o.parse_head-head.result.present ≡ t
       → after_head option (suc later.start_idx) (passed_head o.parse_head-head.result.present (part_in body later.account)) (lines (drop later.from.at body)) ≡ by_lines option (lines body)
-  rest-is true q =
+  rest_is true q =
       let i = o.rest_of-later.ensures.there q in
       let found : after_head option (suc later.start_idx) (passed_head o.parse_head-head.result.present (part_in body later.account)) (lines (drop later.from.at body)) ≡ after_head option 2 (passed_head true (drop o.parse_head-head.result.skip line)) others =
       λ j. after_head option (suc (i.one j)) (passed_head (q j) (i.account body j)) (lines (drop (i.from j).at body)) in
       found
       ∙ sym (ap (by_lines option) (fits (goal.at.After-rest_of-later o).In-Next).line ∙ head_there option line others o.parse_head-head.ensures passed q (told_text line o.parse_head-head.result q) accepts)
-  rest-is false q =
+  rest_is false q =
       let r = o.rest_of-later.ensures.none q in
       let found : after_head option (suc later.start_idx) (passed_head o.parse_head-head.result.present (part_in body later.account)) (lines (drop later.from.at body)) ≡ after_head option 1 (passed_head false []) (lines body) =
       λ j. after_head option (suc (r j).start_idx) (passed_head (q j) (part_in body (r j).account)) (lines (drop (r j).from.at body)) in
@@ -112,4 +112,4 @@ returns-in-Refused c =
 pub returns : goal.returns
 returns c =
     let at = goal.at.returns c in
-    c.read_rest.ensures ∙ ap (reading_of (option at.After-rest_of-later)) (rest-is at.After-rest_of-later c.parse_head-head.result.present refl)
+    c.read_rest.ensures ∙ ap (reading_of (option at.After-rest_of-later)) (rest_is at.After-rest_of-later c.parse_head-head.result.present refl)

@@ -19,9 +19,9 @@ module _ (s : List ℕ) where
   unfolding holds_record
   no_place e h = rw (le-leb record_size (length s) e, lt-leb (get_or s 0 0) 10 h)
 
-  by-presence : record_size ≤ length s → get_or s 0 0 ≤ 10 → leb (get_or s 1 0) 1 ≡ holds_record s
+  by_presence : record_size ≤ length s → get_or s 0 0 ≤ 10 → leb (get_or s 1 0) 1 ≡ holds_record s
   unfolding holds_record
-  by-presence e h = rw (le-leb record_size (length s) e, le-leb (get_or s 0 0) 10 h)
+  by_presence e h = rw (le-leb record_size (length s) e, le-leb (get_or s 0 0) 10 h)
 
 pub returns-then-s-lt-RECORD_SIZE : goal.returns-then-s-lt-RECORD_SIZE
 returns-then-s-lt-RECORD_SIZE c = no_size _ c.if-s-lt-RECORD_SIZE.true
@@ -30,4 +30,4 @@ pub returns-then-s-gt10 : goal.returns-then-s-gt10
 returns-then-s-gt10 c = no_place _ c.if-s-lt-RECORD_SIZE.false c.if-s-gt10.true
 
 pub returns : goal.returns
-returns c = by-presence _ c.if-s-lt-RECORD_SIZE.false c.if-s-gt10.false
+returns c = by_presence _ c.if-s-lt-RECORD_SIZE.false c.if-s-gt10.false

@@ -13,7 +13,7 @@ use Rattle.party.specs.Party.{content}
 use Rattle.record_bytes.specs.RecordBytes.{party_from}
 use Rattle.record_bytes.proofs.Laws.{party_names, party_name, party_digit}
 use Rattle.writer.specs.Code.{name_count, is_name, all_names, names_pass}
-use Rattle.writer.proofs.Names.{none, names_in, few as names-few, content_names, all_next, all_end, lent_limits, lent_count}
+use Rattle.writer.proofs.Names.{none, names_in, few as names_few, content_names, all_next, all_end, lent_limits, lent_count}
 use Rattle.writer.proofs.all_names.Goals as goal
 use Rattle.writer.proofs.all_names.Goals.{After-is_name, At-loop-i}
 
@@ -34,7 +34,7 @@ module _ (k : At-loop-i) where
   count = lent_count lent k.requires.lent k.name_count-n.ensures
 
   few : n ≤ 4
-  few = names-few p (party_names lent) count
+  few = names_few p (party_names lent) count
 
   -- the test that the contract names, by what the function knows of the option
   whole : names_pass p ≡ all_names limits.numbering limits.name_max 1 p.digits (names_in n p)

@@ -26,14 +26,14 @@ by m e =
 abbrev plain : List ℕ
 plain = 0 ∷ 2 ∷ 3 ∷ 4 ∷ 6 ∷ []
 
-plain-reply : (f : First) (o : PartyOption) (x : List ℕ) → OneOf plain (tag_of the_type f) → account_reply o x ≡ text_reply f o x
-plain-reply NoAccount o x h = refl
-plain-reply Identified o x h = absurd (miss plain 1 tt h)
-plain-reply Account o x h = refl
-plain-reply ShortAccount o x h = refl
-plain-reply SlashAccount o x h = refl
-plain-reply AnyAccount o x h = absurd (miss plain 5 tt h)
-plain-reply WholeLine o x h = refl
+plain_reply : (f : First) (o : PartyOption) (x : List ℕ) → OneOf plain (tag_of the_type f) → account_reply o x ≡ text_reply f o x
+plain_reply NoAccount o x h = refl
+plain_reply Identified o x h = absurd (miss plain 1 tt h)
+plain_reply Account o x h = refl
+plain_reply ShortAccount o x h = refl
+plain_reply SlashAccount o x h = refl
+plain_reply AnyAccount o x h = absurd (miss plain 5 tt h)
+plain_reply WholeLine o x h = refl
 
 pub returns-in-Identified : goal.returns-in-Identified
 returns-in-Identified c = c.is_identifier.ensures ∙ by (goal.at.returns-in-Identified c).After-limits_of-limits c.in-Identified.is

@@ -39,9 +39,9 @@ module _ (t : After-is_in_turn) where
       ap (in_turn t.args.numbering (t.args.i + 1) (digit (goal.at.After-is_in_turn t).Start)) (sym t.used_text-text.ensures.is) ∙ sym t.is_in_turn.ensures ∙ e
 
 -- the length of the text after the number
-text-length :
+text_length :
     (l : After-number_length) → length (drop (number_in l.args.numbering) (name (goal.at.After-number_length l).Start).bytes) ≡ length l.used_text-text.result.now - l.number_length.result
-text-length l =
+text_length l =
     omega (arith, length-drop (number_in l.args.numbering) (name (goal.at.After-number_length l).Start).bytes, ap length l.used_text-text.ensures.is, l.number_length.ensures)
 
 pub returns-then-not-is_whole : goal.returns-then-not-is_whole
@@ -57,7 +57,7 @@ returns-then-not-is_in_turn c =
 pub returns-then-longest-text : goal.returns-then-longest-text
 returns-then-longest-text c =
     let at = goal.at.returns-then-longest-text c in
-    sym (name_long c.args.numbering c.args.longest (c.args.i + 1) (digit at.Start) (name at.Start) (turn at.After-is_in_turn c.if-not-is_in_turn.false) (omega (arith, text-length at.After-number_length)))
+    sym (name_long c.args.numbering c.args.longest (c.args.i + 1) (digit at.Start) (name at.Start) (turn at.After-is_in_turn c.if-not-is_in_turn.false) (omega (arith, text_length at.After-number_length)))
 
 pub returns : goal.returns
 returns c =
@@ -65,7 +65,7 @@ returns c =
     c.all_in.ensures
     ∙ by_entries 2 plain class_plain c.args.classes.now c.used_text-text.result.now c.requires.2
     ∙ ap (all plain) c.used_text-text.ensures.is
-    ∙ sym (name_bytes c.args.numbering c.args.longest (c.args.i + 1) (digit at.Start) (name at.Start) (turn at.After-is_in_turn c.if-not-is_in_turn.false) (omega (arith, text-length at.After-number_length))
+    ∙ sym (name_bytes c.args.numbering c.args.longest (c.args.i + 1) (digit at.Start) (name at.Start) (turn at.After-is_in_turn c.if-not-is_in_turn.false) (omega (arith, text_length at.After-number_length))
     (whole at.After-is_whole c.if-not-is_whole.false))
 
 pub overflow_sub-text : goal.overflow_sub-text

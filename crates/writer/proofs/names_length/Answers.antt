@@ -16,7 +16,7 @@ use Rattle.field_utils.specs.Names.{dropped_prefix}
 use Rattle.record_bytes.specs.RecordBytes.{party_from}
 use Rattle.record_bytes.proofs.Laws.{party_names, party_name}
 use Rattle.writer.specs.Code.{name_count}
-use Rattle.writer.proofs.Names.{few as names-few, marks_most, content_lines, left_length, left_end, lent_limits, lent_count}
+use Rattle.writer.proofs.Names.{few as names_few, marks_most, content_lines, left_length, left_end, lent_limits, lent_count}
 use Rattle.writer.proofs.names_length.Goals as goal
 use Rattle.writer.proofs.names_length.Goals.{At-loop-i}
 
@@ -37,7 +37,7 @@ module _ (k : At-loop-i) where
   count = lent_count lent k.requires k.name_count-n.ensures
 
   few : n ≤ 4
-  few = names-few p (party_names lent) count
+  few = names_few p (party_names lent) count
 
   marked : k.dropped_prefix-mark.result ≡ dropped_prefix f
   marked = k.dropped_prefix-mark.ensures ∙ ap dropped_prefix (ap (λ (l : Limits). l.numbering) (lent_limits lent k.requires k.limits_of-limits.ensures))

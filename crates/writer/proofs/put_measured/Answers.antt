@@ -62,11 +62,11 @@ is_given-requires c = lent c
 pub returns-then-not-is_given : goal.returns-then-not-is_given
 returns-then-not-is_given c =
     let at = goal.at.returns-then-not-is_given c in
-    let not-given = sym c.is_given.ensures ∙ c.if-not-is_given.true in
+    let not_given = sym c.is_given.ensures ∙ c.if-not-is_given.true in
     rw (loaded (s at.Else-not-holds_record) (holds at.Else-not-holds_record))
     (record {
-      result_value = measure_22 (content (p at.Else-not-holds_record)) not-given;
-      buf_after = sym (ap (λ (x : Placing). x.buffer) (place_22 (content (p at.Else-not-holds_record)) c.args.buf.now not-given));
+      result_value = measure_22 (content (p at.Else-not-holds_record)) not_given;
+      buf_after = sym (ap (λ (x : Placing). x.buffer) (place_22 (content (p at.Else-not-holds_record)) c.args.buf.now not_given));
     })
 
 pub written_length-n-requires : goal.written_length-n-requires

@@ -15,7 +15,7 @@ use Rattle.record_bytes.specs.RecordBytes.{digits_at, text_at, party_from}
 use Rattle.record_bytes.proofs.Laws.{party_names, party_name, party_digit}
 use Rattle.writer.specs.Writing.{number_of, name_lines}
 use Rattle.writer.specs.Code.{lead, led, name_count}
-use Rattle.writer.proofs.Names.{names_in, few as names-few, content_lines, left_next, left_end, lent_limits, lent_count}
+use Rattle.writer.proofs.Names.{names_in, few as names_few, content_lines, left_next, left_end, lent_limits, lent_count}
 use Rattle.writer.proofs.Puts.{Partway, begun, finished, next, next_space}
 use Rattle.writer.proofs.put_names.Goals as goal
 use Rattle.writer.proofs.put_names.Goals.{At-loop-i}
@@ -37,7 +37,7 @@ module _ (k : At-loop-i) where
   count = lent_count lent k.requires.lent k.name_count-n.ensures
 
   few : n ≤ 4
-  few = names-few p (party_names lent) count
+  few = names_few p (party_names lent) count
 
   numbered : k.limits_of-limits.result.numbering ≡ f
   numbered = ap (λ (l : Limits). l.numbering) (lent_limits lent k.requires.lent k.limits_of-limits.ensures)

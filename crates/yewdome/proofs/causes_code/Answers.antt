@@ -1,7 +1,6 @@
 -- `yewdome::causes_code` meets its contract: the sum is below 32. Assumes nothing.
 use Prim.Native.Nat.{◌+◌}
 use native.Mathlib.Omega.{arith}
-use borrow.Author.Rules.{rules}
 use Rattle.yewdome.proofs.causes_code.Goals as goal
 
 pub overflow_add-result : goal.overflow_add-result

@@ -1,5 +1,5 @@
 -- `yewdome::check_arguments` meets its contract, by the test that it ends at. Assumes nothing.
-use borrow.Author.Tests.{le-leb, lt-leb, not-true, not-false}
+use borrow.Author.Tests.{le-leb, lt-leb}
 use Rattle.record_bytes.specs.RecordBytes.{record_size}
 use Rattle.yewdome.proofs.check_arguments.Goals as goal
 

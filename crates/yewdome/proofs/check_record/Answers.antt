@@ -1,5 +1,4 @@
 -- `yewdome::check_record` meets its contract: no bytes are too few. Assumes nothing.
-use borrow.Author.Rules.{rules}
 use Rattle.yewdome.proofs.Answers.{empty_lent}
 use Rattle.yewdome.proofs.check_record.Goals as goal
 

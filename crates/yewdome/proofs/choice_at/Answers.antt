@@ -1,6 +1,5 @@
 -- `yewdome::choice_at` meets its contract: no choice stands past the last. Assumes nothing.
 use mathlib.Core.Path.{refl, sym}
-use borrow.Author.Rules.{rules}
 use lib.ListN.{get_or-eq_default}
 use Rattle.reader.specs.declared.choices.Choice.TheVariants.{Field50InstructingParty}
 use Rattle.yewdome.specs.Interface.{choices}

@@ -2,7 +2,6 @@
 use Prim.Native.Nat.{◌≤◌, ◌+◌, ◌*◌}
 use mathlib.Core.Path.{ap}
 use native.Mathlib.Omega.{arith}
-use borrow.Author.Rules.{rules}
 use Rattle.errors.specs.declared.Refusal.{Refusal}
 use Rattle.reader.specs.Options.{body_most}
 use Rattle.yewdome.proofs.code.Goals as goal

@@ -1,6 +1,5 @@
 -- `yewdome::filed` meets its contract: a position within a page is a number of 32 bits. Assumes nothing.
 use native.Mathlib.Omega.{arith}
-use borrow.Author.Rules.{rules}
 use Rattle.yewdome.proofs.filed.Goals as goal
 
 pub overflow_cast-result : goal.overflow_cast-result

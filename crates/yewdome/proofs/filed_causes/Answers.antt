@@ -1,5 +1,4 @@
 -- `yewdome::filed_causes` meets its contract: lengths that agree show that there are none; else they are looked for. Assumes nothing.
-use borrow.Author.Rules.{rules}
 use Rattle.yewdome.proofs.Causes.{filed_none}
 use Rattle.yewdome.proofs.Causes.{filed_within}
 use native.Mathlib.Omega.{arith}

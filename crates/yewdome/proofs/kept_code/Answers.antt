@@ -1,7 +1,5 @@
 -- `yewdome::kept_code` meets its contract: 41, the refusal, or the causes. Assumes nothing.
 use mathlib.Core.Path.{◌∙◌, ap}
-use borrow.Author.Tests.{not-true, not-false}
-use borrow.Author.Rules.{rules}
 use Rattle.errors.specs.Refusals.{told}
 use Rattle.kept.specs.Kept.{told_kept}
 use Rattle.yewdome.proofs.Causes.{unknown_code, refused_code, accepted_code}

@@ -1,6 +1,5 @@
 -- `yewdome::measured` meets its contract: the length of a field is a number of 32 bits. Assumes nothing.
 use native.Mathlib.Omega.{arith}
-use borrow.Author.Rules.{rules}
 use Rattle.yewdome.proofs.measured.Goals as goal
 
 pub overflow_cast-result : goal.overflow_cast-result

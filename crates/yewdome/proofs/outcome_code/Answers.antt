@@ -1,5 +1,4 @@
 -- `yewdome::outcome_code` meets its contract. Assumes nothing.
-use borrow.Author.Rules.{rules}
 use Rattle.yewdome.proofs.outcome_code.Goals as goal
 
 pub code-requires : goal.code-requires

@@ -1,7 +1,6 @@
 -- `yewdome::record_causes` meets its contract: the bytes have the record's option and presence. Assumes nothing.
 use mathlib.Core.Path.{refl, ◌∙◌, ap}
 use native.Mathlib.Omega.{arith}
-use borrow.Author.Rules.{rules}
 use Rattle.yewdome.specs.Interface.{causes_code}
 use Rattle.yewdome.proofs.Causes.{read_told}
 use Rattle.yewdome.proofs.record_causes.Goals as goal

@@ -3,7 +3,6 @@ use Prim.Native.Nat.{◌-◌, ◌≤◌}
 use lib.ListN.{length, replicate}
 use Rattle.record_bytes.specs.RecordBytes.{record_size}
 use native.Mathlib.Omega.{arith}
-use borrow.Author.Rules.{rules}
 use Rattle.yewdome.specs.Code.{WasFiled}
 use Rattle.yewdome.proofs.Steps.{Given, none_given, not_filed, filed_as_lem, was_filed, was_refused}
 use Rattle.yewdome.proofs.step.Goals as goal

@@ -1,5 +1,4 @@
 -- `yewdome::store_answer` meets its contract, by the test that it ends at. Assumes nothing.
-use borrow.Author.Rules.{rules}
 use lib.ListN.{length}
 use Rattle.reader.specs.Reading.{told_answer}
 use Rattle.yewdome.specs.Interface.{arguments_reply, stored_call}

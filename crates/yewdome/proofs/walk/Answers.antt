@@ -1,15 +1,15 @@
 -- `yewdome::walk` meets its contract: each turn but the last moves past at least one byte, and what is left ends as the whole run does.
 -- Assumes nothing.
-use Prim.Native.Nat.{ℕ, ◌+◌, ◌-◌, ◌%◌, ◌≤◌, ◌<◌}
-use mathlib.Core.Path.{◌≡◌, ◌∙◌}
+use Prim.Native.Nat.{ℕ, ◌+◌, ◌%◌, ◌≤◌, ◌<◌}
+use mathlib.Core.Path.{◌≡◌}
 use mathlib.Core.Bool.{false}
 use native.Mathlib.Omega.{arith}
-use lib.ListN.{length, set, length-set}
+use lib.ListN.{length}
 use borrow.Author.Rules.{rules}
 use Rattle.page_reader.specs.Pages.{read_at}
 use Rattle.page_reader.specs.Reads.{is_last}
 use Rattle.yewdome.specs.Filing.{open_page}
-use Rattle.yewdome.proofs.Walks.{Partly, begins, Turn, few, there, same_numbers, at_end, at_stay, goes_on, next_within, finishes, continues}
+use Rattle.yewdome.proofs.Walks.{begins, Turn, few, there, at_end, at_stay, goes_on, next_within, finishes, continues}
 use Rattle.yewdome.proofs.walk.Goals as goal
 use Rattle.yewdome.proofs.walk.Goals.{After-step-stepped, Else-moved-eq0}
 

@@ -1,6 +1,5 @@
 -- `yewdome::yewdome_kept_parse` meets its contract: what is told of the reading is given as a number. Assumes nothing.
 use mathlib.Core.Path.{◌∙◌, sym, ap, subst}
-use borrow.Author.Rules.{rules}
 use lib.Dec.{leb}
 use Rattle.reader.specs.declared.choices.Choice.{Choice}
 use Rattle.kept.specs.Kept.{Kept, kept_parse}

@@ -1,6 +1,5 @@
 -- `yewdome::yewdome_kept_read` meets its contract: what is told of the reading is given as a number. Assumes nothing.
 use mathlib.Core.Path.{◌∙◌, sym, ap, subst}
-use borrow.Author.Rules.{rules}
 use lib.Dec.{leb}
 use Rattle.party.specs.declared.PartyOption.{PartyOption}
 use Rattle.kept.specs.Kept.{Kept, kept_read}

@@ -1,6 +1,5 @@
 -- `yewdome::yewdome_page_add_indexed` meets its contract: what adding gave is told. Assumes nothing.
 use mathlib.Core.Path.{refl, ◌∙◌}
-use borrow.Author.Rules.{rules}
 use lib.Dec.{leb}
 use lib.ListN.{length, get_or}
 use Rattle.party.specs.Party.{content}

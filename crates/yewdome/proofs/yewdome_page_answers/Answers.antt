@@ -1,6 +1,5 @@
 -- `yewdome::yewdome_page_answers` meets its contract: the loop files nothing, and its answers are those of the reads. Assumes nothing.
 use native.Mathlib.Omega.{arith}
-use borrow.Author.Rules.{rules}
 use Rattle.yewdome.proofs.Walks.{answers_short, walked_few, lists}
 use Rattle.yewdome.proofs.yewdome_page_answers.Goals as goal
 

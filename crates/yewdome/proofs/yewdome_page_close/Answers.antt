@@ -1,5 +1,4 @@
 -- `yewdome::yewdome_page_close` meets its contract: what closing gave is told. Assumes nothing.
-use borrow.Author.Rules.{rules}
 use Rattle.yewdome.proofs.Pages.{close_within, told_within, filed_told}
 use Rattle.yewdome.proofs.yewdome_page_close.Goals as goal
 

@@ -1,7 +1,6 @@
 -- `yewdome::yewdome_page_file` meets its contract: the loop files, and what it filed is closed. Assumes nothing.
 use Prim.Native.Nat.{suc, ◌≤◌}
 use native.Mathlib.Omega.{arith}
-use borrow.Author.Rules.{rules}
 use Rattle.page_reader.specs.Pages.{page_most}
 use Rattle.yewdome.proofs.Walks.{file_short, walked_few, files_all}
 use Rattle.yewdome.proofs.yewdome_page_file.Goals as goal

@@ -1,7 +1,6 @@
 -- `yewdome::yewdome_page_kept` meets its contract, by what the read gives. Assumes nothing.
 use native.Mathlib.Omega.{arith}
 use lib.ListN.{replicate}
-use borrow.Author.Rules.{rules}
 use Rattle.record_bytes.specs.RecordBytes.{record_size}
 use Rattle.yewdome.proofs.Steps.{Given, was_read, kept_none, kept_some}
 use Rattle.yewdome.proofs.yewdome_page_kept.Goals as goal

@@ -3,7 +3,6 @@ use Prim.Native.Nat.{ℕ}
 use mathlib.Core.Path.{◌≡◌, sym, ◌∙◌, ap}
 use mathlib.Core.List.{List}
 use native.Mathlib.Omega.{arith}
-use borrow.Author.Rules.{rules}
 use Rattle.page_reader.specs.declared.index.LookOutcome.{LookOutcome}
 use Rattle.page_reader.specs.declared.index.LookOutcome.TheVariants.{Record, Refused, NotFound}
 use Rattle.page_reader.specs.Index.{Looked, body_of, look_lent, party_looked, look_outline, told_looked}

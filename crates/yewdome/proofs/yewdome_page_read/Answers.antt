@@ -3,7 +3,6 @@ use Prim.Native.Nat.{ℕ, ◌-◌, ◌+◌, ◌≤◌}
 use mathlib.Core.Path.{◌≡◌}
 use mathlib.Core.List.{List}
 use native.Mathlib.Omega.{arith}
-use borrow.Author.Rules.{rules}
 use Rattle.page_reader.specs.declared.ReadOutcome.{ReadOutcome}
 use Rattle.page_reader.specs.declared.ReadOutcome.TheVariants.{Record, End, Refused}
 use Rattle.page_reader.specs.declared.ReadInto.{ReadInto}

@@ -1,6 +1,5 @@
 -- `yewdome::yewdome_party_measure` meets its contract: what measuring gave is told. Assumes nothing.
 use mathlib.Core.Path.{sym, ◌∙◌, ap, subst}
-use borrow.Author.Rules.{rules}
 use lib.Dec.{leb}
 use lib.ListN.{length, get_or}
 use Rattle.party.specs.Party.{content}

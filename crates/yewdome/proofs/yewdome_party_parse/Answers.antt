@@ -1,6 +1,5 @@
 -- `yewdome::yewdome_party_parse` meets its contract: what the choice stored is given. Assumes nothing.
 use mathlib.Core.Path.{◌≡◌, ◌∙◌, ap}
-use borrow.Author.Rules.{rules}
 use lib.Dec.{leb}
 use lib.ListN.{length}
 use Rattle.reader.specs.Reading.{Reading, told_into, read_into}

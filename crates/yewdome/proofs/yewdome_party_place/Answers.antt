@@ -1,6 +1,5 @@
 -- `yewdome::yewdome_party_place` meets its contract: what placing gave is told. Assumes nothing.
 use mathlib.Core.Path.{sym, ◌∙◌, subst}
-use borrow.Author.Rules.{rules}
 use lib.Dec.{leb}
 use lib.ListN.{length, get_or}
 use Rattle.party.specs.Party.{content}

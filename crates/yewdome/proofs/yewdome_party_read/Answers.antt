@@ -1,6 +1,5 @@
 -- `yewdome::yewdome_party_read` meets its contract: what the reader stored is given. Assumes nothing.
 use mathlib.Core.Path.{◌≡◌, ◌∙◌, ap}
-use borrow.Author.Rules.{rules}
 use lib.Dec.{leb}
 use lib.ListN.{length}
 use Rattle.party.specs.declared.PartyOption.{PartyOption}

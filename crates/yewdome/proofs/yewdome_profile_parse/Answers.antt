@@ -1,6 +1,5 @@
 -- `yewdome::yewdome_profile_parse` meets its contract: what was read under the profile is given. Assumes nothing.
 use mathlib.Core.Path.{◌∙◌, sym, ap, subst}
-use borrow.Author.Rules.{rules}
 use lib.Dec.{leb}
 use Rattle.reader.specs.Reading.{Reading}
 use Rattle.reader.specs.declared.choices.Choice.{Choice}

@@ -7,9 +7,9 @@ use Rattle.field_utils.proofs.lines.trim.Goals as goal
 use Rattle.field_utils.proofs.lines.trim.Goals.{Then-not-is_white}
 
 -- the part from the place on is the trimmed start
-at-start : (c : Then-not-is_white) → let a = c.args in
+at_start : (c : Then-not-is_white) → let a = c.args in
     trimmed_start a.s.now ≡ drop c.loop-start.start a.s.now
-at-start c =
+at_start c =
     let a = c.args in
     let k = c.loop-start in
     k.invariant ∙ start_there a.s.now k.start (omega arith) (sym c.is_white.ensures ∙ c.if-not-is_white.true)
@@ -30,7 +30,7 @@ pub returns-then-not-is_white : goal.returns-then-not-is_white
 unfolding trimmed
 returns-then-not-is_white c =
     let a = c.args in
-    c.trim_end.ensures ∙ ap trimmed_end (part_end a.s.now c.loop-start.start ∙ sym (at-start (goal.at.returns-then-not-is_white c).Then-not-is_white))
+    c.trim_end.ensures ∙ ap trimmed_end (part_end a.s.now c.loop-start.start ∙ sym (at_start (goal.at.returns-then-not-is_white c).Then-not-is_white))
 
 pub overflow_add-start : goal.overflow_add-start
 overflow_add-start c = omega arith

@@ -13,7 +13,7 @@ pub returns : goal.returns
 returns c =
     let s = c.args.s.now in
     let at = c.args.at in
-    let eight-long : at + 8 - at ≡ 8 = omega arith in
+    let eight_long : at + 8 - at ≡ 8 = omega arith in
     let long : length (take 8 (drop at s)) ≡ 8 = length-take-le 8 (drop at s) (omega (arith, length-drop at s)) in
-    ap (low_bytes 8) (c.word.ensures ∙ ap (λ (n : ℕ). eight (take n (drop at s))) eight-long)
+    ap (low_bytes 8) (c.word.ensures ∙ ap (λ (n : ℕ). eight (take n (drop at s))) eight_long)
     ∙ low_eight (take 8 (drop at s)) long (λ i h. subst (λ (b : ℕ). b < 256) (sym (get_or-take 8 (drop at s) i 0 h ∙ get_or-drop at s i 0)) (small c (at + i)))

@@ -12,15 +12,15 @@ use Rattle.page_reader.proofs.index.field_here.Goals.{After-read_case, In-Openin
 
 module _ (k : After-read_case) {x : ReadCase} (e : k.read_case.result ≡ x) where
   -- which case it is
-  case-of : let a = k.args in read_case a.page.now a.position ≡ x
-  case-of = sym k.read_case.ensures ∙ e
+  case_of : let a = k.args in read_case a.page.now a.position ≡ x
+  case_of = sym k.read_case.ensures ∙ e
 
   holds_of : let a = k.args in (r : Place) → HoldsBy x a.page.now a.position a.tag a.len r → HoldsBy (read_case a.page.now a.position) a.page.now a.position a.tag a.len r
-  holds_of r h = let a = k.args in subst (λ (y : ReadCase). HoldsBy y a.page.now a.position a.tag a.len r) (sym case-of) h
+  holds_of r h = let a = k.args in subst (λ (y : ReadCase). HoldsBy y a.page.now a.position a.tag a.len r) (sym case_of) h
 
 -- where a field stands
 field_of : (t : In-Opening) → let a = t.args in Stands a.page.now a.position t.in-Opening.to
-field_of t = ends_by _ _ (case-of (goal.at.In-Opening t).After-read_case t.in-Opening.is)
+field_of t = ends_by _ _ (case_of (goal.at.In-Opening t).After-read_case t.in-Opening.is)
 
 pub field_in-requires : goal.field_in-requires
 field_in-requires c = ((field_of c).from, (field_of c).most)

@@ -26,9 +26,9 @@ tag_of t {x} e =
     subst (λ (y : List ℕ). told_tag y x ≡ tag_in options y) t.text_in-text.ensures (ap (told_tag t.text_in-text.result.now) (sym e) ∙ t.parse_tag-found.ensures)
 
 -- whether the entry is there, by the tag
-by-tag : (t : After-parse_tag-found) {w : Tagged} {b : Bool} → w ≡ tag_in options (text (goal.at.After-parse_tag-found t).After-text_in-text) → let a = t.args in
+by_tag : (t : After-parse_tag-found) {w : Tagged} {b : Bool} → w ≡ tag_in options (text (goal.at.After-parse_tag-found t).After-text_in-text) → let a = t.args in
     There a.at (length (text (goal.at.After-parse_tag-found t).After-text_in-text)) a.tag a.len w b → There a.at (length (text (goal.at.After-parse_tag-found t).After-text_in-text)) a.tag a.len (tag_in options (text (goal.at.After-parse_tag-found t).After-text_in-text)) b
-by-tag t {w} {b} e h = let a = t.args in subst (λ (x : Tagged). There a.at (length (text (goal.at.After-parse_tag-found t).After-text_in-text)) a.tag a.len x b) e h
+by_tag t {w} {b} e h = let a = t.args in subst (λ (x : Tagged). There a.at (length (text (goal.at.After-parse_tag-found t).After-text_in-text)) a.tag a.len x b) e h
 
 -- its option, and the body
 module _ (c : After-index_of) where
@@ -38,8 +38,8 @@ module _ (c : After-index_of) where
   abbrev body : List ℕ
   body = drop c.in-Known.skip (text (goal.at.After-index_of c).After-text_in-text)
 
-  tagged-here : tagged o body ≡ tag_in options (text (goal.at.After-index_of c).After-text_in-text)
-  tagged-here = tag_of (goal.at.After-index_of c).After-parse_tag-found c.in-Known.is
+  tagged_here : tagged o body ≡ tag_in options (text (goal.at.After-index_of c).After-text_in-text)
+  tagged_here = tag_of (goal.at.After-index_of c).After-parse_tag-found c.in-Known.is
 
 pub returns-then-text-len : goal.returns-then-text-len
 returns-then-text-len c =

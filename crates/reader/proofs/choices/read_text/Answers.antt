@@ -17,9 +17,9 @@ either true body = refl
 either false body = refl
 
 -- by whether the letter is that of C or L
-text-by : (choice : Choice) (body : List ℕ) (letter : ℕ) {t : Bool} → is_picked letter (Field50C ∷ Field50L ∷ []) ≡ t
+text_by : (choice : Choice) (body : List ℕ) (letter : ℕ) {t : Bool} → is_picked letter (Field50C ∷ Field50L ∷ []) ≡ t
     → ◌≡◌ {A = List ℕ} (elim t [ true ↦ body | false ↦ tried_text choice body ]) (read_text choice body letter)
-text-by choice body letter {t} e =
+text_by choice body letter {t} e =
     by_choice (λ choice. ◌≡◌ {A = List ℕ} (elim t [ true ↦ body | false ↦ tried_text choice body ]) (read_text choice body letter)) (rw (e, read_text)) (others Field50OrderingCustomerFGH) (others Field50OrderingCustomerAFK) (others Field50OrderingCustomerNCF) (others Field50Creditor) (others Field59) (others Field59Debtor)
     choice
   where
@@ -33,17 +33,17 @@ picked letter {t} {u} e f = rw (e, f) (ap (λ (x : Bool). t || x) (or-false u))
 pub returns-then-has_letter : goal.returns-then-has_letter
 returns-then-has_letter c =
     let a = c.args in
-    text-by a.choice a.body.now a.letter (picked a.letter (sym c.has_letter.ensures ∙ c.if-has_letter.true) refl)
+    text_by a.choice a.body.now a.letter (picked a.letter (sym c.has_letter.ensures ∙ c.if-has_letter.true) refl)
 
 pub returns-then-has_letter-2 : goal.returns-then-has_letter-2
 returns-then-has_letter-2 c =
     let a = c.args in
-    text-by a.choice a.body.now a.letter
+    text_by a.choice a.body.now a.letter
     (picked a.letter (sym c.has_letter.ensures ∙ c.if-has_letter.false) (sym c.has_letter-2.ensures ∙ c.if-has_letter-2.true))
 
 pub returns : goal.returns
 returns c =
     let a = c.args in
     c.tried_text.ensures
-    ∙ text-by a.choice a.body.now a.letter
+    ∙ text_by a.choice a.body.now a.letter
     (picked a.letter (sym c.has_letter.ensures ∙ c.if-has_letter.false) (sym c.has_letter-2.ensures ∙ c.if-has_letter-2.false))

@@ -15,9 +15,9 @@ fits : (c : In-Next) → Found c.args.text.now 0 c.in-Next.start c.in-Next.end c
 fits c =
     found c.args.text.now 0 c.next-found.ensures c.in-Next.is
 
-fits-2 : (c : In-Next-found_second) → let v = c.in-Next-found_second in
+fits_2 : (c : In-Next-found_second) → let v = c.in-Next-found_second in
     Found c.args.text.now c.in-Next.rest.at v.next v.next_end v.later.at
-fits-2 c =
+fits_2 c =
     found c.args.text.now c.in-Next.rest.at c.next-found_second.ensures c.in-Next-found_second.is
 
 pub returns-in_default : goal.returns-in_default
@@ -59,7 +59,7 @@ returns-in_default-found_second c =
 
 pub summarize_two-requires : goal.summarize_two-requires
 summarize_two-requires c =
-    let f = fits-2 c in
+    let f = fits_2 c in
     record { forward = f.forward; before = f.before; within = f.within }
 
 pub returns : goal.returns
@@ -67,4 +67,4 @@ returns c =
     let at = goal.at.returns c in
     let v = c.in-Next in
     let s = c.args.text.now in
-    walked_as ((fits at.In-Next).line ∙ ap (◌∷◌ (part v.start v.end s)) (fits-2 at.In-Next-found_second).line) c.summarize_two.ensures
+    walked_as ((fits at.In-Next).line ∙ ap (◌∷◌ (part v.start v.end s)) (fits_2 at.In-Next-found_second).line) c.summarize_two.ensures
