@@ -3,6 +3,7 @@
 // there are.
 #![tactic(auto)]
 
+mod input;
 mod tally;
 
 ghost use Rattle.std.specs.Prelude.{◌≡◌, ◌≤◌, ◌<◌, length};
@@ -11,48 +12,58 @@ ghost use Rattle.page_writer.specs.IndexState.{no_index};
 ghost use Rattle.page_writer.specs.Demand3.{closing};
 ghost use Rattle.yewdome.specs.Filing.{records_of};
 
-use libc::{STDIN_FILENO, STDOUT_FILENO};
+use input::read_full;
 use page_reader::PAGE_MOST;
+use std::io::Read;
 use tally::{say, say_answers};
 use yewdome::yewdome_page_file;
 
 // Files the page on a new one, and writes that: it is what `whole-page` speaks of, for the records that the page's reads give. Closing is not
 // refused in a buffer of at least 2 bytes, as `whole-page` says too.
-fn file_page(page: &[u8], buf: &mut [u8], answers: &mut [u64])
+fn file_page(rt: &(impl Print + Eprint), page: &[u8], buf: &mut [u8], answers: &mut [u64])
     requires { (2 ≤ length buf.old) × (length page.now < length answers.old) }
     ensures { buf.new ≡ (closing no_index (records_of page.now) buf.old).buffer }
 {
     let filed = yewdome_page_file(page, buf, answers);
     let count = (filed / 4294967296) as usize;
     let end = (filed % 4294967296) as usize;
-    say_answers(&answers[..count]);
-    if !io::write_all(STDOUT_FILENO, &buf[..end]) {
-        say(b"error: the page was not written whole\n");
+    say_answers(rt, &answers[..count]);
+    if rt.write_all(&buf[..end]).is_err() {
+        say(rt, "error: the page was not written whole\n");
     }
 }
 
 // The room for the input is longer than a page, so that a longer input is seen.
-fn run(room: &mut [u8], buf: &mut [u8], answers: &mut [u64])
+fn run(
+    rt: &(impl Print + Eprint),
+    input: &mut impl Read,
+    room: &mut [u8],
+    buf: &mut [u8],
+    answers: &mut [u64],
+)
     requires { (2 ≤ length buf.old) × (page_most < length answers.old) }
 {
-    let len = io::read_full(STDIN_FILENO, room);
+    let len = read_full(input, room);
     if len == 0 {
-        say(b"error: no page on standard input: it is empty\n");
+        say(rt, "error: no page on standard input: it is empty\n");
         return;
     }
     if PAGE_MOST < len {
-        say(b"error: no page on standard input: it is over 32,768 bytes\n");
+        say(
+            rt,
+            "error: no page on standard input: it is over 32,768 bytes\n",
+        );
         return;
     }
-    file_page(&room[..len], buf, answers);
+    file_page(rt, &room[..len], buf, answers);
 }
 
 // Numbers for the answers of any page: one more than it has bytes.
 const ANSWERS: usize = PAGE_MOST + 1;
 
-fn main() {
-    let mut room = io::large_buffer();
-    let mut buf = io::large_buffer();
+fn main(rt: HostRuntime) {
+    let mut room = [0u8; 65536];
+    let mut buf = [0u8; 65536];
     let mut answers = [0; ANSWERS];
-    run(&mut room, &mut buf, &mut answers);
+    run(&rt, &mut rt.stdin(), &mut room, &mut buf, &mut answers);
 }

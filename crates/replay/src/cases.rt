@@ -1,5 +1,5 @@
 // A case: a body is read by a call, and the record that it gives, or that the Rust reads, is written.
-ghost use Rattle.std.specs.Prelude.{◌≤◌};
+ghost use Rattle.std.specs.Prelude.{◌≡◌, ◌≤◌, length};
 
 use crate::count::{
     BODIES, BY_RULE, CAME, CASES, CAUSES, COUNTS, Difference, OTHER, RECORDS, WAYS, tick,
@@ -80,7 +80,9 @@ fn writes(record: &[u8], text: &[u8], len: usize, refusal: u32) -> bool {
 
 // Whether the record of the line is written as the text or, by the rule 22, refused; and a 50F, once its digits are 1, 2, 3, 4, as the Rust
 // writes it.
-fn is_written(line: &[u8], record: &mut [u8], text: &[u8]) -> bool {
+fn is_written(line: &[u8], record: &mut [u8], text: &[u8]) -> bool
+    requires { length «record».old ≡ 241 }
+{
     let mut room = [0u8; 240];
     let len = unescape(field(line, 20), &mut room, 0);
     if number(line, 8) == 22 {
@@ -148,7 +150,7 @@ fn count(line: &[u8], told: u64, counts: &mut [u64; COUNTS]) {
 
 // What differs in a case.
 pub(crate) fn judge(line: &[u8], counts: &mut [u64; COUNTS]) -> Difference {
-    let mut buffer = io::buffer();
+    let mut buffer = [0u8; 4096];
     let len = unescape(field(line, 3), &mut buffer, 0);
     let body = &buffer[..len];
     let mut record = [0u8; 241];

@@ -1,6 +1,5 @@
 // The counts, and what is printed.
 use crate::list::{find, past};
-use libc::STDOUT_FILENO;
 
 // What differs from what is expected; or the line is malformed.
 #[derive(Clone, Copy)]
@@ -64,48 +63,48 @@ pub(crate) fn tick(counts: &mut [u64; COUNTS], i: usize) {
     }
 }
 
-fn print(text: &[u8]) {
-    io::write_all(STDOUT_FILENO, text);
+pub(crate) fn print(rt: &impl Print, text: &[u8]) {
+    let _ = rt.write_all(text);
 }
 
 // Counts what differs in a line, and prints the first of them.
-pub(crate) fn note(difference: Difference, line: u64, counts: &mut [u64; COUNTS]) {
+pub(crate) fn note(rt: &impl Print, difference: Difference, line: u64, counts: &mut [u64; COUNTS]) {
     if let Difference::Nothing = difference {
         return;
     }
     if counts[DIFFER] < MOST {
-        print(b"line ");
-        io::print_decimal(STDOUT_FILENO, line);
-        print_difference(difference);
+        print(rt, b"line ");
+        let _ = rt.print(line);
+        print_difference(rt, difference);
     }
     tick(counts, DIFFER);
 }
 
-fn print_difference(difference: Difference) {
+fn print_difference(rt: &impl Print, difference: Difference) {
     match difference {
         Difference::Nothing => {}
-        Difference::Malformed => print(b": malformed\n"),
-        Difference::Code => print(b": code\n"),
-        Difference::Record => print(b": record\n"),
-        Difference::Written => print(b": written\n"),
-        Difference::Kept => print(b": kept\n"),
-        Difference::Body => print(b": body\n"),
+        Difference::Malformed => print(rt, b": malformed\n"),
+        Difference::Code => print(rt, b": code\n"),
+        Difference::Record => print(rt, b": record\n"),
+        Difference::Written => print(rt, b": written\n"),
+        Difference::Kept => print(rt, b": kept\n"),
+        Difference::Body => print(rt, b": body\n"),
     }
 }
 
-fn print_count(place: u8, counts: &[u64; COUNTS]) {
-    io::print_decimal(STDOUT_FILENO, counts[place as usize]);
+fn print_count(rt: &impl Print, place: u8, counts: &[u64; COUNTS]) {
+    let _ = rt.print(counts[place as usize]);
 }
 
 // Prints a text, and in the place of each `#` and the byte after it the count that stands at that byte's place.
-pub(crate) fn print_counts(text: &[u8], counts: &[u64; COUNTS]) {
+pub(crate) fn print_counts(rt: &impl Print, text: &[u8], counts: &[u64; COUNTS]) {
     let mut i = 0;
     while i < text.len() {
         let end = find(text, i, b'#');
-        print(&text[i..end]);
+        print(rt, &text[i..end]);
         i = past(text, end);
         if i < text.len() {
-            print_count(text[i], counts);
+            print_count(rt, text[i], counts);
         }
         i = past(text, i);
     }

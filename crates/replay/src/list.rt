@@ -1,6 +1,6 @@
 // The list: its lines, their fields, and the numbers and bytes that a field stands for. tests/README.md has the format.
 ghost use Rattle.std.specs.Prelude.{◌≡◌, ◌+◌, ◌<◌, ◌≤◌, min, length};
-ghost use Rattle.io.specs.Counts.{IsPrefixLen};
+ghost use Rattle.replay.specs.Counts.{IsPrefixLen};
 
 // What a field that is no number gives; no number of the list is so high.
 pub const NO_NUMBER: usize = 65535;

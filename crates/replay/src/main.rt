@@ -5,16 +5,18 @@
 
 mod cases;
 mod count;
+mod input;
 mod list;
 mod pages;
 mod record;
 
 use cases::judge;
-use count::{COUNTS, Difference, more, note, print_counts};
-use libc::{STDIN_FILENO, STDOUT_FILENO};
+use count::{COUNTS, Difference, more, note, print, print_counts};
+use input::read_full;
 use list::{field, find, line_at, number, part, past, unescape};
 use page_reader::index::INDEX_SIZE;
 use pages::{RECORDS, add, close, define, overwrite, read, record_line};
+use std::io::Read;
 
 // A call on a page, by its line and the line of the record that it names.
 fn play_page(
@@ -40,15 +42,16 @@ fn play_page(
 }
 
 // Prints the text of a line, with counts.
-fn say(line: &[u8], counts: &[u64; COUNTS]) -> Difference {
-    let mut text = io::buffer();
+fn say(rt: &impl Print, line: &[u8], counts: &[u64; COUNTS]) -> Difference {
+    let mut text = [0u8; 4096];
     let len = unescape(field(line, 1), &mut text, 0);
-    print_counts(&text[..len], counts);
+    print_counts(rt, &text[..len], counts);
     Difference::Nothing
 }
 
 // Plays the line that starts at a place of the list.
 fn play(
+    rt: &impl Print,
     list: &[u8],
     at: usize,
     buf: &mut [u8],
@@ -64,7 +67,7 @@ fn play(
     match number(line, 0) {
         0 | 1 | 2 => judge(line, counts),
         3 => define(starts, at),
-        11 => say(line, counts),
+        11 => say(rt, line, counts),
         call => {
             let n = number(line, if call < 8 { 3 } else { 6 });
             let record = record_line(list, starts, n);
@@ -74,7 +77,7 @@ fn play(
 }
 
 // Every line but the comments is played.
-fn replay(list: &[u8], buf: &mut [u8], counts: &mut [u64; COUNTS]) {
+fn replay(rt: &impl Print, list: &[u8], buf: &mut [u8], counts: &mut [u64; COUNTS]) {
     let mut index = [0u32; INDEX_SIZE];
     let mut starts = [0usize; RECORDS];
     let mut position = 0;
@@ -83,6 +86,7 @@ fn replay(list: &[u8], buf: &mut [u8], counts: &mut [u64; COUNTS]) {
     while at < list.len() {
         lines = more(lines);
         let difference = play(
+            rt,
             list,
             at,
             buf,
@@ -91,29 +95,29 @@ fn replay(list: &[u8], buf: &mut [u8], counts: &mut [u64; COUNTS]) {
             &mut starts,
             counts,
         );
-        note(difference, lines, counts);
+        note(rt, difference, lines, counts);
         at = past(list, find(list, at, b'\n'));
     }
 }
 
 // Reads the list into the room for it, and replays it.
-fn run(room: &mut [u8]) {
-    let len = io::read_full(STDIN_FILENO, room);
+fn run(rt: &impl Print, input: &mut impl Read, room: &mut [u8]) {
+    let len = read_full(input, room);
     if len == room.len() {
-        io::write_all(STDOUT_FILENO, b"error: the list is too long\n");
+        print(rt, b"error: the list is too long\n");
         return;
     }
-    let mut buf = io::large_buffer();
+    let mut buf = [0u8; 65536];
     let mut counts = [0u64; COUNTS];
-    replay(&room[..len], &mut buf, &mut counts);
+    replay(rt, &room[..len], &mut buf, &mut counts);
 }
 
 // By reference the array has its length from its type; a proof that counts so many bytes would be too deep.
-fn lend(room: &mut [u8; 1048576]) {
-    run(room);
+fn lend(rt: &impl Print, input: &mut impl Read, room: &mut [u8; 1048576]) {
+    run(rt, input, room);
 }
 
-fn main() {
+fn main(rt: HostRuntime) {
     let mut room = [0u8; 1048576];
-    lend(&mut room);
+    lend(&rt, &mut rt.stdin(), &mut room);
 }

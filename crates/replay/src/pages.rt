@@ -190,9 +190,9 @@ pub(crate) fn overwrite(
     position: &mut usize,
     counts: &mut [u64; COUNTS],
 ) -> Difference {
-    let mut new = io::buffer();
+    let mut new = [0u8; 4096];
     let len = unescape(field(line, 3), &mut new, 0);
-    let mut room = io::large_buffer();
+    let mut room = [0u8; 65536];
     tick(counts, OVERWRITTEN);
     *position = overwrite_by(line, &new[..len], buf, *position, &mut room);
     Difference::Nothing
