@@ -8,7 +8,8 @@ A word turns if a part of it, between dashes, begins with a small letter and has
 dashes and each part begins with a small letter or a digit. In .antt files each such word turns, but for names that the file imports from the
 library and what comments say outside backquotes; in the proofs of functions only those that the file imports from this repository, and the
 fields of its records; in .rt files those in clauses and ghost items; in README.md and docs/ those between backquotes that are declared. A
-lemma that would have the name of a definition gets `_lem`. --check writes nothing. Names that fall together in one file are printed.
+lemma that would have the name of a definition gets `_lem`, and what the Rust's text has under the name of a function of ours `rust_`. --check
+writes nothing. Names that fall together in one file are printed.
 """
 
 import collections
@@ -34,6 +35,19 @@ TOGETHER = {
     "crates/record_bytes/proofs/Theorems.antt": "text_at",
     "crates/reader/proofs/": "ruled_out",
     "crates/swift_mt_message/proofs/": "by_lines",
+}
+
+
+# What the Rust's text has under the name of a function of ours.
+RUST = {
+    "parse-bic",
+    "parse-with-variant",
+    "is-empty",
+    "last-is-bic",
+    "parse-remaining",
+    "parse-swift-chars",
+    "parse-party-identifier",
+    "parse-name-and-address",
 }
 
 
@@ -77,6 +91,10 @@ FUNCTIONS = {f for c in OWN for p in glob.glob(f"crates/{c}/src/**/*.rt", recurs
 
 
 def turned(word):
+    if word in RUST:
+        return "rust_" + word.replace("-", "_")
+    if "·" in word and is_plain(word.rpartition("·")[2]):
+        return word.replace("-", "_")
     if is_plain(word):
         it = "_".join(camel(p) for p in word.split("-"))
         return it + "_lem" if it in PLAIN or it in FUNCTIONS else it

@@ -26,7 +26,7 @@ use Rattle.reader.proofs.Bodies.{body_passed}
 use Rattle.reader.proofs.LineCounts.{counts_open}
 use Rattle.swift_mt_message.specs.Std.{Str, Result, Ok, ◌and_then◌, err_if, let_lines, at}
 use Rattle.swift_mt_message.specs.Std as S
-use Rattle.swift_mt_message.specs.SwiftUtils.{parse_swift_chars_lem, parse_bic_lem}
+use Rattle.swift_mt_message.specs.SwiftUtils.{rust_parse_swift_chars, rust_parse_bic}
 use Rattle.swift_mt_message.specs.Structs.{Struct}
 use Rattle.swift_mt_message.specs.Equal.{told, record_of, renumbered, renumber}
 use Rattle.swift_mt_message.proofs.Results.{Is, ok, err, result, then_is, last_and}
@@ -71,24 +71,24 @@ headed o one any l ls {h} e i p =
 
 -- an account or identifier of 0 to 34 bytes whose length is known
 pub short_is : {A : Type 0} (s : Str) {rest : Result A} {r : Reply} {w : A} → leb (length s) 34 ≡ true → Is rest r w
-    → Is (S.◌then◌ (parse_swift_chars_lem s 1) rest) (parse_account 0 34 1 s then r) w
+    → Is (S.◌then◌ (rust_parse_swift_chars s 1) rest) (parse_account 0 34 1 s then r) w
 unfolding parse_account
 short_is s e f = rw (leb-zero (length s), e) (then_is (swift_chars s 1) (λ g. f))
 
 -- a BIC on the first line, or on the one after a head
 module _ {A : Type 0} (make : Str → A) (h : Head) where
   pub first_bic : (l : Str) (ls : List Str)
-      → Is (S.◌then◌ (err_if (leb (length (l ∷ ls)) 0) 8 0) (parse_bic_lem l 1 and_then λ bic. Ok (make bic))) (with_bic 1 h (l ∷ ls)).reply (make l)
+      → Is (S.◌then◌ (err_if (leb (length (l ∷ ls)) 0) 8 0) (rust_parse_bic l 1 and_then λ bic. Ok (make bic))) (with_bic 1 h (l ∷ ls)).reply (make l)
   first_bic l ls = rw (lt-leb (length (l ∷ ls)) 0 (omega arith)) (last_and (λ bic. Ok (make bic)) (bics l 1) (λ e. ok))
 
   pub bic_after : (l : Str) (ls : List Str) → 1 ≤ length ls
-      → Is (at (l ∷ ls) 1 and_then λ m. parse_bic_lem m 2 and_then λ bic. Ok (make bic)) (with_bic 2 h ls).reply (make (with_bic 2 h ls).bic)
+      → Is (at (l ∷ ls) 1 and_then λ m. rust_parse_bic m 2 and_then λ bic. Ok (make bic)) (with_bic 2 h ls).reply (make (with_bic 2 h ls).bic)
   bic_after l [] k = absurd (omega arith)
   bic_after l (m ∷ ls) k = last_and (λ bic. Ok (make bic)) (bics m 2) (λ e. ok)
 
   pub second_bic : (l : Str) (ls : List Str)
       → Is
-      (S.◌then◌ (err_if (leb (length (l ∷ ls)) 1) 8 0) (at (l ∷ ls) 1 and_then λ m. parse_bic_lem m 2 and_then λ bic. Ok (make bic)))
+      (S.◌then◌ (err_if (leb (length (l ∷ ls)) 1) 8 0) (at (l ∷ ls) 1 and_then λ m. rust_parse_bic m 2 and_then λ bic. Ok (make bic)))
       (with_bic 2 h ls).reply
       (make (with_bic 2 h ls).bic)
   second_bic l [] = err

@@ -247,7 +247,7 @@ module _ (body : Str) (q : body_reply body ≡ accepted) where
     picks c f s = pick f letter s (options_of c)
 
     pub by_variant : (c : Choice) → rust_parse_with_variant c body letter ≡ some (renumber (picks c (reading body) (expected c)))
-    unfolding rust50.Field50InstructingParty·parse-with-variant rust50.Field50OrderingCustomerFGH·parse-with-variant rust50.Field50OrderingCustomerAFK·parse-with-variant rust50.Field50OrderingCustomerNCF·parse-with-variant rust50.Field50Creditor·parse-with-variant rust59.Field59·parse-with-variant rust59.Field59Debtor·parse-with-variant
+    unfolding rust50.Field50InstructingParty·parse_with_variant rust50.Field50OrderingCustomerFGH·parse_with_variant rust50.Field50OrderingCustomerAFK·parse_with_variant rust50.Field50OrderingCustomerNCF·parse_with_variant rust50.Field50Creditor·parse_with_variant rust59.Field59·parse_with_variant rust59.Field59Debtor·parse_with_variant
     by_variant Field50InstructingParty =
         let p = picked Field50InstructingParty body q letter in
         p Field50C rust50.InstructingParty·C (λ v. refl) _ _ _ (letters letter 67 refl)

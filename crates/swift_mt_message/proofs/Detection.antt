@@ -14,7 +14,7 @@ use Rattle.field_utils.specs.Trim.{trimmed_start, trimmed_end, trimmed}
 use Rattle.field_utils.specs.Identifier.{is_numbered}
 use Rattle.reader.specs.Detection.{any_numbered, first_line, last_line, bic_like, last_is_bic, test_line}
 use Rattle.swift_mt_message.specs.Std.{Str, slash, Ok, ◌and_then◌, ◌and◌, any, nth, equals, unwrap, at, is_digit, is_alphanumeric}
-use Rattle.swift_mt_message.specs.Field50.{numbered, last_is_bic_lem, is_variant, no_variant}
+use Rattle.swift_mt_message.specs.Field50.{numbered, rust_last_is_bic, is_variant, no_variant}
 use Rattle.swift_mt_message.specs.Field59 as rust
 use Rattle.swift_mt_message.specs.Equal.{variant}
 use Rattle.swift_mt_message.proofs.Results.{by_test}
@@ -42,8 +42,8 @@ unfolding first_line
 one_line [] = refl
 one_line (l ∷ ls) = both (eqb (length (l ∷ ls)) 1) (between 8 11 (length l))
 
-pub last_bic : (ls : List Str) → last_is_bic_lem ls ≡ last_is_bic ls
-unfolding last_is_bic_lem last_line bic_like bic_length trimmed trimmed_start trimmed_end
+pub last_bic : (ls : List Str) → rust_last_is_bic ls ≡ last_is_bic ls
+unfolding rust_last_is_bic last_line bic_like bic_length trimmed trimmed_start trimmed_end
 last_bic [] = refl
 last_bic (l ∷ []) = rw (trims l, all_same is_alphanumeric alphanumeric alphanumerics (trimmed l))
 last_bic (l ∷ m ∷ ls) = last_bic (m ∷ ls)
@@ -56,12 +56,12 @@ number_there [] = refl
 number_there (d ∷ []) = refl
 number_there (d ∷ s ∷ l) = rw (le-leb 2 (length (d ∷ s ∷ l)) (omega arith), digits d) (both (digit d) (eqb s slash))
 
-first_tested : (l : Str) (ls : List Str) → rust.Field59·numbered-at (l ∷ ls) 0 ≡ Ok (is_numbered l)
-unfolding rust.Field59·numbered-at
+first_tested : (l : Str) (ls : List Str) → rust.Field59·numbered_at (l ∷ ls) 0 ≡ Ok (is_numbered l)
+unfolding rust.Field59·numbered_at
 first_tested l ls = rw (lt-ltb 0 (length (l ∷ ls)) (omega arith)) (number_there l)
 
-second_tested : (l : Str) (ls : List Str) → rust.Field59·numbered-at (l ∷ ls) 1 ≡ Ok (is_numbered (first_line ls))
-unfolding rust.Field59·numbered-at first_line is_numbered
+second_tested : (l : Str) (ls : List Str) → rust.Field59·numbered_at (l ∷ ls) 1 ≡ Ok (is_numbered (first_line ls))
+unfolding rust.Field59·numbered_at first_line is_numbered
 second_tested l [] = refl
 second_tested l (m ∷ ls) = rw (lt-ltb 1 (length (l ∷ m ∷ ls)) (omega arith)) (number_there m)
 

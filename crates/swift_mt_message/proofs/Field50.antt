@@ -26,9 +26,9 @@ use Rattle.reader.proofs.Bodies.{body_passed}
 use Rattle.reader.proofs.Heads.{account_none, account_some}
 use Rattle.reader.specs.Detection.{first_line}
 use Rattle.reader.specs.Choices.{refusing}
-use Rattle.swift_mt_message.specs.Std.{Str, slash, newline, Result, Ok, ◌and_then◌, err_if, is_empty_lem, slice_from, starts_with}
+use Rattle.swift_mt_message.specs.Std.{Str, slash, newline, Result, Ok, ◌and_then◌, err_if, rust_is_empty, slice_from, starts_with}
 use Rattle.swift_mt_message.specs.Std as S
-use Rattle.swift_mt_message.specs.SwiftUtils.{parse_swift_chars_lem}
+use Rattle.swift_mt_message.specs.SwiftUtils.{rust_parse_swift_chars}
 use Rattle.swift_mt_message.specs.Field50 as rust
 use Rattle.swift_mt_message.specs.Equal.{told, as_party, renumber, rust_read, illegal_account, by_account}
 use Rattle.swift_mt_message.proofs.Results.{by_test, Is, ok, must_is, then_is, and_is, last_and, reply_is}
@@ -50,7 +50,7 @@ two_lines n = at_least n 2 ∙ ap not (sym (and-true (leb 2 n)))
 -- 50G and 50H: a slash and an account
 slashed : {A : Type 0} (l : Str) (rest : Str → Result A) {r : Reply} {w : A} → Is (rest (drop 1 l)) r w
     → Is
-    (S.◌then◌ (err_if (not (starts_with l slash)) 2 1) (slice_from 1 l and_then λ a. S.◌then◌ (err_if (is_empty_lem a || ltb 34 (length a)) 2 1) (S.◌then◌ (parse_swift_chars_lem a 1) (rest a))))
+    (S.◌then◌ (err_if (not (starts_with l slash)) 2 1) (slice_from 1 l and_then λ a. S.◌then◌ (err_if (rust_is_empty a || ltb 34 (length a)) 2 1) (S.◌then◌ (rust_parse_swift_chars a 1) (rest a))))
     ((must (starts slash l) 2 1 then parse_account 1 34 1 (drop 1 l)) then r)
     w
 slashed l rest {r} e =

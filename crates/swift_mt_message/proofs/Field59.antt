@@ -19,7 +19,7 @@ use Rattle.reader.specs.Reading.{Reading, party_of}
 use Rattle.reader.specs.Options.{no_head, head, identifier_head, account_reply, short_account_head, after_head, body_reply, read}
 use Rattle.reader.proofs.Heads.{short_long, short_fits, account_none, account_some}
 use Rattle.swift_mt_message.specs.Std.{Str, slash, Result, Ok, ◌and_then◌, slice_from, starts_with}
-use Rattle.swift_mt_message.specs.FieldUtils.{name_line, parse_name_and_address_lem}
+use Rattle.swift_mt_message.specs.FieldUtils.{name_line, rust_parse_name_and_address}
 use Rattle.swift_mt_message.specs.Field50.{Field50K·line}
 use Rattle.swift_mt_message.specs.Field59 as rust
 use Rattle.swift_mt_message.specs.Structs.{Struct}
@@ -63,7 +63,7 @@ names_59 : (account : Option Str) (lines : List Str) (start : ℕ)
     (rust.Field59NoOption·names lines account start)
     (parse_name_and_address Field59NoOption (suc start) (drop start lines))
     (record { account = account; name_and_address = map (kept Unnumbered) (drop start lines) })
-unfolding rust.Field59NoOption·names parse_name_and_address_lem name_line Field50K·line
+unfolding rust.Field59NoOption·names rust_parse_name_and_address name_line Field50K·line
 names_59 account lines start =
     last_and
     (λ names. Ok (record { account = account; name_and_address = names }))

@@ -19,10 +19,10 @@ use Rattle.field_utils.specs.Identifier.{identifier_reply, second_slash}
 use Rattle.field_utils.proofs.Places.{Upto, here, past, by_upto}
 use Rattle.field_utils.proofs.Places as places
 use Rattle.field_utils.proofs.Identifiers.{no_slash, two_slashes, starts_long}
-use Rattle.swift_mt_message.specs.Std.{Str, slash, Ok, err_if, is_empty_lem, strip_prefix, within, is_alphabetic, is_digit}
+use Rattle.swift_mt_message.specs.Std.{Str, slash, Ok, err_if, rust_is_empty, strip_prefix, within, is_alphabetic, is_digit}
 use Rattle.swift_mt_message.specs.Std as S
-use Rattle.swift_mt_message.specs.SwiftUtils.{parse_swift_chars_lem}
-use Rattle.swift_mt_message.specs.FieldUtils.{parse_code, parse_remaining_lem, parse_party_identifier_lem}
+use Rattle.swift_mt_message.specs.SwiftUtils.{rust_parse_swift_chars}
+use Rattle.swift_mt_message.specs.FieldUtils.{parse_code, rust_parse_remaining, rust_parse_party_identifier}
 use Rattle.swift_mt_message.proofs.Results.{by_test, Is, ok, if_is, last_is, reply_is, value_is}
 use Rattle.swift_mt_message.proofs.Std.{alphabetic, digits, all_same, started, up_to, from_is, to_is, found_at, found_none}
 use Rattle.swift_mt_message.proofs.SwiftUtils.{swift_chars, account_is}
@@ -50,7 +50,7 @@ no_prefix [] e = refl
 no_prefix (b ∷ s) e = rw (e, strip_prefix)
 
 -- an identifier after its code
-id_is : (id : Str) {A : Type 0} (v : A) → Is (S.◌then◌ (err_if (ltb 34 (length id)) 2 1) (S.◌then◌ (parse_swift_chars_lem id 1) (Ok v))) (parse_account 0 34 1 id) v
+id_is : (id : Str) {A : Type 0} (v : A) → Is (S.◌then◌ (err_if (ltb 34 (length id)) 2 1) (S.◌then◌ (rust_parse_swift_chars id 1) (Ok v))) (parse_account 0 34 1 id) v
 id_is id v = reply_is (account_is 0 34 _ id (up_to (length id) 34) ok) (then_accepted (parse_account 0 34 1 id))
 
 -- the two tests of a code
@@ -93,51 +93,51 @@ module _ (s : Str) where
   unfolding identifier_reply second_slash
   coded e h = rw (lt-ltb (upto slash s) (length s) h, identifier_reply) (rw (ne_eqb (upto slash s) 0 (λ z. omega (arith, later s e h)), second_slash))
 
-full : (s : Str) → (not (is_empty_lem s) && leb (length s) 34) ≡ between 1 34 (length s)
+full : (s : Str) → (not (rust_is_empty s) && leb (length s) 34) ≡ between 1 34 (length s)
 full [] = refl
 full (b ∷ s) = rw (le-leb 1 (length (b ∷ s)) (omega arith))
 
 -- the first slash, or none
-pub no_identifier : (l : Str) → starts slash l ≡ false → Is (parse_party_identifier_lem l) accepted none
-unfolding parse_party_identifier_lem
-no_identifier l e = rw (started l slash ∙ e, parse_party_identifier_lem) ok
+pub no_identifier : (l : Str) → starts slash l ≡ false → Is (rust_parse_party_identifier l) accepted none
+unfolding rust_parse_party_identifier
+no_identifier l e = rw (started l slash ∙ e, rust_parse_party_identifier) ok
 
 -- `//`
-after_special : (c : ℕ) (s : Str) → eqb c slash ≡ true → Is (parse_remaining_lem (c ∷ s)) (identifier_reply 34 1 (c ∷ s)) (some (c ∷ s))
-unfolding parse_remaining_lem starts parse_account
+after_special : (c : ℕ) (s : Str) → eqb c slash ≡ true → Is (rust_parse_remaining (c ∷ s)) (identifier_reply 34 1 (c ∷ s)) (some (c ∷ s))
+unfolding rust_parse_remaining starts parse_account
 after_special c s e =
-    rw (e, parse_remaining_lem)
+    rw (e, rust_parse_remaining)
     (value_is
     (reply_is (if_is _ (between 1 34 (length s)) 2 1 (full s) (λ t. last_is (swift_chars s 1) (λ u. ok))) (sym (special (c ∷ s) e)))
     (ap (λ (b : ℕ). some (b ∷ s)) (sym (eqb-true c slash e))))
 
 module _ (s : Str) (e : starts slash s ≡ false) where
   -- `/` code `/` id
-  after_code : upto slash s < length s → Is (parse_remaining_lem s) (identifier_reply 34 1 s) (some s)
-  unfolding parse_remaining_lem
+  after_code : upto slash s < length s → Is (rust_parse_remaining s) (identifier_reply 34 1 s) (some s)
+  unfolding rust_parse_remaining
   after_code h =
       let k : length (take (upto slash s) s) ≡ upto slash s = length-take-le (upto slash s) s (omega arith) in
-      rw (no_prefix s e, parse_remaining_lem) (rw (found_at s slash h, parse_remaining_lem) (rw (add-one, to_is (upto slash s) s (omega arith), from_is (suc (upto slash s)) s (omega arith))
+      rw (no_prefix s e, rust_parse_remaining) (rw (found_at s slash h, rust_parse_remaining) (rw (add-one, to_is (upto slash s) s (omega arith), from_is (suc (upto slash s)) s (omega arith))
       (value_is
       (reply_is (code_is (take (upto slash s) s) (drop (suc (upto slash s)) s) (omega (arith, later s e h))) (rw k (sym (coded s e h))))
       (ap (λ (t : Str). some t) (parted (by_upto slash s) h)))))
 
   -- no second slash
-  after_plain : length s ≤ upto slash s → Is (parse_remaining_lem s) (identifier_reply 34 1 s) (some s)
-  unfolding parse_remaining_lem parse_account
+  after_plain : length s ≤ upto slash s → Is (rust_parse_remaining s) (identifier_reply 34 1 s) (some s)
+  unfolding rust_parse_remaining parse_account
   after_plain h =
-      rw (no_prefix s e, parse_remaining_lem) (rw (found_none s slash h, parse_remaining_lem)
+      rw (no_prefix s e, rust_parse_remaining) (rw (found_none s slash h, rust_parse_remaining)
       (reply_is
       (if_is _ (leb (length s) 34) 2 1 refl (λ t. last_is (swift_chars s 1) (λ u. ok)))
       (sym (no_slash 34 1 s (upto slash s) refl h ∙ rw (leb-zero (length s))))))
 
 -- the identifier of a line that starts with a slash
-pub identifier : (l : Str) → starts slash l ≡ true → Is (parse_party_identifier_lem l) (identifier_reply 34 1 (drop 1 l)) (some (drop 1 l))
-unfolding starts parse_party_identifier_lem
+pub identifier : (l : Str) → starts slash l ≡ true → Is (rust_parse_party_identifier l) (identifier_reply 34 1 (drop 1 l)) (some (drop 1 l))
+unfolding starts rust_parse_party_identifier
 identifier [] e = absurd (false≢true e)
 identifier (b ∷ s) e = rw (eqb-true b slash e) (go s (starts slash s) refl)
   where
-    go : (s : Str) (t : Bool) → starts slash s ≡ t → Is (parse_remaining_lem s) (identifier_reply 34 1 s) (some s)
+    go : (s : Str) (t : Bool) → starts slash s ≡ t → Is (rust_parse_remaining s) (identifier_reply 34 1 s) (some s)
     go [] true f = absurd (false≢true f)
     go (c ∷ s) true f = after_special c s f
     go s false f = by_test (ltb (upto slash s) (length s)) (λ g. after_code s f (ltb-true _ _ g)) (λ g. after_plain s f (ltb-false _ _ g))

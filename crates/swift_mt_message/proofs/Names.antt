@@ -17,9 +17,9 @@ use Rattle.swift_utils.specs.Bytes.{between, digit}
 use Rattle.field_utils.specs.Identifier.{is_numbered}
 use Rattle.field_utils.specs.Names.{parse_line, parse_lines, parse_count, parse_name_and_address, kept}
 use Rattle.field_utils.proofs.NameLines.{numbered_room}
-use Rattle.swift_mt_message.specs.Std.{Str, slash, Result, Ok, ◌and_then◌, err_if, ◌or◌, for_from, is_empty_lem, push, nth, is_some_and, equals, unwrap, to_digit, is_digit}
+use Rattle.swift_mt_message.specs.Std.{Str, slash, Result, Ok, ◌and_then◌, err_if, ◌or◌, for_from, rust_is_empty, push, nth, is_some_and, equals, unwrap, to_digit, is_digit}
 use Rattle.swift_mt_message.specs.Std as S
-use Rattle.swift_mt_message.specs.SwiftUtils.{parse_swift_chars_lem}
+use Rattle.swift_mt_message.specs.SwiftUtils.{rust_parse_swift_chars}
 use Rattle.swift_mt_message.specs.Field50.{Field50NoOption·line, Field50F·line, Field50K·line, Field50H·line, numbered}
 use Rattle.swift_mt_message.specs.Field59.{Field59F·line}
 use Rattle.swift_mt_message.proofs.Results.{by_test, Is, ok, err, must_is, must_at, then_is, and_is, last_is, reply_is, value_is}
@@ -54,7 +54,7 @@ over_pushed f names (l ∷ ls) = over_pushed f (push names (kept f l)) ls ∙ ap
 
 -- the count, which comes last
 counts : {C : Type 0} (names : List Str) {n : ℕ} (w : C) → length names ≡ n
-    → Is (S.◌then◌ (err_if (is_empty_lem names) 7 0) (S.◌then◌ (err_if (ltb 4 (length names)) 7 0) (Ok w))) (parse_count 4 n) w
+    → Is (S.◌then◌ (err_if (rust_is_empty names) 7 0) (S.◌then◌ (err_if (ltb 4 (length names)) 7 0) (Ok w))) (parse_count 4 n) w
 counts [] w e = reply_is err (ap (parse_count 4) e)
 counts (l ∷ names) w e =
     reply_is
@@ -76,7 +76,7 @@ module _ (o : PartyOption) (four : (limits_of o).max_names ≡ 4) {C : Type 0} (
   counted check f = and_is check tested (λ g. rw four (f (map (kept (limits_of o).numbering) ls) (length-map ls (kept (limits_of o).numbering))))
 
   pub named : Is
-      (for_from body [] start ls and_then λ names. S.◌then◌ (err_if (is_empty_lem names) 7 0) (S.◌then◌ (err_if (ltb 4 (length names)) 7 0) (Ok (make names))))
+      (for_from body [] start ls and_then λ names. S.◌then◌ (err_if (rust_is_empty names) 7 0) (S.◌then◌ (err_if (ltb 4 (length names)) 7 0) (Ok (make names))))
       (parse_name_and_address o (suc start) ls)
       (make (map (kept (limits_of o).numbering) ls))
   named = counted _ (λ ns e. counts ns (make ns) e)
@@ -91,7 +91,7 @@ module _ (o : PartyOption) (four : (limits_of o).max_names ≡ 4) {C : Type 0} (
 
 -- a line of names without a number
 plain : {C : Type 0} (m n k : ℕ) (l : Str) (w : C) → m ≡ n
-    → Is (S.◌then◌ (err_if (ltb 35 (length l)) 4 m) (S.◌then◌ (parse_swift_chars_lem l m) (Ok w))) (parse_line Unnumbered 35 n k l) w
+    → Is (S.◌then◌ (err_if (ltb 35 (length l)) 4 m) (S.◌then◌ (rust_parse_swift_chars l m) (Ok w))) (parse_line Unnumbered 35 n k l) w
 unfolding parse_line
 plain m n k l w e = rw e (then_is (must_is _ (leb (length l) 35) 4 n (at_most (length l) 35)) (λ g. last_is (swift_chars l n) (λ h. ok)))
 

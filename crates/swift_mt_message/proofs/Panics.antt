@@ -38,12 +38,12 @@ module _ (body : Str) (q : body_reply body ≡ accepted) where
   choices : (c : Choice) → Returns (enums.parse c body)
   choices c = returns (record_by c) (detected body q c)
 
-  choice : (c : Choice) → ((v : Option Str) → Returns (enums.parse c body) → Returns (enums.parse_with_variant_lem c body v))
-      → ChoiceReturns (enums.parse c body) (enums.parse_with_variant_lem c body)
+  choice : (c : Choice) → ((v : Option Str) → Returns (enums.parse c body) → Returns (enums.rust_parse_with_variant c body v))
+      → ChoiceReturns (enums.parse c body) (enums.rust_parse_with_variant c body)
   choice c f = record { detects = choices c; by_variant = λ v. f v (choices c) }
 
   pub no_panic : NoPanic body
-  unfolding rust50.Field50InstructingParty·parse-with-variant rust50.Field50OrderingCustomerFGH·parse-with-variant rust50.Field50OrderingCustomerAFK·parse-with-variant rust50.Field50OrderingCustomerNCF·parse-with-variant rust50.Field50Creditor·parse-with-variant rust59.Field59·parse-with-variant rust59.Field59Debtor·parse-with-variant
+  unfolding rust50.Field50InstructingParty·parse_with_variant rust50.Field50OrderingCustomerFGH·parse_with_variant rust50.Field50OrderingCustomerAFK·parse_with_variant rust50.Field50OrderingCustomerNCF·parse_with_variant rust50.Field50Creditor·parse_with_variant rust59.Field59·parse_with_variant rust59.Field59Debtor·parse_with_variant
   no_panic = record {
     option = options;
     instructing = choice Field50InstructingParty (λ v e. arms _ _ (options Field50C) (arms _ _ (options Field50L) e));

@@ -14,7 +14,7 @@ use Rattle.field_utils.specs.Lines.{upto, starts}
 use Rattle.field_utils.specs.Trim.{white, trimmed_start, keep, trimmed_end, trimmed}
 use Rattle.field_utils.proofs.Places.{Upto, here, past, by_upto}
 use Rattle.field_utils.proofs.Places as places
-use Rattle.swift_mt_message.specs.Std.{Str, Ok, minus, is_empty_lem, slice_from, slice_to, slice, contains, starts_with, find, is_alphabetic, is_digit, is_alphanumeric, is_whitespace, trim_start, trim_end, trim}
+use Rattle.swift_mt_message.specs.Std.{Str, Ok, minus, rust_is_empty, slice_from, slice_to, slice, contains, starts_with, find, is_alphabetic, is_digit, is_alphanumeric, is_whitespace, trim_start, trim_end, trim}
 use Rattle.swift_mt_message.specs.Std as S
 use Rattle.swift_mt_message.specs.SwiftUtils.{swift_special}
 use Rattle.swift_mt_message.proofs.Results.{by_test}
@@ -96,7 +96,7 @@ at_least n least = at_most least n
 pub up_to : (n most : ℕ) → ltb most n ≡ not (between 0 most n)
 up_to n most = at_most n most ∙ rw (leb-zero n)
 
-pub counted : {A : Type 0} (l : List A) (most : ℕ) → (is_empty_lem l || ltb most (length l)) ≡ not (between 1 most (length l))
+pub counted : {A : Type 0} (l : List A) (most : ℕ) → (rust_is_empty l || ltb most (length l)) ≡ not (between 1 most (length l))
 counted [] most = refl
 counted (x ∷ l) most = rw (le-leb 1 (length (x ∷ l)) (omega arith)) (at_most (length (x ∷ l)) most)
 

@@ -13,21 +13,21 @@ use Rattle.swift_utils.specs.Bytes.{all, between, letter, alphanumeric, legal}
 use Rattle.swift_utils.specs.Checks.{parse_swift_chars, parse_account, bic_length, parse_bic}
 use Rattle.swift_mt_message.specs.Std.{Str, Result, Ok, ◌and_then◌, err_if, ◌and◌, is_alphabetic, is_alphanumeric, contains, slice}
 use Rattle.swift_mt_message.specs.Std as S
-use Rattle.swift_mt_message.specs.SwiftUtils.{swift_special, parse_swift_chars_lem, parse_bic_lem}
+use Rattle.swift_mt_message.specs.SwiftUtils.{swift_special, rust_parse_swift_chars, rust_parse_bic}
 use Rattle.swift_mt_message.proofs.Results.{by_test, Is, ok, must_is, then_is, last_is, reply_is, then_same}
 use Rattle.swift_mt_message.proofs.Std.{alphabetic, alphanumerics, legals, all_same, all_append, slice_is}
 
-pub swift_chars : (s : Str) (n : ℕ) → Is (parse_swift_chars_lem s n) (parse_swift_chars n s) s
-unfolding parse_swift_chars_lem parse_swift_chars
+pub swift_chars : (s : Str) (n : ℕ) → Is (rust_parse_swift_chars s n) (parse_swift_chars n s) s
+unfolding rust_parse_swift_chars parse_swift_chars
 swift_chars s n =
     last_is (must_is _ (all legal s) 3 n (ap not (all_same (λ c. is_alphanumeric c || contains swift_special c) legal legals s))) (λ e. ok)
 
-pub chars_at : (s : Str) {m n : ℕ} → m ≡ n → Is (parse_swift_chars_lem s m) (parse_swift_chars n s) s
+pub chars_at : (s : Str) {m n : ℕ} → m ≡ n → Is (rust_parse_swift_chars s m) (parse_swift_chars n s) s
 chars_at s {n = n} e = rw e (swift_chars s n)
 
 -- an account or identifier: its length, then its bytes
 pub account_is : {A : Type 0} (shortest longest : ℕ) (t : Bool) (s : Str) {rest : Result A} {r : Reply} {w : A} → t ≡ not (between shortest longest (length s))
-    → Is rest r w → Is (S.◌then◌ (err_if t 2 1) (S.◌then◌ (parse_swift_chars_lem s 1) rest)) (parse_account shortest longest 1 s then r) w
+    → Is rest r w → Is (S.◌then◌ (err_if t 2 1) (S.◌then◌ (rust_parse_swift_chars s 1) rest)) (parse_account shortest longest 1 s then r) w
 unfolding parse_account
 account_is shortest longest t s {r = r} e f =
     let b = between shortest longest (length s) in
@@ -74,8 +74,8 @@ long_enough : (n : ℕ) → bic_length n ≡ true → 8 ≤ n
 unfolding bic_length
 long_enough n h = by_test (eqb n 8) (λ e. omega (arith, eqb-true n 8 e)) (λ e. omega (arith, eqb-true n 11 (rw e at h)))
 
-pub bics : (s : Str) (n : ℕ) → Is (parse_bic_lem s n) (parse_bic n s) s
-unfolding parse_bic_lem parse_bic
+pub bics : (s : Str) (n : ℕ) → Is (rust_parse_bic s n) (parse_bic n s) s
+unfolding rust_parse_bic parse_bic
 bics s n =
     let p = all letter (take 4 s) in
     let q = all letter (take 2 (drop 4 s)) in

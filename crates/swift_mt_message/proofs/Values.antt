@@ -155,7 +155,7 @@ text_of_lem =
 
 -- and so is that of an enum's value, by its cases
 text_in : (c : Choice) (v : Enum c) → Given (record_by c v) → Agrees (content (record_by c v)) (enums.to_swift_string c v)
-unfolding rust50.Field50InstructingParty·to-swift-string rust50.Field50OrderingCustomerFGH·to-swift-string rust50.Field50OrderingCustomerAFK·to-swift-string rust50.Field50OrderingCustomerNCF·to-swift-string rust50.Field50Creditor·to-swift-string rust59.Field59·to-swift-string rust59.Field59Debtor·to-swift-string
+unfolding rust50.Field50InstructingParty·to_swift_string rust50.Field50OrderingCustomerFGH·to_swift_string rust50.Field50OrderingCustomerAFK·to_swift_string rust50.Field50OrderingCustomerNCF·to_swift_string rust50.Field50Creditor·to_swift_string rust59.Field59·to_swift_string rust59.Field59Debtor·to_swift_string
 text_in Field50InstructingParty (rust50.InstructingParty·C v) = text_of_lem Field50C v
 text_in Field50InstructingParty (rust50.InstructingParty·L v) = text_of_lem Field50L v
 text_in Field50OrderingCustomerFGH (rust50.FGH·F v) = text_of_lem Field50F v

@@ -208,10 +208,10 @@ pub record WritesWitness : Type 0 where
   -- with the digits set a body is read as the record, the Rust's struct has it, and its text is ours
   pub given : (body : Str) × ReadAs body one_two
   pub same : Same (record_in (parts_of Field50F struct50_f)) one_two
-  pub text : rust50.Field50F·to-swift-string struct50_f ≡ bytes ":50F:X\n1/A\n2/B"
+  pub text : rust50.Field50F·to_swift_string struct50_f ≡ bytes ":50F:X\n1/A\n2/B"
   -- with an identifier, one LF more
-  pub less : less_empty (rust59.Field59F·to-swift-string struct59_f) ≡ bytes ":59F:/1\n1/A\n2/B"
-  pub longer : length (rust59.Field59F·to-swift-string struct59_f) ≡ 16
+  pub less : less_empty (rust59.Field59F·to_swift_string struct59_f) ≡ bytes ":59F:/1\n1/A\n2/B"
+  pub longer : length (rust59.Field59F·to_swift_string struct59_f) ≡ 16
 
 pub writes_witness : WritesWitness
 unfolding computes
@@ -223,7 +223,7 @@ writes_witness =
 -- ---- reading, then writing
 -- what the Rust does with the two computes where this is unfolded
 rust_computes : Unit {0}
-unfolding std.if_ok std.arm std.for_from std.in_front std.split_inclusive std.strip_suffix std.line_of std.let_lines std.find std.is_alphabetic std.is_digit std.is_alphanumeric std.digits swift.swift_special swift.parse_swift_chars_lem swift.parse_bic_lem fields.parse_code fields.parse_remaining_lem fields.parse_party_identifier_lem rust50.Field50F·line rust50.Field50F·parse rust50.Field50F·numbered rust50.Field50F·to-swift-string rust50.numbered rust50.is_variant rust50.Field50OrderingCustomerAFK·parse rust50.Field50OrderingCustomerAFK·parse-with-variant rust50.Field50OrderingCustomerAFK·to-swift-string rust59.Field59F·line rust59.Field59F·names rust59.Field59F·parse rust59.written rust59.Field59F·to-swift-string rust59.Field59A·bic rust59.Field59A·parse rust59.Field59·numbered-at rust59.Field59·numbered rust59.Field59·parse rust59.Field59·to-swift-string
+unfolding std.if_ok std.arm std.for_from std.in_front std.split_inclusive std.strip_suffix std.line_of std.let_lines std.find std.is_alphabetic std.is_digit std.is_alphanumeric std.digits swift.swift_special swift.rust_parse_swift_chars swift.rust_parse_bic fields.parse_code fields.rust_parse_remaining fields.rust_parse_party_identifier rust50.Field50F·line rust50.Field50F·parse rust50.Field50F·numbered rust50.Field50F·to_swift_string rust50.numbered rust50.is_variant rust50.Field50OrderingCustomerAFK·parse rust50.Field50OrderingCustomerAFK·parse_with_variant rust50.Field50OrderingCustomerAFK·to_swift_string rust59.Field59F·line rust59.Field59F·names rust59.Field59F·parse rust59.written rust59.Field59F·to_swift_string rust59.Field59A·bic rust59.Field59A·parse rust59.Field59·numbered_at rust59.Field59·numbered rust59.Field59·parse rust59.Field59·to_swift_string
 rust_computes = tt
 
 -- a text of the Rust and our reading of the same body: ours accepts, its record is what a body is read as, with its own digits and with
@@ -272,7 +272,7 @@ ReturnsBy f = (variant : Option Str) → Returns (λ (body : Str). f body varian
 pub record PanicsWitness : Type 0 where
   pub option : (o : PartyOption) → Returns (structs.parse o)
   pub detected : (c : Choice) → Returns (enums.parse c)
-  pub by_variant : (c : Choice) → ReturnsBy (enums.parse_with_variant_lem c)
+  pub by_variant : (c : Choice) → ReturnsBy (enums.rust_parse_with_variant c)
 
 pub panics_witness : PanicsWitness
 panics_witness = record {
@@ -281,7 +281,7 @@ panics_witness = record {
       by_choice (λ c. Returns (enums.parse c)) (λ body q. (no_panic body q).instructing.detects) (λ body q. (no_panic body q).fgh.detects) (λ body q. (no_panic body q).afk.detects)
       (λ body q. (no_panic body q).ncf.detects) (λ body q. (no_panic body q).at_creditor.detects) (λ body q. (no_panic body q).at_field59.detects) (λ body q. (no_panic body q).at_debtor.detects);
   by_variant =
-      by_choice (λ c. ReturnsBy (enums.parse_with_variant_lem c)) (λ v body q. (no_panic body q).instructing.by_variant v) (λ v body q. (no_panic body q).fgh.by_variant v) (λ v body q. (no_panic body q).afk.by_variant v)
+      by_choice (λ c. ReturnsBy (enums.rust_parse_with_variant c)) (λ v body q. (no_panic body q).instructing.by_variant v) (λ v body q. (no_panic body q).fgh.by_variant v) (λ v body q. (no_panic body q).afk.by_variant v)
       (λ v body q. (no_panic body q).ncf.by_variant v) (λ v body q. (no_panic body q).at_creditor.by_variant v) (λ v body q. (no_panic body q).at_field59.by_variant v) (λ v body q. (no_panic body q).at_debtor.by_variant v);
 }
 

@@ -191,7 +191,7 @@ module _ (count : ℕ) (u v : Used) where
   plain ls us = join_is (ls ++ map bytes_of us) ∙ ap (λ (ns : List Str). joined (ls ++ ns)) (names_whole Unnumbered (λ d. refl) us)
 
   text_59 : (present : Bool) → Text Field59NoOption present
-  unfolding written_field written_body written_lines name_lines tag_of joined rust59.Field59NoOption·to-swift-string
+  unfolding written_field written_body written_lines name_lines tag_of joined rust59.Field59NoOption·to_swift_string
   text_59 present [] h = absurd (omega (arith, some_names Field59NoOption refl count [] [] h.names))
   text_59 true (w ∷ us) h =
       ap (◌++◌ (bytes ":59:" ++ 47 ∷ u.bytes)) (all_parted _ 0 w.bytes (map bytes_of us) (λ k g. parted_all k) ∙ ap (λ (ls : List Str). 10 ∷ joined (w.bytes ∷ ls)) (names_whole Unnumbered (λ d. refl) us))
@@ -200,7 +200,7 @@ module _ (count : ℕ) (u v : Used) where
 
   -- 59F: with an identifier the Rust's text has an empty line after it
   text_59F : Agree Field59F true
-  unfolding written_field written_body written_lines name_lines tag_of joined identified59_f rust59.Field59F·to-swift-string
+  unfolding written_field written_body written_lines name_lines tag_of joined identified59_f rust59.Field59F·to_swift_string
   text_59F [] h = absurd (omega (arith, some_names Field59F refl count [] [] h.names))
   text_59F (w ∷ us) h =
       let x = bytes ":59F:/" ++ u.bytes in
@@ -217,7 +217,7 @@ module _ (count : ℕ) (u v : Used) where
       }
 
   bare_59F : Text Field59F false
-  unfolding written_field written_body written_lines name_lines tag_of joined rust59.Field59F·to-swift-string
+  unfolding written_field written_body written_lines name_lines tag_of joined rust59.Field59F·to_swift_string
   bare_59F [] h = absurd (omega (arith, some_names Field59F refl count [] [] h.names))
   bare_59F (w ∷ us) h =
       ap (◌++◌ (bytes ":59F:")) (then_parted _ w.bytes (map bytes_of us) refl (λ k g. parted false k g) ∙ ap (λ (ls : List Str). joined (w.bytes ∷ ls)) (names_whole InTurn (λ d. refl) us))
@@ -231,7 +231,7 @@ module _ (count : ℕ) (u v : Used) where
   other o z t present e = equals o present (rw z) (t present e)
 
   text_is : (o : PartyOption) (present : Bool) → is_presence o present ≡ true → Agree o present
-  unfolding written_field written_body written_lines name_lines tag_of joined rust50.Field50NoOption·to-swift-string rust50.Field50A·to-swift-string rust50.Field50F·to-swift-string rust50.Field50K·to-swift-string rust50.Field50C·to-swift-string rust50.Field50L·to-swift-string rust50.Field50G·to-swift-string rust50.Field50H·to-swift-string rust59.Field59A·to-swift-string
+  unfolding written_field written_body written_lines name_lines tag_of joined rust50.Field50NoOption·to_swift_string rust50.Field50A·to_swift_string rust50.Field50F·to_swift_string rust50.Field50K·to_swift_string rust50.Field50C·to_swift_string rust50.Field50L·to_swift_string rust50.Field50G·to_swift_string rust50.Field50H·to_swift_string rust59.Field59A·to_swift_string
   text_is =
       by_option (λ o. (present : Bool) → is_presence o present ≡ true → Agree o present)
       (other Field50NoOption refl (never Text Field50NoOption refl (λ us h. ap (◌++◌ (bytes ":50:")) (plain [] us))))

@@ -58,25 +58,25 @@ valued parts text result = result and_then λ v. Ok (record { parts = parts v; t
 
 -- what a choice gives for a case
 abbrev pub called : {A : Type 0} → (Str → Result A) → (Str → Option Str → Result A) → Case → Result A
-called parse parse_with_variant_lem c = elim c.call [ none ↦ parse c.body | some variant ↦ parse_with_variant_lem c.body variant ]
+called parse rust_parse_with_variant c = elim c.call [ none ↦ parse c.body | some variant ↦ rust_parse_with_variant c.body variant ]
 
 -- what the transcription answers to a case
 abbrev pub answered : Reader → Case → Result Value
 answered (option o) c = valued (parts_of o) (structs.to_swift_string o) (structs.parse o c.body)
 answered InstructingParty c =
-    valued of_instructing_party rust50.Field50InstructingParty·to-swift-string
-    (called rust50.Field50InstructingParty·parse rust50.Field50InstructingParty·parse-with-variant c)
+    valued of_instructing_party rust50.Field50InstructingParty·to_swift_string
+    (called rust50.Field50InstructingParty·parse rust50.Field50InstructingParty·parse_with_variant c)
 answered FGH c =
-    valued of_fgh rust50.Field50OrderingCustomerFGH·to-swift-string
-    (called rust50.Field50OrderingCustomerFGH·parse rust50.Field50OrderingCustomerFGH·parse-with-variant c)
+    valued of_fgh rust50.Field50OrderingCustomerFGH·to_swift_string
+    (called rust50.Field50OrderingCustomerFGH·parse rust50.Field50OrderingCustomerFGH·parse_with_variant c)
 answered AFK c =
-    valued of_afk rust50.Field50OrderingCustomerAFK·to-swift-string
-    (called rust50.Field50OrderingCustomerAFK·parse rust50.Field50OrderingCustomerAFK·parse-with-variant c)
+    valued of_afk rust50.Field50OrderingCustomerAFK·to_swift_string
+    (called rust50.Field50OrderingCustomerAFK·parse rust50.Field50OrderingCustomerAFK·parse_with_variant c)
 answered NCF c =
-    valued of_ncf rust50.Field50OrderingCustomerNCF·to-swift-string
-    (called rust50.Field50OrderingCustomerNCF·parse rust50.Field50OrderingCustomerNCF·parse-with-variant c)
+    valued of_ncf rust50.Field50OrderingCustomerNCF·to_swift_string
+    (called rust50.Field50OrderingCustomerNCF·parse rust50.Field50OrderingCustomerNCF·parse_with_variant c)
 answered Creditor c =
-    valued of_creditor rust50.Field50Creditor·to-swift-string (called rust50.Field50Creditor·parse rust50.Field50Creditor·parse-with-variant c)
-answered Field59 c = valued of_field59 rust59.Field59·to-swift-string (called rust59.Field59·parse rust59.Field59·parse-with-variant c)
+    valued of_creditor rust50.Field50Creditor·to_swift_string (called rust50.Field50Creditor·parse rust50.Field50Creditor·parse_with_variant c)
+answered Field59 c = valued of_field59 rust59.Field59·to_swift_string (called rust59.Field59·parse rust59.Field59·parse_with_variant c)
 answered Debtor c =
-    valued of_debtor rust59.Field59Debtor·to-swift-string (called rust59.Field59Debtor·parse rust59.Field59Debtor·parse-with-variant c)
+    valued of_debtor rust59.Field59Debtor·to_swift_string (called rust59.Field59Debtor·parse rust59.Field59Debtor·parse_with_variant c)

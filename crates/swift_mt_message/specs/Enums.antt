@@ -26,23 +26,23 @@ parse Field50Creditor = rust50.Field50Creditor·parse
 parse Field59 = rust59.Field59·parse
 parse Field59Debtor = rust59.Field59Debtor·parse
 
-abbrev pub parse_with_variant_lem : (c : Choice) → Str → Option Str → Result (Enum c)
-parse_with_variant_lem Field50InstructingParty = rust50.Field50InstructingParty·parse-with-variant
-parse_with_variant_lem Field50OrderingCustomerFGH = rust50.Field50OrderingCustomerFGH·parse-with-variant
-parse_with_variant_lem Field50OrderingCustomerAFK = rust50.Field50OrderingCustomerAFK·parse-with-variant
-parse_with_variant_lem Field50OrderingCustomerNCF = rust50.Field50OrderingCustomerNCF·parse-with-variant
-parse_with_variant_lem Field50Creditor = rust50.Field50Creditor·parse-with-variant
-parse_with_variant_lem Field59 = rust59.Field59·parse-with-variant
-parse_with_variant_lem Field59Debtor = rust59.Field59Debtor·parse-with-variant
+abbrev pub rust_parse_with_variant : (c : Choice) → Str → Option Str → Result (Enum c)
+rust_parse_with_variant Field50InstructingParty = rust50.Field50InstructingParty·parse_with_variant
+rust_parse_with_variant Field50OrderingCustomerFGH = rust50.Field50OrderingCustomerFGH·parse_with_variant
+rust_parse_with_variant Field50OrderingCustomerAFK = rust50.Field50OrderingCustomerAFK·parse_with_variant
+rust_parse_with_variant Field50OrderingCustomerNCF = rust50.Field50OrderingCustomerNCF·parse_with_variant
+rust_parse_with_variant Field50Creditor = rust50.Field50Creditor·parse_with_variant
+rust_parse_with_variant Field59 = rust59.Field59·parse_with_variant
+rust_parse_with_variant Field59Debtor = rust59.Field59Debtor·parse_with_variant
 
 abbrev pub to_swift_string : (c : Choice) → Enum c → Str
-to_swift_string Field50InstructingParty = rust50.Field50InstructingParty·to-swift-string
-to_swift_string Field50OrderingCustomerFGH = rust50.Field50OrderingCustomerFGH·to-swift-string
-to_swift_string Field50OrderingCustomerAFK = rust50.Field50OrderingCustomerAFK·to-swift-string
-to_swift_string Field50OrderingCustomerNCF = rust50.Field50OrderingCustomerNCF·to-swift-string
-to_swift_string Field50Creditor = rust50.Field50Creditor·to-swift-string
-to_swift_string Field59 = rust59.Field59·to-swift-string
-to_swift_string Field59Debtor = rust59.Field59Debtor·to-swift-string
+to_swift_string Field50InstructingParty = rust50.Field50InstructingParty·to_swift_string
+to_swift_string Field50OrderingCustomerFGH = rust50.Field50OrderingCustomerFGH·to_swift_string
+to_swift_string Field50OrderingCustomerAFK = rust50.Field50OrderingCustomerAFK·to_swift_string
+to_swift_string Field50OrderingCustomerNCF = rust50.Field50OrderingCustomerNCF·to_swift_string
+to_swift_string Field50Creditor = rust50.Field50Creditor·to_swift_string
+to_swift_string Field59 = rust59.Field59·to_swift_string
+to_swift_string Field59Debtor = rust59.Field59Debtor·to_swift_string
 
 -- the parts of an enum's value
 abbrev pub parts_in : (c : Choice) → Enum c → Parts

@@ -91,7 +91,7 @@ abbrev pub rust_parse : Choice → Str → Option Reading
 rust_parse c body = told (record_by c) (enums.parse c body)
 
 abbrev pub rust_parse_with_variant : Choice → Str → ℕ → Option Reading
-rust_parse_with_variant c body letter = told (record_by c) (enums.parse_with_variant_lem c body (variant letter))
+rust_parse_with_variant c body letter = told (record_by c) (enums.rust_parse_with_variant c body (variant letter))
 
 -- the lines on which the two differ: two or more, the first of them `/` and 1 to 34 bytes, one of which is not legal
 unfoldable pub illegal_account : List Str → Bool

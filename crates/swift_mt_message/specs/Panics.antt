@@ -20,10 +20,10 @@ pub record ChoiceReturns {A : Type 0} (detected : Result A) (by : Option Str →
 -- what is claimed of a body: the eleven options and the seven choices
 pub record NoPanic (body : Str) : Type 0 where
   pub option : (o : PartyOption) → Returns (parse o body)
-  pub instructing : ChoiceReturns (rust50.Field50InstructingParty·parse body) (rust50.Field50InstructingParty·parse-with-variant body)
-  pub fgh : ChoiceReturns (rust50.Field50OrderingCustomerFGH·parse body) (rust50.Field50OrderingCustomerFGH·parse-with-variant body)
-  pub afk : ChoiceReturns (rust50.Field50OrderingCustomerAFK·parse body) (rust50.Field50OrderingCustomerAFK·parse-with-variant body)
-  pub ncf : ChoiceReturns (rust50.Field50OrderingCustomerNCF·parse body) (rust50.Field50OrderingCustomerNCF·parse-with-variant body)
-  pub at_creditor : ChoiceReturns (rust50.Field50Creditor·parse body) (rust50.Field50Creditor·parse-with-variant body)
-  pub at_field59 : ChoiceReturns (rust59.Field59·parse body) (rust59.Field59·parse-with-variant body)
-  pub at_debtor : ChoiceReturns (rust59.Field59Debtor·parse body) (rust59.Field59Debtor·parse-with-variant body)
+  pub instructing : ChoiceReturns (rust50.Field50InstructingParty·parse body) (rust50.Field50InstructingParty·parse_with_variant body)
+  pub fgh : ChoiceReturns (rust50.Field50OrderingCustomerFGH·parse body) (rust50.Field50OrderingCustomerFGH·parse_with_variant body)
+  pub afk : ChoiceReturns (rust50.Field50OrderingCustomerAFK·parse body) (rust50.Field50OrderingCustomerAFK·parse_with_variant body)
+  pub ncf : ChoiceReturns (rust50.Field50OrderingCustomerNCF·parse body) (rust50.Field50OrderingCustomerNCF·parse_with_variant body)
+  pub at_creditor : ChoiceReturns (rust50.Field50Creditor·parse body) (rust50.Field50Creditor·parse_with_variant body)
+  pub at_field59 : ChoiceReturns (rust59.Field59·parse body) (rust59.Field59·parse_with_variant body)
+  pub at_debtor : ChoiceReturns (rust59.Field59Debtor·parse body) (rust59.Field59Debtor·parse_with_variant body)

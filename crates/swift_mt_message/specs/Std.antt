@@ -81,9 +81,9 @@ module _ {A B : Type 0} where
 
 module _ {A : Type 0} where
   -- `is_empty`
-  abbrev pub is_empty_lem : List A → Bool
-  is_empty_lem [] = true
-  is_empty_lem (x ∷ xs) = false
+  abbrev pub rust_is_empty : List A → Bool
+  rust_is_empty [] = true
+  rust_is_empty (x ∷ xs) = false
 
   -- `push`
   abbrev pub push : List A → A → List A

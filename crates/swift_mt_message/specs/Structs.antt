@@ -35,17 +35,17 @@ parse Field59A = rust59.Field59A·parse
 parse Field59F = rust59.Field59F·parse
 
 abbrev pub to_swift_string : (o : PartyOption) → Struct o → Str
-to_swift_string Field50NoOption = rust50.Field50NoOption·to-swift-string
-to_swift_string Field50A = rust50.Field50A·to-swift-string
-to_swift_string Field50F = rust50.Field50F·to-swift-string
-to_swift_string Field50K = rust50.Field50K·to-swift-string
-to_swift_string Field50C = rust50.Field50C·to-swift-string
-to_swift_string Field50L = rust50.Field50L·to-swift-string
-to_swift_string Field50G = rust50.Field50G·to-swift-string
-to_swift_string Field50H = rust50.Field50H·to-swift-string
-to_swift_string Field59NoOption = rust59.Field59NoOption·to-swift-string
-to_swift_string Field59A = rust59.Field59A·to-swift-string
-to_swift_string Field59F = rust59.Field59F·to-swift-string
+to_swift_string Field50NoOption = rust50.Field50NoOption·to_swift_string
+to_swift_string Field50A = rust50.Field50A·to_swift_string
+to_swift_string Field50F = rust50.Field50F·to_swift_string
+to_swift_string Field50K = rust50.Field50K·to_swift_string
+to_swift_string Field50C = rust50.Field50C·to_swift_string
+to_swift_string Field50L = rust50.Field50L·to_swift_string
+to_swift_string Field50G = rust50.Field50G·to_swift_string
+to_swift_string Field50H = rust50.Field50H·to_swift_string
+to_swift_string Field59NoOption = rust59.Field59NoOption·to_swift_string
+to_swift_string Field59A = rust59.Field59A·to_swift_string
+to_swift_string Field59F = rust59.Field59F·to_swift_string
 
 -- the option, the account or identifier, the BIC and the names; a text that the option has not is empty
 pub record Parts : Type 0 where

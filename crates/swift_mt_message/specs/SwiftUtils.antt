@@ -8,14 +8,14 @@ unfoldable pub swift_special : Str
 swift_special = bytes "/-?:().,'+{} \r\n%&*;<=>@[]_$!\"#|"
 
 -- `parse_swift_chars`
-unfoldable pub parse_swift_chars_lem : Str → ℕ → Result Str
-parse_swift_chars_lem input line =
+unfoldable pub rust_parse_swift_chars : Str → ℕ → Result Str
+rust_parse_swift_chars input line =
     err_if (not (all (λ c. is_alphanumeric c || contains swift_special c) input)) 3 line  -- contains invalid characters
     then Ok input
 
 -- `parse_bic`
-unfoldable pub parse_bic_lem : Str → ℕ → Result Str
-parse_bic_lem input line =
+unfoldable pub rust_parse_bic : Str → ℕ → Result Str
+rust_parse_bic input line =
     err_if (not (eqb (length input) 8) && not (eqb (length input) 11)) 9 line  -- must be 8 or 11 characters
     then slice 0 4 input
     and_then λ bank_code.

@@ -87,4 +87,4 @@ pub record ReadsAndWrites (body : Str) : Type 0 where
   pub option : (o : PartyOption) → ValueWritten (to_swift_string o) (structs.parse o body) (read o body)
   pub detected : (c : Choice) → ValueWritten (enums.to_swift_string c) (enums.parse c body) (parse c body)
   pub by_letter : (c : Choice) (letter : ℕ) → letter_reply letter ≡ accepted
-      → ValueWritten (enums.to_swift_string c) (enums.parse_with_variant_lem c body (variant letter)) (parse_with_variant c body letter)
+      → ValueWritten (enums.to_swift_string c) (enums.rust_parse_with_variant c body (variant letter)) (parse_with_variant c body letter)

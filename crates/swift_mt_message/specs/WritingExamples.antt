@@ -19,7 +19,7 @@ use Rattle.swift_mt_message.specs.Std.{Ok, ◌and_then◌}
 use Rattle.swift_mt_message.specs.Std as std
 use Rattle.swift_mt_message.specs.SwiftUtils as swift
 use Rattle.swift_mt_message.specs.Field50 as rust50
-use Rattle.swift_mt_message.specs.Field59.{written, Field59F·to-swift-string}
+use Rattle.swift_mt_message.specs.Field59.{written, Field59F·to_swift_string}
 use Rattle.swift_mt_message.specs.Structs.{parse, to_swift_string}
 use Rattle.swift_mt_message.specs.Equal.{renumbered, has50_f}
 use Rattle.swift_mt_message.specs.Writing.{struct_of, less_lf, less_empty}
@@ -48,7 +48,7 @@ pub record WritingExamples : Type 0 where
   pub others : map has50_f (Field50InstructingParty ∷ Field50Creditor ∷ Field59 ∷ Field59Debtor ∷ []) ≡ false ∷ false ∷ false ∷ false ∷ []
 
 pub writing_examples : WritingExamples
-unfolding written Field59F·to-swift-string less_lf less_empty padded text_of content letter digit alphanumeric legal parse_swift_chars parse_account onto lines is_numbered parse_line parse_lines parse_name_and_address four party_of after_head read name_lines written_lines joined written_body written_field tag_of std.for_from std.in_front std.split_inclusive std.strip_suffix std.line_of std.let_lines std.is_alphabetic std.is_digit std.is_alphanumeric std.digits swift.parse_swift_chars_lem rust50.Field50F·line rust50.Field50F·parse rust50.Field50F·numbered rust50.Field50F·to-swift-string
+unfolding written Field59F·to_swift_string less_lf less_empty padded text_of content letter digit alphanumeric legal parse_swift_chars parse_account onto lines is_numbered parse_line parse_lines parse_name_and_address four party_of after_head read name_lines written_lines joined written_body written_field tag_of std.for_from std.in_front std.split_inclusive std.strip_suffix std.line_of std.let_lines std.is_alphabetic std.is_digit std.is_alphanumeric std.digits swift.rust_parse_swift_chars rust50.Field50F·line rust50.Field50F·parse rust50.Field50F·numbered rust50.Field50F·to_swift_string
 writing_examples = record {
   smallest = refl;
   removed = refl;
