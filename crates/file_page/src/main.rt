@@ -18,8 +18,8 @@ use std::io::Read;
 use tally::{say, say_answers};
 use yewdome::yewdome_page_file;
 
-// Files the page on a new one, and writes that: it is what `whole-page` speaks of, for the records that the page's reads give. Closing is not
-// refused in a buffer of at least 2 bytes, as `whole-page` says too.
+// Files the page on a new one, and writes that: it is what `whole_page` speaks of, for the records that the page's reads give. Closing is not
+// refused in a buffer of at least 2 bytes, as `whole_page` says too.
 fn file_page(rt: &(impl Print + Eprint), page: &[u8], buf: &mut [u8], answers: &mut [u64])
     requires { (2 ≤ length buf.old) × (length page.now < length answers.old) }
     ensures { buf.new ≡ (closing no_index (records_of page.now) buf.old).buffer }

@@ -1,13 +1,9 @@
 -- `is_numbered_in` meets its contract: a case of the rule for a short line, and two for a longer, by the entry of its digit. Assumes nothing.
-use Rattle.std.proofs.Common.{◌<◌, get_or, sym, refl, ◌∙◌, arith}
+use Rattle.std.proofs.Common.{get_or, sym, refl, ◌∙◌}
 use Rattle.swift_utils.proofs.Classes.{class_digit}
 use Rattle.swift_utils.proofs.Table.{by_entry}
 use Rattle.field_utils.proofs.Identifiers.{numbered_short, numbered_other, numbered_slash}
 use Rattle.field_utils.proofs.is_numbered_in.Goals as goal
-use Rattle.field_utils.proofs.is_numbered_in.Goals.{After-shared_slice_known-2-1}
-
-is_byte : (c : After-shared_slice_known-2-1) → get_or c.args.line.now 0 0 < 256
-is_byte c = omega (arith, c.shared_slice_known-2-1.given 0)
 
 pub returns-then-line-lt2 : goal.returns-then-line-lt2
 returns-then-line-lt2 c = sym (numbered_short c.args.line.now c.if-line-lt2.true)

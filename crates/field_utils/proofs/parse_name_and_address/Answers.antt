@@ -1,6 +1,6 @@
 -- `parse_name_and_address` meets its contract. Of the lines: what all of them say is what those from the cursor on say, and those passed
 -- are filled. Of a line's bytes: the test of all is the test of those left. Assumes nothing.
-use Rattle.std.proofs.Common.{◌≡◌, ℕ, suc, ◌+◌, ◌-◌, ◌<◌, ◌≤◌, Bool, List, [], ◌∷◌, length, get_or, drop, sym, refl, ap, ◌∙◌, subst, arith, eq-eqb, ne_eqb}
+use Rattle.std.proofs.Common.{◌≡◌, ℕ, suc, ◌+◌, ◌-◌, ◌≤◌, Bool, List, [], ◌∷◌, length, get_or, drop, sym, refl, ap, ◌∙◌, subst, arith, eq-eqb, ne_eqb}
 use Rattle.errors.specs.Refusals.{Reply, accepted, refused, told, must}
 use Rattle.party.specs.declared.PartyOption.{PartyOption}
 use Rattle.party.specs.declared.Limits.{Limits}
@@ -24,7 +24,7 @@ use Rattle.field_utils.proofs.NameTexts.{Passed, no_parts, passed_none, passed_r
 use Rattle.field_utils.proofs.AllBytes.{all_part}
 use Rattle.field_utils.proofs.NamePlaces.{marked_none, marked_more, marked_past, marked_all}
 use Rattle.field_utils.proofs.parse_name_and_address.Goals as goal
-use Rattle.field_utils.proofs.parse_name_and_address.Goals.{in_default, in-Next+in_default-outcome+then-loop-i-test+then-classes-b-ne-LEGAL, After-loop-i, After-parse_line-outcome, After-shared_slice_known-in-loop-i-1, At-lines, At-loop-i, In-Next, In_default, Joined-found, Then-classes-b-ne-LEGAL}
+use Rattle.field_utils.proofs.parse_name_and_address.Goals.{in_default, in-Next+in_default-outcome+then-loop-i-test+then-classes-b-ne-LEGAL, After-loop-i, After-parse_line-outcome, After-shared_slice_known-in-loop-i-1, At-lines, At-loop-i, In-Next, Joined-found}
 
 -- at the head of the loop over the lines
 module _ (t : At-lines) where
@@ -137,9 +137,6 @@ module _ (l : At-loop-i) where
 module _ (c : After-shared_slice_known-in-loop-i-1) where
   abbrev byte : ℕ
   byte = get_or (line (goal.at.After-shared_slice_known-in-loop-i-1 c).In-Next) c.loop-i.i 0
-
-  is_byte : byte < 256
-  is_byte = omega (arith, c.shared_slice_known-in-loop-i-1.given c.loop-i.i)
 
   -- its class, and what the test of it says
   abbrev class : ℕ

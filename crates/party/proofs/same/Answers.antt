@@ -8,7 +8,7 @@ use Rattle.party.proofs.Laws.{holds, fails, decides_as, equal_true, equal_false,
 use Rattle.party.proofs.Options.{place_one}
 use Rattle.party.proofs.Content.{SameHead, SameAccount, SameBic, SameNames, SameDigits, head, account, bic, names, digits, same}
 use Rattle.party.proofs.same.Goals as goal
-use Rattle.party.proofs.same.Goals.{After-limits_of-limits, After-same_where, After-same_where-2, After-same_numbers, Else-not-same_numbers}
+use Rattle.party.proofs.same.Goals.{After-limits_of-limits, After-same_where, After-same_where-2, After-same_numbers}
 
 -- past the tests of option, presence and count
 headed : (c : After-limits_of-limits) → SameHead c.args.p c.args.q

@@ -1,7 +1,7 @@
 -- `choices::is_ruled_out` meets its contract: each arm is its option's case. Assumes nothing.
 use mathlib.Core.Path.{◌≡◌, sym, ◌∙◌, ap}
 use mathlib.Core.Bool.{Bool, not}
-use mathlib.Core.List.{List, [], ◌∷◌}
+use mathlib.Core.List.{List}
 use Prim.Native.Nat.{ℕ}
 use Rattle.party.specs.declared.PartyOption.{PartyOption}
 use Rattle.swift_utils.specs.Checks.{bic_length}
@@ -12,9 +12,6 @@ use Rattle.reader.proofs.choices.is_ruled_out.Goals as goal
 -- an option that is known, and the length of what it takes for its BIC
 known : {r : Bool} (text : List ℕ) (ls : List (List ℕ)) {o v : PartyOption} → o ≡ v → r ≡ ruled_out v text ls → r ≡ ruled_out o text ls
 known text ls e f = f ∙ ap (λ (o : PartyOption). ruled_out o text ls) (sym e)
-
-abbrev others : List ℕ
-others = 0 ∷ 2 ∷ 3 ∷ 5 ∷ 7 ∷ 8 ∷ 10 ∷ []
 
 pub returns-in-Field50C : goal.returns-in-Field50C
 returns-in-Field50C c =
