@@ -42,6 +42,10 @@ pub record There (page : List ℕ) (place : BodyPlace) (body : List ℕ) : Type 
   pub within : place.start + place.len ≤ length page
   pub bytes : take place.len (drop place.start page) ≡ body
 
+-- and in the slice from the place's start to its end
+pub part_there : {page : List ℕ} {p : BodyPlace} {body : List ℕ} → There page p body → take (p.start + p.len - p.start) (drop p.start page) ≡ body
+part_there {page} {p} h = let n : p.start + p.len - p.start ≡ p.len = omega arith in ap (λ (k : ℕ). take k (drop p.start page)) n ∙ h.bytes
+
 -- ---- a field's text is a part of the page
 less_part : (t : Bool) (l : List ℕ) → less_cr t l ≡ take (length (less_cr t l)) l
 less_part true l = without_cr_part l
@@ -110,6 +114,10 @@ module _ (page : List ℕ) (at : ℕ) where
           (subst (λ (y : List ℕ). RestOf y (tag_in options x)) (text_part page at to h.from h.most) (tag_rest options x))
       go (Ending to) h = nothing
       go (Stray to) h = nothing
+
+  -- so are they at a place that a call gave
+  pub place_there : {p : BodyPlace} → p ≡ body_place page at → There page p (read_at page at).body
+  place_there e = subst (λ (p : BodyPlace). There page p (read_at page at).body) (sym e) body_there
 
   -- it stands among the first 32,768 bytes
   pub body_most_lem : (body_place page at).start + (body_place page at).len ≤ page_most

@@ -203,6 +203,10 @@ pub record RecordBytesOperations : Type 0 where
   pub has_option_takes_presence_2 : has_option no_record ≡ true
   -- takes a place that no option has
   pub has_option_refuses_11 : has_option (11 ∷ drop 1 encoded_a) ≡ false
+  -- leaves out the last option, 59F
+  pub has_option_takes_10 : has_option (10 ∷ drop 1 encoded_a) ≡ true
+  -- believes the first byte of bytes that are fewer than a record's
+  pub has_option_of_240_bytes_is_no : has_option (take 240 encoded_a) ≡ false
   -- takes 241 bytes and no more
   pub holds_record_takes_242 : holds_record (encoded_a ++ 7 ∷ []) ≡ true
   -- takes a presence of 2 for a yes
@@ -223,6 +227,8 @@ pub record RecordBytesOperations : Type 0 where
   pub text_length_tells_39 : (nth_text 2 (laid_out encoded_long)).len ≡ 39
   -- looks at bytes that are fewer than a record's
   pub text_length_of_240_bytes_is_0 : (nth_text 2 (laid_out (take 240 encoded_a))).len ≡ 0
+  -- takes the first digit for the length of a seventh text
+  pub text_length_of_a_seventh_is_0 : (nth_text 6 (laid_out (replicate record_size 7))).len ≡ 0
   -- gives the byte after a text whose length passes it
   pub used_text_of_39_is_all_38 : (used (nth_text 2 (laid_out encoded_long))).bytes ≡ replicate 38 65
   -- counts the names without the account and the BIC, or asks for the presence
@@ -247,6 +253,8 @@ record_bytes_operations = record {
   store_parts_of_40_has_length_38 = refl;
   has_option_takes_presence_2 = refl;
   has_option_refuses_11 = refl;
+  has_option_takes_10 = refl;
+  has_option_of_240_bytes_is_no = refl;
   holds_record_takes_242 = refl;
   holds_record_refuses_presence_2 = refl;
   option_of_place_3_is_50K = refl;
@@ -257,6 +265,7 @@ record_bytes_operations = record {
   count_of_no_record_is_0 = refl;
   text_length_tells_39 = refl;
   text_length_of_240_bytes_is_0 = refl;
+  text_length_of_a_seventh_is_0 = refl;
   used_text_of_39_is_all_38 = refl;
   used_text_2_is_the_first_name = refl;
   digit_of_0_is_the_first = refl;

@@ -1,29 +1,19 @@
 -- `kept::field_causes` meets its contract: the causes in the body that the read hands back, and what stands after it. Assumes nothing.
-use mathlib.Core.Path.{◌≡◌, sym, ◌∙◌, ap, subst}
+use mathlib.Core.Path.{◌∙◌, ap}
 use mathlib.Core.Bool.{false, ◌&&◌}
-use Prim.Native.Nat.{ℕ, ◌+◌, ◌-◌}
+use Prim.Native.Nat.{◌+◌}
 use native.Mathlib.Omega.{arith}
 use lib.Dec.{ltb, eqb}
-use lib.ListN.{take, drop, get_or}
+use lib.ListN.{get_or}
 use Rattle.page_reader.specs.declared.BodyPlace.{BodyPlace}
 use Rattle.page_reader.specs.Pages.{read_at}
-use Rattle.page_reader.proofs.Bodies.{There, body_there}
+use Rattle.page_reader.proofs.Bodies.{There, part_there, place_there}
 use Rattle.kept.specs.Kept.{causes_of}
 use Rattle.kept.proofs.field_causes.Goals as goal
 use Rattle.kept.proofs.field_causes.Goals.{After-body_place-place}
 
 there : (c : After-body_place-place) → let a = c.args in There a.page.now c.body_place-place.result (read_at a.page.now a.at).body
-there c =
-    let a = c.args in
-    subst (λ (p : BodyPlace). There a.page.now p (read_at a.page.now a.at).body) (sym c.body_place-place.ensures) (body_there a.page.now a.at)
-
--- the part from its start to its end is the body
-body_is : (c : After-body_place-place) → let a = c.args in let p = c.body_place-place.result in
-    take (p.start + p.len - p.start) (drop p.start a.page.now) ≡ (read_at a.page.now a.at).body
-body_is c =
-    let p = c.body_place-place.result in
-    let n : p.start + p.len - p.start ≡ p.len = omega arith in
-    ap (λ (k : ℕ). take k (drop p.start c.args.page.now)) n ∙ (there c).bytes
+there c = place_there c.args.page.now c.args.at c.body_place-place.ensures
 
 pub overflow_add-end : goal.overflow_add-end
 overflow_add-end c = omega (arith, (there (goal.at.overflow_add-end c).After-body_place-place).within)
@@ -35,4 +25,4 @@ pub returns : goal.returns
 returns c =
     let a = c.args in
     let closing = c.is_cr_after-closing_cr.ensures ∙ ap (λ (p : BodyPlace). ltb 0 p.start && eqb (get_or a.page.now (p.start + p.len) 0) 13) c.body_place-place.ensures in
-    c.causes_of.ensures ∙ (λ i. causes_of a.option a.present (body_is (goal.at.returns c).After-body_place-place i) false (closing i))
+    c.causes_of.ensures ∙ (λ i. causes_of a.option a.present (part_there (there (goal.at.returns c).After-body_place-place) i) false (closing i))
