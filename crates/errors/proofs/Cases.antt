@@ -6,8 +6,7 @@ use Prim.Native.Nat.{ℕ}
 use lib.Dec.{eqb}
 use Rattle.errors.specs.declared.ParseError.{ParseError}
 use Rattle.errors.specs.declared.ParseError.TheVariants.{LineCount, PartyIdentifier, IllegalByte, TooLong, NotNumbered, OutOfTurn, NameCount, BicMissing, BicLength, BicByte, NoOption, BodyTooLong, NotAscii, NotALetter, UnknownTag, StrayLine, PageLength, PageTooLong, Position, NoSuchRecord, NotCarried, NoSpace, NoEntry, OutsideProfile, ShortRecord}
-use Rattle.errors.specs.declared.Outcome.{Outcome}
-use Rattle.errors.specs.declared.Outcome.TheVariants.{Accepted, Refused}
+use Rattle.std.specs.Prelude.{Result, Ok, Err}
 use Rattle.errors.specs.Refusals.{Reply, accepted, refused, refusal_of, told}
 
 -- the case with a number, at a line: the first row that has it
@@ -75,15 +74,15 @@ case_found NoEntry = refl
 case_found (OutsideProfile n) = refl
 case_found ShortRecord = refl
 
-back : Reply → Outcome
-back accepted = Accepted
-back (refused k n) = Refused (find k (rows n))
+back : Reply → Result (Unit {0}) ParseError
+back accepted = Ok tt
+back (refused k n) = Err (find k (rows n))
 
-back_told : (o : Outcome) → back (told o) ≡ o
+back_told : (r : Result (Unit {0}) ParseError) → back (told r) ≡ r
 unfolding back
-back_told Accepted = refl
-back_told (Refused e) = ap Refused (case_found e)
+back_told (Ok t) = refl
+back_told (Err e) = ap Err (case_found e)
 
--- what two outcomes say is the same only if they are
-pub told_one : (o p : Outcome) → told o ≡ told p → o ≡ p
+-- what two answers say is the same only if they are
+pub told_one : (o p : Result (Unit {0}) ParseError) → told o ≡ told p → o ≡ p
 told_one o p e = sym (back_told o) ∙ ap back e ∙ back_told p

@@ -1,10 +1,8 @@
 -- Refusals as document 01 numbers them ('From the input' and 'From the state').
-use Rattle.std.specs.Prelude.{ℕ, Bool, true, false}
+use Rattle.std.specs.Prelude.{ℕ, Bool, true, false, Result, Ok, Err}
 use Rattle.errors.specs.declared.ParseError.{ParseError}
 use Rattle.errors.specs.declared.ParseError.TheVariants.{LineCount, PartyIdentifier, IllegalByte, TooLong, NotNumbered, OutOfTurn, NameCount, BicMissing, BicLength, BicByte, NoOption, BodyTooLong, NotAscii, NotALetter, UnknownTag, StrayLine, PageLength, PageTooLong, Position, NoSuchRecord, NotCarried, NoSpace, NoEntry, OutsideProfile, ShortRecord}
 use Rattle.errors.specs.declared.Refusal.{Refusal}
-use Rattle.errors.specs.declared.Outcome.{Outcome}
-use Rattle.errors.specs.declared.Outcome.TheVariants.{Accepted, Refused}
 
 -- an answer in document 01's terms: accepted, or refused with a number and a body line or 0
 pub data Reply : Type 0 where
@@ -58,7 +56,7 @@ refusal_of ShortRecord = refusal_at 42 0
 abbrev pub told_error : ParseError → Reply
 told_error e = refused (refusal_of e).number (refusal_of e).line
 
--- an outcome in document 01's terms
-abbrev pub told : Outcome → Reply
-told Accepted = accepted
-told (Refused e) = told_error e
+-- an answer with nothing beside it, in document 01's terms
+abbrev pub told : Result (Unit {0}) ParseError → Reply
+told (Ok t) = accepted
+told (Err e) = told_error e

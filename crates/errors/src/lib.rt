@@ -5,7 +5,7 @@ ghost use Rattle.std.specs.Prelude.{◌≡◌};
 ghost use Rattle.errors.specs.Refusals.{refusal_at, refusal_of};
 
 // What a call refuses for. The cases stand in the order of document 01's numbers; a line is a body line, counted from 1.
-#[derive(Clone, Copy)]
+#[derive(Clone, Copy, Debug, PartialEq, Eq)]
 pub enum ParseError {
     // 1: a wrong count of lines at the start
     LineCount,
@@ -59,26 +59,20 @@ pub enum ParseError {
     ShortRecord,
 }
 
-// An answer with nothing beside it: accepted, or the refusal.
-#[derive(Clone, Copy)]
-pub enum Outcome {
-    Accepted,
-    Refused(ParseError),
-}
-
 // A refusal as document 01 gives it: its number, and a body line or 0.
-#[derive(Clone, Copy)]
+#[derive(Clone, Copy, Debug, PartialEq, Eq)]
 pub struct Refusal {
     pub number: u8,
     pub line: usize,
 }
 
-impl ParseError {
-    // Its number and line.
-    pub fn refusal(self) -> Refusal
-        ensures { result ≡ refusal_of self }
+impl From<ParseError> for Refusal {
+    ghost from_gives = { λ e r. r ≡ refusal_of e };
+
+    fn from(e: ParseError) -> Refusal
+        ensures { result ≡ refusal_of e }
     {
-        match self {
+        match e {
             ParseError::LineCount => at(1, 0),
             ParseError::PartyIdentifier(n) => at(2, n),
             ParseError::IllegalByte(n) => at(3, n),

@@ -1,211 +1,141 @@
 // The eight options of field 50 and the five choices among them, ported from field50.rs of swift-mt-message.
 #![tactic(auto)]
 
-ghost use Rattle.std.specs.Prelude.{◌≡◌};
 ghost use Rattle.party.specs.declared.PartyOption.{PartyOption};
-ghost use Rattle.reader.specs.Reading.{told_answer};
-ghost use Rattle.reader.specs.Options.{read as read_of};
 ghost use Rattle.reader.specs.declared.choices.Choice.{Choice};
-ghost use Rattle.reader.specs.Choices.{parse as parse_of, parse_with_variant};
 
 use party::PartyOption;
-use reader::choices::{Choice, parse, parse_with_variant};
-use reader::{Answer, read};
+use reader::choices::Choice;
+pub use reader::traits::{SwiftChoice, SwiftField};
 
 // Name and address only.
 #[derive(Clone, Copy)]
 pub struct Field50NoOption {}
 
-impl Field50NoOption {
-    pub fn parse(input: &[u8]) -> Answer
-        ensures { told_answer result ≡ read_of PartyOption.Field50NoOption input.now }
-    {
-        read(PartyOption::Field50NoOption, input)
-    }
+impl SwiftField for Field50NoOption {
+    const OPTION: PartyOption = PartyOption::Field50NoOption;
+
+    ghost OPTION = { PartyOption.Field50NoOption };
 }
 
 // Party identifier or none, and a BIC.
 #[derive(Clone, Copy)]
 pub struct Field50A {}
 
-impl Field50A {
-    pub fn parse(input: &[u8]) -> Answer
-        ensures { told_answer result ≡ read_of PartyOption.Field50A input.now }
-    {
-        read(PartyOption::Field50A, input)
-    }
+impl SwiftField for Field50A {
+    const OPTION: PartyOption = PartyOption::Field50A;
+
+    ghost OPTION = { PartyOption.Field50A };
 }
 
 // Party identifier and numbered lines.
 #[derive(Clone, Copy)]
 pub struct Field50F {}
 
-impl Field50F {
-    pub fn parse(input: &[u8]) -> Answer
-        ensures { told_answer result ≡ read_of PartyOption.Field50F input.now }
-    {
-        read(PartyOption::Field50F, input)
-    }
+impl SwiftField for Field50F {
+    const OPTION: PartyOption = PartyOption::Field50F;
+
+    ghost OPTION = { PartyOption.Field50F };
 }
 
 // Account or none, and name and address.
 #[derive(Clone, Copy)]
 pub struct Field50K {}
 
-impl Field50K {
-    pub fn parse(input: &[u8]) -> Answer
-        ensures { told_answer result ≡ read_of PartyOption.Field50K input.now }
-    {
-        read(PartyOption::Field50K, input)
-    }
+impl SwiftField for Field50K {
+    const OPTION: PartyOption = PartyOption::Field50K;
+
+    ghost OPTION = { PartyOption.Field50K };
 }
 
 // A BIC only.
 #[derive(Clone, Copy)]
 pub struct Field50C {}
 
-impl Field50C {
-    pub fn parse(input: &[u8]) -> Answer
-        ensures { told_answer result ≡ read_of PartyOption.Field50C input.now }
-    {
-        read(PartyOption::Field50C, input)
-    }
+impl SwiftField for Field50C {
+    const OPTION: PartyOption = PartyOption::Field50C;
+
+    ghost OPTION = { PartyOption.Field50C };
 }
 
 // Party identifier only.
 #[derive(Clone, Copy)]
 pub struct Field50L {}
 
-impl Field50L {
-    pub fn parse(input: &[u8]) -> Answer
-        ensures { told_answer result ≡ read_of PartyOption.Field50L input.now }
-    {
-        read(PartyOption::Field50L, input)
-    }
+impl SwiftField for Field50L {
+    const OPTION: PartyOption = PartyOption::Field50L;
+
+    ghost OPTION = { PartyOption.Field50L };
 }
 
 // Account and a BIC.
 #[derive(Clone, Copy)]
 pub struct Field50G {}
 
-impl Field50G {
-    pub fn parse(input: &[u8]) -> Answer
-        ensures { told_answer result ≡ read_of PartyOption.Field50G input.now }
-    {
-        read(PartyOption::Field50G, input)
-    }
+impl SwiftField for Field50G {
+    const OPTION: PartyOption = PartyOption::Field50G;
+
+    ghost OPTION = { PartyOption.Field50G };
 }
 
 // Account and name and address.
 #[derive(Clone, Copy)]
 pub struct Field50H {}
 
-impl Field50H {
-    pub fn parse(input: &[u8]) -> Answer
-        ensures { told_answer result ≡ read_of PartyOption.Field50H input.now }
-    {
-        read(PartyOption::Field50H, input)
-    }
+impl SwiftField for Field50H {
+    const OPTION: PartyOption = PartyOption::Field50H;
+
+    ghost OPTION = { PartyOption.Field50H };
 }
 
 // C or L.
 #[derive(Clone, Copy)]
 pub struct Field50InstructingParty {}
 
-impl Field50InstructingParty {
-    // Detects.
-    pub fn parse(input: &[u8]) -> Answer
-        ensures { told_answer result ≡ parse_of Choice.Field50InstructingParty input.now }
-    {
-        parse(Choice::Field50InstructingParty, input)
-    }
+impl SwiftChoice for Field50InstructingParty {
+    const CHOICE: Choice = Choice::Field50InstructingParty;
 
-    // By a letter, 0 for none.
-    pub fn parse_with_variant(input: &[u8], letter: u8) -> Answer
-        ensures { told_answer result ≡ parse_with_variant Choice.Field50InstructingParty input.now letter }
-    {
-        parse_with_variant(Choice::Field50InstructingParty, input, letter)
-    }
+    ghost CHOICE = { Choice.Field50InstructingParty };
 }
 
 // F, G or H.
 #[derive(Clone, Copy)]
 pub struct Field50OrderingCustomerFGH {}
 
-impl Field50OrderingCustomerFGH {
-    // Detects.
-    pub fn parse(input: &[u8]) -> Answer
-        ensures { told_answer result ≡ parse_of Choice.Field50OrderingCustomerFGH input.now }
-    {
-        parse(Choice::Field50OrderingCustomerFGH, input)
-    }
+impl SwiftChoice for Field50OrderingCustomerFGH {
+    const CHOICE: Choice = Choice::Field50OrderingCustomerFGH;
 
-    // By a letter, 0 for none.
-    pub fn parse_with_variant(input: &[u8], letter: u8) -> Answer
-        ensures { told_answer result ≡ parse_with_variant Choice.Field50OrderingCustomerFGH input.now letter }
-    {
-        parse_with_variant(Choice::Field50OrderingCustomerFGH, input, letter)
-    }
+    ghost CHOICE = { Choice.Field50OrderingCustomerFGH };
 }
 
 // A, F or K.
 #[derive(Clone, Copy)]
 pub struct Field50OrderingCustomerAFK {}
 
-impl Field50OrderingCustomerAFK {
-    // Detects.
-    pub fn parse(input: &[u8]) -> Answer
-        ensures { told_answer result ≡ parse_of Choice.Field50OrderingCustomerAFK input.now }
-    {
-        parse(Choice::Field50OrderingCustomerAFK, input)
-    }
+impl SwiftChoice for Field50OrderingCustomerAFK {
+    const CHOICE: Choice = Choice::Field50OrderingCustomerAFK;
 
-    // By a letter, 0 for none.
-    pub fn parse_with_variant(input: &[u8], letter: u8) -> Answer
-        ensures { told_answer result ≡ parse_with_variant Choice.Field50OrderingCustomerAFK input.now letter }
-    {
-        parse_with_variant(Choice::Field50OrderingCustomerAFK, input, letter)
-    }
+    ghost CHOICE = { Choice.Field50OrderingCustomerAFK };
 }
 
 // 50, C or F.
 #[derive(Clone, Copy)]
 pub struct Field50OrderingCustomerNCF {}
 
-impl Field50OrderingCustomerNCF {
-    // Detects.
-    pub fn parse(input: &[u8]) -> Answer
-        ensures { told_answer result ≡ parse_of Choice.Field50OrderingCustomerNCF input.now }
-    {
-        parse(Choice::Field50OrderingCustomerNCF, input)
-    }
+impl SwiftChoice for Field50OrderingCustomerNCF {
+    const CHOICE: Choice = Choice::Field50OrderingCustomerNCF;
 
-    // By a letter, 0 for none.
-    pub fn parse_with_variant(input: &[u8], letter: u8) -> Answer
-        ensures { told_answer result ≡ parse_with_variant Choice.Field50OrderingCustomerNCF input.now letter }
-    {
-        parse_with_variant(Choice::Field50OrderingCustomerNCF, input, letter)
-    }
+    ghost CHOICE = { Choice.Field50OrderingCustomerNCF };
 }
 
 // A or K.
 #[derive(Clone, Copy)]
 pub struct Field50Creditor {}
 
-impl Field50Creditor {
-    // Detects.
-    pub fn parse(input: &[u8]) -> Answer
-        ensures { told_answer result ≡ parse_of Choice.Field50Creditor input.now }
-    {
-        parse(Choice::Field50Creditor, input)
-    }
+impl SwiftChoice for Field50Creditor {
+    const CHOICE: Choice = Choice::Field50Creditor;
 
-    // By a letter, 0 for none.
-    pub fn parse_with_variant(input: &[u8], letter: u8) -> Answer
-        ensures { told_answer result ≡ parse_with_variant Choice.Field50Creditor input.now letter }
-    {
-        parse_with_variant(Choice::Field50Creditor, input, letter)
-    }
+    ghost CHOICE = { Choice.Field50Creditor };
 }
 
 // The Rust's alias, for its most common use.

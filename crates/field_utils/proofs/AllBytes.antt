@@ -1,8 +1,10 @@
 -- Tests of all bytes: of a word, of a part, and of a list of which the first ones were passed. Assumes nothing.
-use Rattle.std.proofs.Common.{◌≡◌, ℕ, zero, suc, ◌+◌, ◌-◌, ◌*◌, ◌/◌, ◌%◌, ◌≤◌, Bool, true, false, ◌&&◌, eqb, leb, List, [], ◌∷◌, take, drop, sym, refl, ap, ◌∙◌, div-add-mod', arith, drop-drop, eq-eqb, ne_eqb, eqb-true, leb-false, leb-true}
-use mathlib.Core.Bool.{and_assoc}
+use Rattle.std.proofs.Common.{◌≡◌, ℕ, zero, suc, ◌+◌, ◌-◌, ◌*◌, ◌/◌, ◌%◌, ◌≤◌, Bool, true, false, ◌&&◌, eqb, leb, List, [], ◌∷◌, get_or, take, drop, sym, refl, ap, ◌∙◌, div-add-mod', arith, drop-drop, eq-eqb, ne_eqb, eqb-true, leb-false, leb-true, le-leb}
+use Rattle.std.specs.Bool.{MatchBool}
+use Rattle.std.specs.Str.{IsAscii, IsNotAscii}
+use mathlib.Core.Bool.{and_assoc, and-false}
 use lib.Bits.{bit_and, and_block, and_high, and_zero_r}
-use borrow.Author.Tests.{eqb-false}
+use borrow.Author.Tests.{lt-leb, eqb-false}
 use Rattle.swift_utils.specs.Bytes.{all}
 use Rattle.field_utils.specs.Words.{low_bytes, every}
 use Rattle.field_utils.proofs.Tests.{both_left, both_right}
@@ -10,6 +12,20 @@ use Rattle.field_utils.proofs.Tests.{both_left, both_right}
 -- a byte of at most 127
 abbrev pub low : ℕ → Bool
 low b = leb b 127
+
+-- they are all low where no byte is above 127, and not where one is
+all_low : (l : List ℕ) → IsAscii l → all low l ≡ true
+all_low [] h = refl
+all_low (b ∷ l) h = rw (le-leb b 127 (omega (arith, h 0)), all_low l (λ i. h (suc i)))
+
+one_high : (l : List ℕ) (i : ℕ) → 128 ≤ get_or l i 0 → all low l ≡ false
+one_high [] i h = absurd (omega (arith, h))
+one_high (b ∷ l) zero h = rw (lt-leb b 127 (omega (arith, h)))
+one_high (b ∷ l) (suc i) h = rw (one_high l i h, and-false (low b))
+
+pub ascii_low : (l : List ℕ) (r : Bool) → MatchBool r (IsAscii l) (IsNotAscii l) → r ≡ all low l
+ascii_low l true h = sym (all_low l h)
+ascii_low l false h = sym (one_high l h.0 h.1)
 
 -- a number of 256 times another is zero where that is
 scaled : (x y : ℕ) → y ≡ 0 → eqb (x * 256 + y) 0 ≡ eqb x 0

@@ -2,11 +2,13 @@
 use Rattle.std.proofs.Common.{◌≡◌, ℕ, suc, ◌+◌, ◌<◌, ◌≤◌, Bool, true, false, ◌&&◌, ◌||◌, eqb, leb, List, [], ◌∷◌, length, get_or, take, drop, sym, refl, ap, ◌∙◌, add-one, arith, drop_of_length-le, drop-cons, le-ltb, lt-ltb, eq-eqb, ne_eqb, eqb-true, le-leb}
 use mathlib.Core.Bool.{and-true, and-false, false≢true}
 use borrow.Author.Tests.{lt-leb, eqb-false}
-use Rattle.errors.specs.Refusals.{refused, must, ◌then◌}
+use Rattle.errors.specs.Refusals.{Reply, refused, must, ◌then◌}
 use Rattle.party.specs.declared.PartyOption.{PartyOption}
+use Rattle.party.specs.declared.Limits.{Limits}
 use Rattle.party.specs.Limits.{limits_of}
 use Rattle.swift_utils.specs.Bytes.{digit, alphanumeric, all, among}
 use Rattle.swift_utils.specs.Checks.{parse_account}
+use Rattle.swift_utils.proofs.Parts.{part, part_end}
 use Rattle.field_utils.specs.Lines.{upto, starts}
 use Rattle.field_utils.specs.Identifier.{is_numbered, second_slash, identifier_reply, absent, given, parse_party_identifier}
 use Rattle.field_utils.proofs.Tests.{either_left, either_right}
@@ -101,6 +103,12 @@ pub identifier_given : (o : PartyOption) (n : ℕ) (l : List ℕ) → starts 47 
 unfolding parse_party_identifier starts
 identifier_given o n [] e = absurd (false≢true e)
 identifier_given o n (b ∷ l) e = rw (e, parse_party_identifier)
+
+-- what the code holds of the option, and what it says of the bytes after the slash
+pub identifier_told : (o : PartyOption) (n : ℕ) (l : List ℕ) {m : Limits} {r : Reply} → m ≡ limits_of o → starts 47 l ≡ true → r ≡ identifier_reply m.account_max n (part 1 (length l) l)
+    → given (drop 1 l) r ≡ parse_party_identifier o n l
+identifier_told o n l e s h =
+    ap (given (drop 1 l)) (h ∙ ap (identifier_reply _ n) (part_end l 1) ∙ ap (λ (m : Limits). identifier_reply m.account_max n (drop 1 l)) e) ∙ sym (identifier_given o n l s)
 
 pub starts_long : (b : ℕ) (l : List ℕ) → starts b l ≡ true → 1 ≤ length l
 unfolding starts

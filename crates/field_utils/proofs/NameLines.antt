@@ -1,5 +1,5 @@
 -- The cases of a line of names, of the lines of names, and of their count. Assumes nothing.
-use Rattle.std.proofs.Common.{◌≡◌, ℕ, suc, ◌+◌, ◌≤◌, Bool, true, eqb, leb, List, [], ◌∷◌, map, length, drop, sym, refl, ap, ◌∙◌, add-one, arith, eq-eqb, ne_eqb, eqb-true}
+use Rattle.std.proofs.Common.{◌≡◌, ℕ, suc, ◌+◌, ◌≤◌, Bool, true, eqb, leb, List, [], ◌∷◌, map, length, drop, sym, refl, ap, ◌∙◌, add-one, arith, eqb-true}
 use mathlib.Core.Bool.{or-true, false≢true}
 use lib.ListN.{length-map}
 use Rattle.errors.specs.Refusals.{Reply, accepted, refused, must, ◌then◌}
@@ -16,7 +16,7 @@ use Rattle.swift_utils.specs.Checks.{parse_swift_chars}
 use Rattle.swift_utils.proofs.Checks.{chars}
 use Rattle.field_utils.specs.Identifier.{is_numbered}
 use Rattle.field_utils.specs.Names.{skip_of, parse_number, parse_line, parse_lines, parse_count, parse_name_and_address, NamesRead, kept, digit_of, names_or, read_names, dropped_prefix}
-use Rattle.field_utils.specs.Code.{parse_shape, parse_rest, given_names}
+use Rattle.field_utils.specs.Code.{parse_shape, given_names}
 use Rattle.field_utils.proofs.Tests.{both_left, both_right}
 
 -- a numbered line has room for its digit and slash
@@ -101,14 +101,6 @@ module _ (f : Numbering) (longest start count : ℕ) (l : List ℕ) (ls : List (
 pub lines_none : (f : Numbering) (longest n k : ℕ) → parse_lines f longest n k [] ≡ accepted
 unfolding parse_lines
 lines_none f longest n k = refl
-
--- after the lines: one had an illegal byte, or none
-module _ (illegal most count : ℕ) where
-  pub rest_illegal : (illegal ≡ 0 → ⊥) → parse_rest illegal most count ≡ refused 3 illegal
-  rest_illegal h = rw (ne_eqb illegal 0 h)
-
-  pub rest_counted : illegal ≡ 0 → parse_rest illegal most count ≡ parse_count most count
-  rest_counted e = rw (eq-eqb illegal 0 e)
 
 pub given_reply : (r : Reply) (count : ℕ) (texts : List Text) (digits : List ℕ) → (given_names r count texts digits).reply ≡ r
 given_reply accepted count texts digits = refl

@@ -1,5 +1,6 @@
 -- Places that no LF stands between. Assumes nothing.
-use Rattle.std.proofs.Common.{◌≡◌, ℕ, zero, suc, ◌+◌, ◌<◌, ◌≤◌, Bool, true, false, eqb, List, [], ◌∷◌, length, take, drop, sym, refl, ap, ◌∙◌, subst, arith, length-drop, drop-drop}
+use Rattle.std.proofs.Common.{◌≡◌, ℕ, zero, suc, ◌+◌, ◌*◌, ◌<◌, ◌≤◌, Bool, true, false, eqb, List, [], ◌∷◌, length, get_or, take, drop, sym, refl, ap, ◌∙◌, subst, arith, length-drop, drop-drop}
+use Rattle.std.specs.Simd.{first_chunks}
 use Rattle.field_utils.specs.Lines.{upto}
 use Rattle.field_utils.specs.Words.{Passed}
 
@@ -47,3 +48,11 @@ pub passed_part : (s : List ℕ) (from k to : ℕ) → to ≡ from + k → to �
 passed_part s from k to t h e =
     let past = (part_of 10 k (drop from s)).past (omega (arith, t, h, length-drop from s)) e in
     record { forward = omega (arith, t); within = h; same = omega (arith, past, ap (upto 10) (drop-drop k from s ∙ ap (λ (n : ℕ). drop n s) (sym t)), t) }
+
+-- a chunk of n bytes, of the first k of them
+pub chunk_at : (n k : ℕ) (s : List ℕ) (i : ℕ) → i < k → get_or (first_chunks n k s) i [] ≡ take n (drop (i * n) s)
+chunk_at n zero s i h = absurd (omega (arith, h))
+chunk_at n (suc k) s zero h = let z : 0 * n ≡ 0 = omega arith in rw z
+chunk_at n (suc k) s (suc i) h =
+    let more : n + i * n ≡ suc i * n = omega arith in
+    chunk_at n k (drop n s) i (omega (arith, h)) ∙ ap (take n) (drop-drop (i * n) n s ∙ ap (λ (m : ℕ). drop m s) more)

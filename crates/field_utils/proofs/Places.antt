@@ -1,11 +1,13 @@
 -- Laws of `upto` and of lines by their places. Assumes nothing.
-use Rattle.std.proofs.Common.{◌≡◌, ℕ, zero, suc, ◌+◌, ◌-◌, ◌<◌, ◌≤◌, Bool, true, false, ◌&&◌, eqb, ltb, List, [], ◌∷◌, length, get_or, take, drop, sym, refl, ap, ◌∙◌, subst, add-one, arith, length-drop, drop_of_length-le, length-take, drop-cons, take-take, drop-drop, ltb-false, ltb-true, le-ltb, lt-ltb, eq-eqb, ne_eqb, eqb-true}
+use Rattle.std.proofs.Common.{◌≡◌, ℕ, zero, suc, ◌+◌, ◌-◌, ◌<◌, ◌≤◌, Bool, true, false, ◌&&◌, eqb, ltb, List, [], ◌∷◌, length, get_or, take, drop, sym, refl, ap, ◌∙◌, subst, add-one, arith, length-drop, drop_of_length-le, length-take, drop-cons, take-take, drop-drop, ltb-false, ltb-true, le-ltb, lt-ltb, eq-eqb, ne_eqb, eqb-true, Option, None, Some, MatchOption}
+use Rattle.std.specs.List.{AllWithin, HoldsAt}
+use Rattle.std.specs.Option.{unwrap_or}
+use Rattle.std.proofs.lemmas.Iterator.{index_from_first}
 use mathlib.Core.Bool.{and-false}
 use native.Mathlib.Nat.{add-sub_cancel_left}
-use lib.Seq.{drop-length}
+use lib.Seq.{drop-length, take-length}
 use Rattle.swift_utils.proofs.Parts.{part, part_length, part_at, part_end}
 use Rattle.field_utils.specs.declared.lines.Line.{Line}
-use Rattle.field_utils.specs.declared.lines.Line.TheVariants.{Next, Done}
 use Rattle.field_utils.specs.Lines.{upto, onto, starts, lines, without_cr}
 use Rattle.field_utils.specs.Cursor.{line_of, next_line}
 
@@ -45,6 +47,22 @@ module _ (b : ℕ) (s : List ℕ) (i : ℕ) where
   pub upto_done : length s ≤ i → upto b (drop i s) ≡ 0
   unfolding upto
   upto_done h = rw (drop_of_length-le s h)
+
+-- the place that a search gives, or the length where it finds none
+pub upto_found : (b : ℕ) (l : List ℕ) (r : Option ℕ)
+    → MatchOption r (AllWithin (λ a. a ≡ b → ⊥) l 0 (length l)) (λ i. (i < length l) × HoldsAt (λ a. a ≡ b) l i × AllWithin (λ a. a ≡ b → ⊥) l 0 i)
+    → upto b l ≡ unwrap_or r (length l)
+unfolding upto
+upto_found b l r h = index_from_first (upto b) (λ a. a ≡ b) (λ a. a ≡ b → ⊥) none_there here_first past_first l r h
+  where
+    none_there : upto b [] ≡ 0
+    none_there = refl
+
+    here_first : (a : ℕ) (l : List ℕ) → a ≡ b → upto b (a ∷ l) ≡ 0
+    here_first a l e = rw (eq-eqb a b e, upto)
+
+    past_first : (a : ℕ) (l : List ℕ) → (a ≡ b → ⊥) → upto b (a ∷ l) ≡ upto b l + 1
+    past_first a l e = rw (ne_eqb a b e, upto) (omega arith)
 
 -- a byte that is no LF, with none after it: it stands in front of the first line
 lines_past : (b : ℕ) (l : List ℕ) → eqb b 10 ≡ false → starts 10 l ≡ false → lines (b ∷ l) ≡ onto b (lines l)
@@ -97,20 +115,34 @@ without_cr_length (b ∷ []) (suc n) t h e = absurd (omega arith)
 without_cr_length (b ∷ a ∷ l) zero t h e = absurd (omega arith)
 without_cr_length (b ∷ a ∷ l) (suc n) t h e = omega (arith, without_cr_length (a ∷ l) n t (omega arith) e)
 
+-- and the line, by whether its last byte is a CR
+pub without_cr_dropped : (l : List ℕ) → 0 < length l → get_or l (length l - 1) 0 ≡ 13 → without_cr l ≡ take (length l - 1) l
+without_cr_dropped l h e =
+    let n : length (without_cr l) ≡ length l - 1 = omega (arith, without_cr_length l (length l - 1) true (omega arith) (eq-eqb _ _ e)) in
+    without_cr_part l ∙ ap (λ (n : ℕ). take n l) n
+
+pub without_cr_kept : (l : List ℕ) → (0 < length l → get_or l (length l - 1) 0 ≡ 13 → ⊥) → without_cr l ≡ l
+unfolding without_cr
+without_cr_kept [] h = refl
+without_cr_kept (b ∷ l) h =
+    let s : List ℕ = b ∷ l in
+    let n : length (without_cr s) ≡ length s = omega (arith, without_cr_length s (length s - 1) false (omega arith) (ne_eqb _ _ (h (omega arith)))) in
+    without_cr_part s ∙ ap (λ (n : ℕ). take n s) n ∙ take-length s
+
 -- the next line, by cases
 module _ (s : List ℕ) (at : ℕ) where
-  pub next_done : length s ≤ at → next_line s at ≡ Done
+  pub next_done : length s ≤ at → next_line s at ≡ None
   unfolding next_line
   next_done h = rw (le-ltb _ _ h, next_line)
 
   module _ (h : at < length s) where
-    pub next_last : length s ≤ at + upto 10 (drop at s) → next_line s at ≡ Next at (at + upto 10 (drop at s)) (record { at = at + upto 10 (drop at s) })
+    pub next_last : length s ≤ at + upto 10 (drop at s) → next_line s at ≡ Some (record { start = at; end = at + upto 10 (drop at s); rest = record { at = at + upto 10 (drop at s) } })
     unfolding next_line line_of
     next_last k = rw (lt-ltb _ _ h, next_line) (rw (le-ltb _ _ k, line_of))
 
     pub next_lf :
         at + upto 10 (drop at s) < length s
-        → next_line s at ≡ Next at (at + length (without_cr (take (upto 10 (drop at s)) (drop at s)))) (record { at = at + upto 10 (drop at s) + 1 })
+        → next_line s at ≡ Some (record { start = at; end = at + length (without_cr (take (upto 10 (drop at s)) (drop at s))); rest = record { at = at + upto 10 (drop at s) + 1 } })
     unfolding next_line line_of
     next_lf k = rw (lt-ltb _ _ h, next_line) (rw (lt-ltb _ _ k, line_of))
 
@@ -123,17 +155,17 @@ pub record Found (s : List ℕ) (at start end rest : ℕ) : Type 0 where
   pub moved : at < rest
   pub within : rest ≤ length s
 
-abbrev pub Fits : List ℕ → ℕ → Line → Type 0
-Fits s at (Next start end rest) = Found s at start end rest.at
-Fits s at Done = (lines (drop at s) ≡ []) × (length s ≤ at)
+abbrev pub Fits : List ℕ → ℕ → Option Line → Type 0
+Fits s at (Some l) = Found s at l.start l.end l.rest.at
+Fits s at None = (lines (drop at s) ≡ []) × (length s ≤ at)
 
-fits_done : (s : List ℕ) (at : ℕ) → length s ≤ at → Fits s at Done
+fits_done : (s : List ℕ) (at : ℕ) → length s ≤ at → Fits s at None
 unfolding lines
 fits_done s at h = (rw (drop_of_length-le s h), h)
 
 module _ (s : List ℕ) (at n : ℕ) (r : Upto 10 (drop at s) n) (h : at < length s) where
   -- where no LF follows, the line is the rest
-  fits_last : at + n ≡ length s → Fits s at (Next at (at + n) (record { at = at + n }))
+  fits_last : at + n ≡ length s → Found s at at (at + n) (at + n)
   unfolding lines
   fits_last k =
       record {
@@ -146,7 +178,7 @@ module _ (s : List ℕ) (at n : ℕ) (r : Upto 10 (drop at s) n) (h : at < lengt
       }
 
   -- where one follows, it is the bytes before the LF without a CR
-  fits_lf : at + n < length s → Fits s at (Next at (at + length (without_cr (take n (drop at s)))) (record { at = at + n + 1 }))
+  fits_lf : at + n < length s → Found s at at (at + length (without_cr (take n (drop at s)))) (at + n + 1)
   fits_lf k =
       record {
         line = lines_lf r (omega (arith, length-drop at s)) ∙ rw (drop-drop, add-sub_cancel_left, onwards) (ap (λ (l : List ℕ). l ∷ lines (drop (at + suc n) s)) whole);
@@ -184,7 +216,7 @@ next_fits s at = go (ltb at (length s)) refl
         lf false f = let k = ltb-false _ _ f in rw (next_last s at h k) (fits_last s at _ r h (omega (arith, h, k, most r, length-drop at s)))
 
 -- the same of what a call of the cursor gave
-pub found : (s : List ℕ) (at : ℕ) {r x : Line} → r ≡ next_line s at → r ≡ x → Fits s at x
+pub found : (s : List ℕ) (at : ℕ) {r x : Option Line} → r ≡ next_line s at → r ≡ x → Fits s at x
 found s at e f = subst (Fits s at) (sym e ∙ f) (next_fits s at)
 
 -- where a line ends that runs to a place, by whether the byte before that place is a CR

@@ -1,5 +1,6 @@
 -- Laws of trimming. Assumes nothing.
-use Rattle.std.proofs.Common.{◌≡◌, ℕ, zero, suc, ◌+◌, ◌-◌, ◌<◌, ◌≤◌, true, false, List, [], ◌∷◌, ◌++◌, length, get_or, take, drop, refl, ap, ◌∙◌, add-one, arith, drop_of_length-le, drop-cons, take-suc}
+use Rattle.std.proofs.Common.{◌≡◌, ℕ, zero, suc, ◌+◌, ◌-◌, ◌<◌, ◌≤◌, true, false, List, [], ◌∷◌, ◌++◌, length, get_or, take, drop, sym, refl, ap, ◌∙◌, add-one, arith, drop_of_length-le, drop-cons, take-suc}
+use lib.Seq.{take-length}
 use Rattle.field_utils.specs.Trim.{white, trimmed_start, keep, trimmed_end}
 
 -- a last byte is taken away, or kept with all before it
@@ -30,6 +31,25 @@ end_there s zero p k w = absurd (omega arith)
 end_there s (suc n) p k w =
     let z : suc n - 1 ≡ n = omega arith in
     rw (take-suc s n 0) (end_kept (take n s) (get_or s n 0) (rw z at w))
+
+-- the same of a whole list
+module _ (l : List ℕ) (h : 0 < length l) where
+  pub last_white : white (get_or l (length l - 1) 0) ≡ true → trimmed_end l ≡ trimmed_end (take (length l - 1) l)
+  last_white w = ap trimmed_end (sym (take-length l)) ∙ end_less l (length l) h (omega arith) w
+
+  pub last_there : white (get_or l (length l - 1) 0) ≡ false → trimmed_end l ≡ l
+  last_there w = ap trimmed_end (sym (take-length l)) ∙ end_there l (length l) h (omega arith) w ∙ take-length l
+
+-- an empty one
+pub end_short : (l : List ℕ) → length l < 1 → trimmed_end l ≡ l
+unfolding trimmed_end
+end_short [] h = refl
+end_short (b ∷ l) h = absurd (omega arith)
+
+pub start_short : (l : List ℕ) → length l < 1 → trimmed_start l ≡ l
+unfolding trimmed_start
+start_short [] h = refl
+start_short (b ∷ l) h = absurd (omega arith)
 
 -- the start, from a place on
 module _ (s : List ℕ) (i : ℕ) where

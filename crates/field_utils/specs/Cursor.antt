@@ -1,29 +1,28 @@
 -- The lines by their places, as the cursor of the code finds them, a working form of `lines`; and where the names of document 01's field50.rs and
 -- field59.rs stand among them.
-use Rattle.std.specs.Prelude.{ℕ, zero, suc, ◌+◌, ◌-◌, true, false, List, [], ◌∷◌, map, length, take, drop, nat_lt}
+use Rattle.std.specs.Prelude.{ℕ, zero, suc, ◌+◌, ◌-◌, true, false, List, [], ◌∷◌, map, length, take, drop, nat_lt, Option, None, Some}
 use Rattle.errors.specs.Refusals.{Reply, accepted, refused}
 use Rattle.party.specs.declared.Part.{Part}
 use Rattle.party.specs.Text.{four}
 use Rattle.field_utils.specs.declared.lines.Line.{Line}
-use Rattle.field_utils.specs.declared.lines.Line.TheVariants.{Next, Done}
 use Rattle.field_utils.specs.Lines.{upto, without_cr}
 
 -- a line from a place on whose LF stands n bytes further; where that is the end, no LF closes it
 unfoldable pub line_of : List ℕ → ℕ → ℕ → Line
 line_of s at n =
     elim (nat_lt (at + n) (length s)) [
-      | true ↦ Next at (at + length (without_cr (take n (drop at s)))) (record { at = at + n + 1 })
-      | false ↦ Next at (at + n) (record { at = at + n })
+      | true ↦ record { start = at; end = at + length (without_cr (take n (drop at s))); rest = record { at = at + n + 1 } }
+      | false ↦ record { start = at; end = at + n; rest = record { at = at + n } }
     ]
 
--- the next line from a place on, by its places: where it starts and ends, and the place after it
-unfoldable pub next_line : List ℕ → ℕ → Line
-next_line s at = elim (nat_lt at (length s)) [ true ↦ line_of s at (upto 10 (drop at s)) | false ↦ Done ]
+-- the next line from a place on, by its places: where it starts and ends, and the place after it; or none
+unfoldable pub next_line : List ℕ → ℕ → Option Line
+next_line s at = elim (nat_lt at (length s)) [ true ↦ Some (line_of s at (upto 10 (drop at s))) | false ↦ None ]
 
 -- the places of the first n lines from a place on
 unfoldable pub places_of : ℕ → List ℕ → ℕ → List Part
 places_of zero s at = []
-places_of (suc n) s at = elim (next_line s at) [ Next start end rest ↦ record { start = start; len = end - start } ∷ places_of n s rest.at | Done ↦ [] ]
+places_of (suc n) s at = elim (next_line s at) [ Some l ↦ record { start = l.start; len = l.end - l.start } ∷ places_of n s l.rest.at | None ↦ [] ]
 
 -- the places of all of them: there are no more than bytes
 abbrev pub line_places : List ℕ → ℕ → List Part

@@ -1,12 +1,12 @@
 -- Numbered lines and identifiers (document 01, field_utils.rs). n is the body line that a refusal names.
-use Rattle.std.specs.Prelude.{ℕ, suc, Bool, true, false, ◌&&◌, List, [], ◌∷◌, length, take, drop, ◌==◌, nat_le, nat_lt}
+use Rattle.std.specs.Prelude.{ℕ, suc, Bool, true, false, ◌&&◌, List, [], ◌∷◌, length, take, drop, ◌==◌, nat_le, nat_lt, Option, None, Some, Result, Ok, Err}
+use denote.Ref.{Bor}
+use Rattle.errors.specs.declared.ParseError.{ParseError}
 use Rattle.errors.specs.Refusals.{Reply, accepted, told_error, must, ◌then◌}
 use Rattle.party.specs.declared.PartyOption.{PartyOption}
 use Rattle.party.specs.Limits.{limits_of}
 use Rattle.swift_utils.specs.Bytes.{digit, alphanumeric, all}
 use Rattle.swift_utils.specs.Checks.{parse_account}
-use Rattle.field_utils.specs.declared.PartyIdentifier.{PartyIdentifier}
-use Rattle.field_utils.specs.declared.PartyIdentifier.TheVariants.{Absent, Present, Refused}
 use Rattle.field_utils.specs.Lines.{upto}
 
 -- a numbered line has a digit, then `/`
@@ -40,7 +40,7 @@ parse_party_identifier o n [] = absent
 parse_party_identifier o n (b ∷ l) = elim (b == 47) [ true ↦ given l (identifier_reply (limits_of o).account_max n l) | false ↦ absent ]
 
 -- an answer for a line in document 01's terms
-abbrev pub told_identifier : List ℕ → PartyIdentifier → Identifier
-told_identifier l Absent = absent
-told_identifier l Present = given (drop 1 l) accepted
-told_identifier l (Refused e) = given (drop 1 l) (told_error e)
+abbrev pub told_identifier : List ℕ → Result (Option (Bor (List ℕ))) ParseError → Identifier
+told_identifier l (Ok None) = absent
+told_identifier l (Ok (Some remaining)) = given remaining.now accepted
+told_identifier l (Err e) = given (drop 1 l) (told_error e)

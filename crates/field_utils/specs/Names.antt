@@ -1,6 +1,7 @@
 -- Names (document 01, field50.rs, 'Checks in this order', and field59.rs). n is a body line, k its place among the names from 1.
-use Rattle.std.specs.Prelude.{ℕ, suc, ◌+◌, List, [], ◌∷◌, map, length, drop, ◌==◌, nat_le, slice_index}
-use Rattle.errors.specs.Refusals.{Reply, accepted, refused, told, must, ◌then◌}
+use Rattle.std.specs.Prelude.{ℕ, suc, ◌+◌, List, [], ◌∷◌, map, length, drop, ◌==◌, nat_le, slice_index, Result, Ok, Err}
+use Rattle.errors.specs.declared.ParseError.{ParseError}
+use Rattle.errors.specs.Refusals.{Reply, accepted, refused, told_error, must, ◌then◌}
 use Rattle.party.specs.declared.PartyOption.{PartyOption}
 use Rattle.party.specs.declared.Text.{Text}
 use Rattle.party.specs.Limits.{limits_of}
@@ -76,5 +77,6 @@ unfoldable pub read_names : PartyOption → ℕ → List (List ℕ) → NamesRea
 read_names o n ls = names_or (parse_name_and_address o n ls) (map (kept (limits_of o).numbering) ls) (map (digit_of (limits_of o).numbering) ls)
 
 -- the names that the code gives as parts of a body, in document 01's terms
-abbrev pub told_names : List ℕ → Names → NamesRead
-told_names body w = record { reply = told w.outcome; count = w.count; texts = texts_in body w.parts; digits = w.digits }
+abbrev pub told_names : List ℕ → Result Names ParseError → NamesRead
+told_names body (Ok w) = record { reply = accepted; count = w.count; texts = texts_in body w.parts; digits = w.digits }
+told_names body (Err e) = names_or (told_error e) [] []

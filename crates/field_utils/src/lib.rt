@@ -1,86 +1,60 @@
 // Lines, identifiers and names, ported from field_utils.rs of swift-mt-message.
 #![tactic(auto)]
 
-use errors::{Outcome, ParseError};
-use lines::{Line, Lines, find, suffix};
-use party::{NO_PART, Numbering, Part, PartyOption, limits_of};
-use swift_utils::{DIGIT, LEGAL, all_alphanumeric, all_in, class_table, is_digit, parse_account};
+use errors::ParseError;
+use lines::{Line, Lines, suffix};
+use party::{Limits, NO_PART, Numbering, Part, PartyOption, limits_of};
+use swift_utils::{
+    LEGAL, all_alphanumeric, all_in, class_table, is_digit, is_legal, parse_account,
+};
 
 pub mod lines;
 mod words;
 
-ghost use Rattle.std.specs.Prelude.{◌≡◌, ℕ, suc, ◌+◌, ◌^◌, ◌<◌, true, List, length, drop, ◌==◌, slice_index};
-ghost use Rattle.errors.specs.declared.Outcome.TheVariants.{Refused};
-ghost use Rattle.errors.specs.Refusals.{told, must};
+ghost use Rattle.std.specs.Prelude.{◌≡◌, ℕ, suc, ◌+◌, ◌^◌, ◌<◌, true, List, length, drop, ◌==◌, slice_index, IfOk, MatchOption, ◌≤◌};
+ghost use Rattle.errors.specs.Refusals.{accepted, told, must};
 ghost use Rattle.party.specs.Limits.{limits_of};
 ghost use Rattle.party.specs.Text.{texts_in};
 ghost use Rattle.swift_utils.specs.Bytes.{among, all, legal};
-ghost use Rattle.swift_utils.specs.Classes.{class_table};
 ghost use Rattle.field_utils.specs.Lines.{starts, upto, lines as lines_of};
 ghost use Rattle.field_utils.specs.Identifier.{is_numbered, told_identifier, parse_party_identifier, identifier_reply};
 ghost use Rattle.field_utils.specs.Names.{skip_of, dropped_prefix, digit_of, parse_number, parse_count, read_names, told_names};
 ghost use Rattle.field_utils.specs.Cursor.{line_places, name_places};
-ghost use Rattle.field_utils.specs.Code.{parse_shape, parse_rest, given_names, parts_or, no_names, Tested};
+ghost use Rattle.field_utils.specs.Code.{parse_shape};
 
 // Whether a line starts with a slash.
+#[tactic(auto, using(crate::proofs::Identifiers::starts_none, crate::proofs::Identifiers::starts_first))]
 pub fn starts_with_slash(line: &[u8]) -> bool
     ensures { result ≡ starts 47 line.now }
 {
-    if line.len() == 0 {
-        return false;
-    }
-    line[0] == b'/'
+    matches!(line, [b'/', ..])
 }
 
-// Whether a line has a digit, then a slash. The slash is tested first: a digit's test by itself writes the table out.
+// Whether a line has a digit, then a slash.
+#[tactic(auto, using(crate::proofs::Identifiers::numbered_short, crate::proofs::Identifiers::numbered_other, crate::proofs::Identifiers::numbered_slash))]
 pub fn is_numbered_line(line: &[u8]) -> bool
     ensures { result ≡ is_numbered line.now }
 {
-    if line.len() < 2 {
-        return false;
+    match line {
+        [digit, b'/', ..] => is_digit(*digit),
+        _ => false,
     }
-    if line[1] != b'/' {
-        return false;
-    }
-    is_digit(line[0])
 }
 
-// The same by a table that is at hand.
-fn is_numbered_in(line: &[u8], classes: &[u8; 256]) -> bool
-    requires { classes.now ≡ class_table }
-    ensures { result ≡ is_numbered line.now }
-{
-    if line.len() < 2 {
-        return false;
-    }
-    if line[1] != b'/' {
-        return false;
-    }
-    let b = line[0] as usize;
-    classes[b] & DIGIT == DIGIT
-}
-
-// The answer: no identifier, the line without its first slash, or the refusal.
-#[derive(Clone, Copy)]
-pub enum PartyIdentifier {
-    Absent,
-    Present,
-    Refused(ParseError),
-}
-
-// What a line says of an identifier; the longest is the option's.
-pub fn parse_party_identifier(input: &[u8], line: usize, option: PartyOption) -> PartyIdentifier
+// What a line says of an identifier: none, the line without its first slash, or the refusal; the longest is the option's.
+pub fn parse_party_identifier(
+    input: &[u8],
+    line: usize,
+    option: PartyOption,
+) -> Result<Option<&[u8]>, ParseError>
     ensures { told_identifier input.now result ≡ parse_party_identifier option line input.now }
 {
     if !starts_with_slash(input) {
-        return PartyIdentifier::Absent;
+        return Ok(None);
     }
-    let limits = limits_of(option);
-    let outcome = parse_remaining(&input[1..], limits.account_max, line);
-    match outcome {
-        Outcome::Accepted => PartyIdentifier::Present,
-        Outcome::Refused(e) => PartyIdentifier::Refused(e),
-    }
+    let remaining = &input[1..];
+    parse_remaining(remaining, limits_of(option).account_max, line)?;
+    Ok(Some(remaining))
 }
 
 // Whether a slash is among the bytes. No byte ends the loop, so that the compiler can take many at a time.
@@ -88,43 +62,35 @@ fn has_slash(s: &[u8]) -> bool
     ensures { result ≡ among s.now 47 }
 {
     let mut seen = false;
-    let mut i = 0;
-    while i < s.len() {
-        seen = seen | (s[i] == b'/');
-        i += 1;
+    for b in s {
+        seen |= *b == b'/';
     }
     seen
 }
 
-// Where the first slash stands, or the length where there is none.
-fn find_slash(s: &[u8]) -> usize
-    ensures { result ≡ upto 47 s.now }
+// Where the first slash stands, if there is one.
+fn find_slash(s: &[u8]) -> Option<usize>
+    ensures { MatchOption result (length s.now ≤ upto 47 s.now) (λ k. (k ≡ upto 47 s.now) × (k < length s.now)) }
 {
-    if !has_slash(s) {
-        return s.len();
+    if has_slash(s) {
+        s.iter().position(|b| *b == b'/')
+    } else {
+        None
     }
-    find(s, 0, b'/')
 }
 
 // What follows the first slash: a second one at once, a code before it, or none.
-pub fn parse_remaining(remaining: &[u8], longest: usize, line: usize) -> Outcome
+pub fn parse_remaining(remaining: &[u8], longest: usize, line: usize) -> Result<(), ParseError>
     ensures { told result ≡ identifier_reply longest line remaining.now }
 {
-    let slash = find_slash(remaining);
-    if remaining.len() <= slash {
-        return parse_account(remaining, 0, longest, line);
+    match find_slash(remaining) {
+        None => parse_account(remaining, 0, longest, line),
+        Some(0) => parse_account(&remaining[1..], 1, longest, line),
+        Some(slash) if slash <= 2 && all_alphanumeric(&remaining[..slash]) => {
+            parse_account(&remaining[slash + 1..], 0, longest, line)
+        }
+        Some(_) => Err(ParseError::PartyIdentifier(line)),
     }
-    if slash == 0 {
-        return parse_account(&remaining[1..], 1, longest, line);
-    }
-    if 2 < slash {
-        return Outcome::Refused(ParseError::PartyIdentifier(line));
-    }
-    if !all_alphanumeric(&remaining[..slash]) {
-        return Outcome::Refused(ParseError::PartyIdentifier(line));
-    }
-    let id = slash + 1;
-    parse_account(&remaining[id..], 0, longest, line)
 }
 
 // How many bytes stand before a line's text.
@@ -133,8 +99,7 @@ pub fn skip_of(numbering: Numbering) -> usize
 {
     match numbering {
         Numbering::Unnumbered => 0,
-        Numbering::Numbered => 2,
-        Numbering::InTurn => 2,
+        Numbering::Numbered | Numbering::InTurn => 2,
     }
 }
 
@@ -144,82 +109,66 @@ fn parse_number(
     line: usize,
     turn: usize,
     numbering: Numbering,
-    classes: &[u8; 256],
-) -> Outcome
-    requires { (turn < 2 ^ 63) × (classes.now ≡ class_table) }
+) -> Result<(), ParseError>
+    requires { turn < 2 ^ 63 }
     ensures { told result ≡ parse_number numbering line turn input.now }
 {
     match numbering {
-        Numbering::Unnumbered => Outcome::Accepted,
-        Numbering::Numbered => parse_digit(input, line, classes),
+        Numbering::Unnumbered => Ok(()),
+        Numbering::Numbered => parse_digit(input, line),
         Numbering::InTurn => {
-            let outcome = parse_digit(input, line, classes);
-            if let Outcome::Refused(e) = outcome {
-                return Outcome::Refused(e);
-            }
+            parse_digit(input, line)?;
             parse_turn(input, line, turn)
         }
     }
 }
 
 // A digit, then a slash, or 5.
-fn parse_digit(input: &[u8], line: usize, classes: &[u8; 256]) -> Outcome
-    requires { classes.now ≡ class_table }
+fn parse_digit(input: &[u8], line: usize) -> Result<(), ParseError>
     ensures { told result ≡ must (is_numbered input.now) 5 line }
 {
-    if is_numbered_in(input, classes) {
-        Outcome::Accepted
+    if is_numbered_line(input) {
+        Ok(())
     } else {
-        Outcome::Refused(ParseError::NotNumbered(line))
+        Err(ParseError::NotNumbered(line))
     }
 }
 
 // The digit of the turn, or 6.
-fn parse_turn(input: &[u8], line: usize, turn: usize) -> Outcome
+fn parse_turn(input: &[u8], line: usize, turn: usize) -> Result<(), ParseError>
     requires { (turn < 2 ^ 63) × (0 < length input.now) }
     ensures { told result ≡ must (slice_index input.now 0 == 48 + turn) 6 line }
 {
     if input[0] as usize == 48 + turn {
-        Outcome::Accepted
+        Ok(())
     } else {
-        Outcome::Refused(ParseError::OutOfTurn(line))
+        Err(ParseError::OutOfTurn(line))
     }
 }
 
 // The count of the names: 7.
-pub fn parse_count(count: usize, most: usize) -> Outcome
+pub fn parse_count(count: usize, most: usize) -> Result<(), ParseError>
     ensures { told result ≡ parse_count most count }
 {
-    if count < 1 {
-        return Outcome::Refused(ParseError::NameCount);
+    if (1..=most).contains(&count) {
+        Ok(())
+    } else {
+        Err(ParseError::NameCount)
     }
-    if most < count {
-        return Outcome::Refused(ParseError::NameCount);
-    }
-    Outcome::Accepted
 }
 
 // A line of names before its bytes: its number, then the length of its text (4).
-fn parse_line(
-    input: &[u8],
-    line: usize,
-    turn: usize,
-    numbering: Numbering,
-    longest: usize,
-    classes: &[u8; 256],
-) -> Outcome
-    requires { (turn < 2 ^ 63) × (classes.now ≡ class_table) }
-    ensures { told result ≡ parse_shape numbering longest line turn input.now }
+#[tactic(auto, using(crate::proofs::NameLines::number_room))]
+fn parse_line(input: &[u8], line: usize, turn: usize, limits: &Limits) -> Result<(), ParseError>
+    requires { turn < 2 ^ 63 }
+    ensures { told result ≡ parse_shape limits.now.numbering limits.now.name_max line turn input.now }
 {
-    let outcome = parse_number(input, line, turn, numbering, classes);
-    if let Outcome::Refused(e) = outcome {
-        return Outcome::Refused(e);
+    let numbering = limits.numbering;
+    parse_number(input, line, turn, numbering)?;
+    if limits.name_max < input.len() - skip_of(numbering) {
+        return Err(ParseError::TooLong(line));
     }
-    let skip = skip_of(numbering);
-    if longest < input.len() - skip {
-        return Outcome::Refused(ParseError::TooLong(line));
-    }
-    Outcome::Accepted
+    Ok(())
 }
 
 // How many bytes of a line of names are not kept in its text.
@@ -227,9 +176,8 @@ pub fn dropped_prefix(numbering: Numbering) -> usize
     ensures { result ≡ dropped_prefix numbering }
 {
     match numbering {
-        Numbering::Unnumbered => 0,
         Numbering::Numbered => 2,
-        Numbering::InTurn => 0,
+        Numbering::Unnumbered | Numbering::InTurn => 0,
     }
 }
 
@@ -237,108 +185,75 @@ pub fn dropped_prefix(numbering: Numbering) -> usize
 fn digit_of(input: &[u8], numbering: Numbering) -> u8
     ensures { result ≡ digit_of numbering input.now }
 {
-    if input.len() == 0 {
-        return 0;
-    }
     match numbering {
-        Numbering::Unnumbered => 0,
-        Numbering::Numbered => input[0],
-        Numbering::InTurn => 0,
+        Numbering::Numbered => input.first().copied().unwrap_or(0),
+        Numbering::Unnumbered | Numbering::InTurn => 0,
     }
 }
 
-// What the names give: accepted with how many there are, the parts of the body that the first four are, and their digits, or refused with none.
-#[derive(Clone, Copy)]
+// The names of an accepted body: how many there are, the parts of the body that the first four are, and their digits.
+#[derive(Clone, Copy, Debug, PartialEq, Eq)]
 pub struct Names {
-    pub outcome: Outcome,
     pub count: usize,
     pub parts: [Part; 4],
     pub digits: [u8; 4],
 }
 
-// A refusal, with no names beside it.
-fn refuse_names(e: ParseError) -> Names
-    ensures { result ≡ no_names (Refused e) }
-{
-    Names {
-        outcome: Outcome::Refused(e),
-        count: 0,
-        parts: [NO_PART; 4],
-        digits: [0u8; 4],
-    }
-}
-
-// The names, after the lines: the one of an illegal byte, or 0 (3), then the count (7).
-fn counted(illegal: usize, count: usize, most: usize, parts: [Part; 4], digits: [u8; 4]) -> Names
-    ensures by_index { (body : List ℕ) → told_names body result ≡ given_names (parse_rest illegal most count) count (texts_in body parts) digits }
-    ensures parts_value { result.parts ≡ parts_or (parse_rest illegal most count) parts }
-{
-    if illegal != 0 {
-        return refuse_names(ParseError::IllegalByte(illegal));
-    }
-    let outcome = parse_count(count, most);
-    if let Outcome::Refused(e) = outcome {
-        return refuse_names(e);
-    }
-    Names {
-        outcome: Outcome::Accepted,
-        count,
-        parts,
-        digits,
-    }
-}
-
-// How many of a line's bytes need no test one by one: all where they are known to be legal, else none.
-fn pass_bytes(input: &[u8], known: bool) -> usize
+// The bytes of a line that are tested one by one: none where they are known to be legal, else all.
+fn untested(input: &[u8], known: bool) -> &[u8]
     requires { known ≡ true → all legal input.now ≡ true }
-    ensures { Tested input.now result }
+    ensures { all legal input.now ≡ all legal result.now }
 {
-    if known { input.len() } else { 0 }
+    if known { &input[..0] } else { input }
 }
 
 // The lines of names from a place on, which start_idx lines precede: each tested in order, its number, its length, then its bytes; and
 // counted last. One test of all bytes comes first, and no byte is tested singly where it passes. The Rust writes this loop out in 50, 50F, 50K, 50H and 59F.
-pub fn parse_name_and_address(body: &[u8], from: Lines, start_idx: u8, option: PartyOption) -> Names
+pub fn parse_name_and_address(
+    body: &[u8],
+    from: Lines,
+    start_idx: u8,
+    option: PartyOption,
+) -> Result<Names, ParseError>
     ensures result_value { told_names body.now result ≡ read_names option (suc start_idx) (lines_of (drop from.at body.now)) }
-    ensures places { result.parts ≡ name_places (told result.outcome) (dropped_prefix (limits_of option).numbering) (line_places body.now from.at) }
+    ensures places { IfOk result (λ n. n.parts ≡ name_places accepted (dropped_prefix (limits_of option).numbering) (line_places body.now from.at)) }
 {
     let limits = limits_of(option);
-    let numbering = limits.numbering;
-    let kept = dropped_prefix(numbering);
-    let classes = class_table();
-    let known = all_in(suffix(body, from.at), &classes, LEGAL);
+    let kept = dropped_prefix(limits.numbering);
+    let known = all_in(suffix(body, from.at), class_table(), LEGAL);
     let mut parts = [NO_PART; 4];
     let mut digits = [0u8; 4];
     let mut cursor = from;
     let mut count = 0;
     let illegal = 'lines: loop {
-        let found = cursor.next(body);
-        let Line::Next { start, end, rest } = found else {
-            break 'lines 0;
+        let Some(Line { start, end, rest }) = cursor.next(body) else {
+            break 'lines None;
         };
         let turn = count + 1;
         let line = start_idx as usize + turn;
         let input = &body[start..end];
-        let outcome = parse_line(input, line, turn, numbering, limits.name_max, &classes);
-        if let Outcome::Refused(e) = outcome {
-            return refuse_names(e);
-        }
-        let mut i = pass_bytes(input, known);
-        while i < input.len() {
-            let b = input[i] as usize;
-            if classes[b] & LEGAL != LEGAL {
-                break 'lines line;
+        parse_line(input, line, turn, limits)?;
+        for b in untested(input, known) {
+            if !is_legal(*b) {
+                break 'lines Some(line);
             }
-            i += 1;
         }
         if count < 4 {
             let start = start + kept;
             let len = end - start;
             parts[count] = Part { start, len };
-            digits[count] = digit_of(input, numbering);
+            digits[count] = digit_of(input, limits.numbering);
         }
         count = turn;
         cursor = rest;
     };
-    counted(illegal, count, limits.max_names, parts, digits)
+    if let Some(line) = illegal {
+        return Err(ParseError::IllegalByte(line));
+    }
+    parse_count(count, limits.max_names)?;
+    Ok(Names {
+        count,
+        parts,
+        digits,
+    })
 }

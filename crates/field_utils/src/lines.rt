@@ -6,7 +6,7 @@ ghost use Rattle.field_utils.specs.Cursor.{next_line};
 ghost use Rattle.field_utils.specs.Words.{Passed};
 ghost use Rattle.field_utils.specs.Trim.{white, trimmed, trimmed_end};
 
-use crate::words::{BLOCK, is_clear, is_low, lf_mask, word_at};
+use crate::words::{BLOCK, is_clear, lf_mask, word};
 
 // Up to so many bytes are searched by single words, before blocks of them are passed.
 const NEAR: usize = 128;
@@ -15,37 +15,29 @@ const NEAR: usize = 128;
 pub fn suffix(s: &[u8], skip: usize) -> &[u8]
     ensures { result.now ≡ drop skip s.now }
 {
-    if skip <= s.len() { &s[skip..] } else { &s[..0] }
+    &s[skip.min(s.len())..]
 }
 
 // Where a byte first stands from a place on, or the length where it does not; a place past the length is given back.
 pub fn find(s: &[u8], from: usize, b: u8) -> usize
     ensures { result ≡ from + upto b (drop from s.now) }
 {
-    let mut i = from;
-    while i < s.len() {
-        if s[i] == b {
-            return i;
-        }
-        i += 1;
-    }
-    i
+    let rest = suffix(s, from);
+    from + rest.iter().position(|x| *x == b).unwrap_or(rest.len())
 }
 
 // How many bytes stand before the first LF, or how many there are, by words of eight bytes; up to seven at the end go singly.
 fn find_by_word(s: &[u8]) -> usize
     ensures { result ≡ upto 10 s.now }
 {
-    let words = s.len() - s.len() % 8;
-    let mut i = 0;
-    while i < words {
-        let mask = lf_mask(word_at(s, i));
+    let (words, _) = s.as_chunks::<8>();
+    for (i, bytes) in words.iter().enumerate() {
+        let mask = lf_mask(word(bytes));
         if mask != 0 {
-            return i + u64::trailing_zeros(mask) as usize / 8;
+            return i * 8 + mask.trailing_zeros() as usize / 8;
         }
-        i += 8;
     }
-    find(s, i, b'\n')
+    find(s, words.len() * 8, b'\n')
 }
 
 // The same as a place, from another on.
@@ -61,14 +53,13 @@ fn pass_blocks(s: &[u8], from: usize) -> usize
     requires { from ≤ length s.now }
     ensures { Passed s.now from result }
 {
-    let mut i = from;
-    while BLOCK <= s.len() - i {
-        if !is_clear(s, i) {
-            return i;
+    let (blocks, _) = s[from..].as_chunks::<BLOCK>();
+    for (i, block) in blocks.iter().enumerate() {
+        if !is_clear(block) {
+            return from + i * BLOCK;
         }
-        i += BLOCK;
     }
-    i
+    from + blocks.len() * BLOCK
 }
 
 // Where the next LF stands from a place on, or the length where there is none; a place past the length is given back.
@@ -90,44 +81,37 @@ pub fn find_lf(s: &[u8], from: usize) -> usize
 }
 
 // A cursor over the lines of a text: the place where the next one starts.
-#[derive(Clone, Copy)]
+#[derive(Clone, Copy, Debug, PartialEq, Eq)]
 pub struct Lines {
     pub at: usize,
 }
 
-// What a cursor finds: a line from start to end, with the cursor after it, or no more lines.
-#[derive(Clone, Copy)]
-pub enum Line {
-    Next {
-        start: usize,
-        end: usize,
-        rest: Lines,
-    },
-    Done,
+// A line from start to end, with the cursor after it.
+#[derive(Clone, Copy, Debug, PartialEq, Eq)]
+pub struct Line {
+    pub start: usize,
+    pub end: usize,
+    pub rest: Lines,
 }
 
 impl Lines {
-    // The next line.
-    pub fn next(self, s: &[u8]) -> Line
+    // The next line, if there is one.
+    #[tactic(auto, using(crate::proofs::Places::next_done, crate::proofs::Places::next_last, crate::proofs::Places::next_lf))]
+    pub fn next(self, s: &[u8]) -> Option<Line>
         ensures { result ≡ next_line s.now self.at }
     {
-        let at = self.at;
-        if s.len() <= at {
-            return Line::Done;
+        let start = self.at;
+        if s.len() <= start {
+            return None;
         }
-        let lf = find_lf(s, at);
-        if s.len() <= lf {
-            return Line::Next {
-                start: at,
-                end: lf,
-                rest: Lines { at: lf },
-            };
-        }
-        Line::Next {
-            start: at,
-            end: line_end(s, at, lf),
-            rest: Lines { at: lf + 1 },
-        }
+        let lf = find_lf(s, start);
+        let (end, at) = if lf < s.len() {
+            (line_end(s, start, lf), lf + 1)
+        } else {
+            (lf, lf)
+        };
+        let rest = Lines { at };
+        Some(Line { start, end, rest })
     }
 }
 
@@ -136,21 +120,22 @@ fn line_end(s: &[u8], start: usize, to: usize) -> usize
     requires { (start ≤ to) × (to ≤ length s.now) }
     ensures { result ≡ start + length (without_cr (take (to - start) (drop start s.now))) }
 {
-    if to <= start {
-        return to;
+    if start < to && s[to - 1] == b'\r' {
+        to - 1
+    } else {
+        to
     }
-    if s[to - 1] == b'\r' {
-        return to - 1;
-    }
-    to
 }
 
 // A line without one CR at its end, as a part of it.
+#[tactic(auto, using(crate::proofs::Places::without_cr_dropped, crate::proofs::Places::without_cr_kept))]
 pub fn without_cr(line: &[u8]) -> &[u8]
     ensures { result.now ≡ without_cr line.now }
 {
-    let end = line_end(line, 0, line.len());
-    &line[..end]
+    match line {
+        [rest @ .., b'\r'] => rest,
+        _ => line,
+    }
 }
 
 // How many lines there are.
@@ -159,87 +144,54 @@ pub fn count_lines(s: &[u8]) -> usize
 {
     let mut cursor = Lines { at: 0 };
     let mut count = 0;
-    loop {
-        let found = cursor.next(s);
-        let Line::Next {
-            start: _,
-            end: _,
-            rest,
-        } = found
-        else {
-            return count;
-        };
-        cursor = rest;
+    while let Some(line) = cursor.next(s) {
+        cursor = line.rest;
         count += 1;
     }
+    count
 }
 
 // A byte that trimming takes away: 9 to 13 and 32.
+#[tactic(auto, unfolding(crate::specs::Trim::white))]
 fn is_white(b: u8) -> bool
     ensures { result ≡ white b }
 {
-    if b == b' ' {
-        return true;
-    }
-    9 <= b && b <= 13
+    matches!(b, b'\t'..=b'\r' | b' ')
 }
 
 // The part without such bytes at its end.
+#[tactic(auto, using(crate::proofs::Trims::last_white, crate::proofs::Trims::last_there, crate::proofs::Trims::end_short))]
 fn trim_end(s: &[u8]) -> &[u8]
     ensures { result.now ≡ trimmed_end s.now }
 {
-    let mut end = s.len();
-    while 0 < end {
-        if !is_white(s[end - 1]) {
-            return &s[..end];
+    let mut part = s;
+    while let [rest @ .., last] = part {
+        if !is_white(*last) {
+            break;
         }
-        end -= 1;
+        part = rest;
     }
-    &s[..0]
+    part
 }
 
 // The part without such bytes at both ends.
 pub fn trim(s: &[u8]) -> &[u8]
     ensures { result.now ≡ trimmed s.now }
 {
-    let mut start = 0;
-    while start < s.len() {
-        if !is_white(s[start]) {
-            return trim_end(&s[start..]);
+    let mut part = s;
+    while let [first, rest @ ..] = part {
+        if !is_white(*first) {
+            break;
         }
-        start += 1;
+        part = rest;
     }
-    &s[..0]
+    trim_end(part)
 }
 
-// Whether no byte of a few is above 127.
-fn are_low(s: &[u8]) -> bool
-    ensures { result ≡ all (λ (b : ℕ). nat_le b 127) s.now }
-{
-    let mut i = 0;
-    while i < s.len() {
-        if 127 < s[i] {
-            return false;
-        }
-        i += 1;
-    }
-    true
-}
-
-// Whether no byte is above 127, by words of eight bytes, the last over what was seen before; fewer than eight go singly.
+// Whether no byte is above 127, by words of eight bytes.
+#[tactic(auto, using(crate::proofs::AllBytes::ascii_low))]
 pub fn is_ascii(s: &[u8]) -> bool
     ensures { result ≡ all (λ (b : ℕ). nat_le b 127) s.now }
 {
-    if s.len() < 8 {
-        return are_low(s);
-    }
-    let tail = s.len() - 8;
-    let mut i = 0;
-    while i < tail {
-        if !is_low(word_at(s, i)) {
-            return false;
-        }
-        i += 8;
-    }
-    is_low(word_at(s, tail))
+    s.is_ascii()
 }

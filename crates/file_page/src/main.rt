@@ -3,10 +3,9 @@
 // there are.
 #![tactic(auto)]
 
-mod input;
 mod tally;
 
-ghost use Rattle.std.specs.Prelude.{◌≡◌, ◌≤◌, ◌<◌, length};
+ghost use Rattle.std.specs.Prelude.{◌≡◌, ◌≤◌, ◌<◌, length, IfOk};
 ghost use Rattle.page_reader.specs.Pages.{page_most};
 ghost use Rattle.page_writer.specs.IndexState.{no_index};
 ghost use Rattle.page_writer.specs.Demand3.{closing};
@@ -14,8 +13,9 @@ ghost use Rattle.yewdome.specs.Filing.{records_of};
 
 use input::read_full;
 use page_reader::PAGE_MOST;
+use std::fmt::{self, Display, Formatter};
 use std::io::Read;
-use tally::{say, say_answers};
+use tally::say_answers;
 use yewdome::yewdome_page_file;
 
 // Files the page on a new one, and writes that: it is what `whole_page` speaks of, for the records that the page's reads give. Closing is not
@@ -29,11 +29,37 @@ fn file_page(rt: &(impl Print + Eprint), page: &[u8], buf: &mut [u8], answers: &
     let end = (filed % 4294967296) as usize;
     say_answers(rt, &answers[..count]);
     if rt.write_all(&buf[..end]).is_err() {
-        say(rt, "error: the page was not written whole\n");
+        let _ = eprintln!(rt; "error: the page was not written whole");
     }
 }
 
-// The room for the input is longer than a page, so that a longer input is seen.
+// Why standard input has no page.
+#[derive(Clone, Copy)]
+enum NoPage {
+    Empty,
+    TooLong,
+}
+
+impl Display for NoPage {
+    fn fmt<W: fmt::Write>(&self, f: &mut Formatter<W>) -> fmt::Result {
+        f.write_str(match self {
+            NoPage::Empty => "it is empty",
+            NoPage::TooLong => "it is over 32,768 bytes",
+        })
+    }
+}
+
+// Reads the page. The room for it is longer than a page, so that a longer input is seen.
+fn read_page<'a>(input: &mut impl Read, room: &'a mut [u8]) -> Result<&'a [u8], NoPage>
+    ensures { IfOk result (λ page. length page.now ≤ page_most) }
+{
+    match read_full(input, room) {
+        0 => Err(NoPage::Empty),
+        len if PAGE_MOST < len => Err(NoPage::TooLong),
+        len => Ok(&room[..len]),
+    }
+}
+
 fn run(
     rt: &(impl Print + Eprint),
     input: &mut impl Read,
@@ -43,19 +69,12 @@ fn run(
 )
     requires { (2 ≤ length buf.old) × (page_most < length answers.old) }
 {
-    let len = read_full(input, room);
-    if len == 0 {
-        say(rt, "error: no page on standard input: it is empty\n");
-        return;
+    match read_page(input, room) {
+        Ok(page) => file_page(rt, page, buf, answers),
+        Err(e) => {
+            let _ = eprintln!(rt; "error: no page on standard input: {e}");
+        }
     }
-    if PAGE_MOST < len {
-        say(
-            rt,
-            "error: no page on standard input: it is over 32,768 bytes\n",
-        );
-        return;
-    }
-    file_page(rt, &room[..len], buf, answers);
 }
 
 // Numbers for the answers of any page: one more than it has bytes.

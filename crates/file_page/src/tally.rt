@@ -1,82 +1,97 @@
 // What is said on standard error.
+use std::fmt::{self, Display, Formatter};
 
-// Says which of the answers of a page are refusals and which fields were filed as other bytes than came, and how many of each there are. An
-// answer from 4,294,967,296 on is a refusal; of the others the end has 65,536, and a filed record its causes × 131,072.
-pub(crate) fn say_answers(rt: &impl Eprint, answers: &[u64]) {
-    let mut filed = 0;
-    let mut changed = 0;
-    let mut refused = 0;
-    let mut i = 0;
-    while i < answers.len() {
-        let answer = answers[i];
-        i += 1;
+// The causes by which a field is filed as other bytes than came, a bit each.
+#[derive(Clone, Copy, PartialEq)]
+struct Causes(u64);
+
+// They are named in this order. A page trims no blanks, bit 8.
+const NAMES: [(u64, &str); 4] = [
+    (1, "CR before an LF inside the body"),
+    (2, "empty last line"),
+    (4, "lines after the BIC"),
+    (16, "CR before the LF that closes the field"),
+];
+
+impl Display for Causes {
+    fn fmt<W: fmt::Write>(&self, f: &mut Formatter<W>) -> fmt::Result {
+        let mut mark = ": ";
+        for (bit, name) in NAMES {
+            if self.0 & bit != 0 {
+                write!(f, "{mark}{name}")?;
+                mark = ", ";
+            }
+        }
+        Ok(())
+    }
+}
+
+// What the page's filing says of a field, or of the end.
+#[derive(Clone, Copy)]
+enum Answer {
+    Filed(Causes),
+    End,
+    Refused { number: u64, line: u64 },
+}
+
+// A refusal is from 4,294,967,296 on; of the others the end has 65,536, and a filed record its causes × 131,072.
+impl From<u64> for Answer {
+    fn from(answer: u64) -> Answer {
         if 4294967296 <= answer {
-            refused += 1;
-            say_refusal(rt, i, answer / 4294967296);
-        } else if answer / 65536 != 1 {
-            filed += 1;
-            if say_causes(rt, i, answer / 131072) {
-                changed += 1;
+            Answer::Refused {
+                number: answer / 281474976710656,
+                line: answer / 4294967296 % 65536,
+            }
+        } else if answer / 65536 == 1 {
+            Answer::End
+        } else {
+            Answer::Filed(Causes(answer / 131072))
+        }
+    }
+}
+
+// How many fields were filed, of them as other bytes than came, and refused.
+#[derive(Clone, Copy)]
+struct Tally {
+    filed: usize,
+    changed: usize,
+    refused: usize,
+}
+
+impl Display for Tally {
+    fn fmt<W: fmt::Write>(&self, f: &mut Formatter<W>) -> fmt::Result {
+        write!(f, "{} filed, ", self.filed)?;
+        if 0 < self.changed {
+            write!(f, "{} of them as other bytes than came, ", self.changed)?;
+        }
+        write!(f, "{} refused", self.refused)
+    }
+}
+
+// Says which of the answers of a page, counted from 1, are refusals and which fields were filed as other bytes than came, and how many of each
+// there are. What can't be said is left unsaid.
+pub(crate) fn say_answers(rt: &impl Eprint, answers: &[u64]) {
+    let mut tally = Tally {
+        filed: 0,
+        changed: 0,
+        refused: 0,
+    };
+    for (i, &answer) in answers.iter().enumerate() {
+        let place = i + 1;
+        match Answer::from(answer) {
+            Answer::Filed(causes) => {
+                tally.filed += 1;
+                if causes != Causes(0) {
+                    tally.changed += 1;
+                    let _ = eprintln!(rt; "answer {place}: filed as other bytes than came{causes}");
+                }
+            }
+            Answer::End => {}
+            Answer::Refused { number, line } => {
+                tally.refused += 1;
+                let _ = eprintln!(rt; "answer {place}: refused with {number}, line {line}");
             }
         }
     }
-    say_counts(rt, filed, changed, refused);
-}
-
-// How many were filed, of them as other bytes than came, and refused.
-fn say_counts(rt: &impl Eprint, filed: usize, changed: usize, refused: usize) {
-    say_number(rt, "", filed);
-    say(rt, " filed, ");
-    if 0 < changed {
-        say_number(rt, "", changed);
-        say(rt, " of them as other bytes than came, ");
-    }
-    say_number(rt, "", refused);
-    say(rt, " refused\n");
-}
-
-// By which causes the field of an answer was filed as other bytes than came, where there are any; gives whether there are. A page trims
-// no blanks, bit 8.
-fn say_causes(rt: &impl Eprint, answer: usize, causes: u64) -> bool {
-    if causes == 0 {
-        return false;
-    }
-    say_number(rt, "answer ", answer);
-    say(rt, ": filed as other bytes than came");
-    say_cause(rt, causes, 1, "CR before an LF inside the body");
-    say_cause(rt, causes, 2, "empty last line");
-    say_cause(rt, causes, 4, "lines after the BIC");
-    say_cause(rt, causes, 16, "CR before the LF that closes the field");
-    say(rt, "\n");
-    true
-}
-
-// One of them, if its bit is set: after a colon where no lower one is, else after a comma.
-fn say_cause(rt: &impl Eprint, causes: u64, bit: u64, text: &str) {
-    if 0 < bit && causes / bit % 2 == 1 {
-        if causes % bit == 0 {
-            say(rt, ": ");
-        } else {
-            say(rt, ", ");
-        }
-        say(rt, text);
-    }
-}
-
-// Which answer, counted from 1; its number and its line.
-fn say_refusal(rt: &impl Eprint, answer: usize, refusal: u64) {
-    say_number(rt, "answer ", answer);
-    say_number(rt, ": refused with ", (refusal / 65536) as usize);
-    say_number(rt, ", line ", (refusal % 65536) as usize);
-    say(rt, "\n");
-}
-
-pub(crate) fn say(rt: &impl Eprint, text: &str) {
-    let _ = rt.eprint(text);
-}
-
-// A number, after a text.
-fn say_number(rt: &impl Eprint, before: &str, n: usize) {
-    say(rt, before);
-    let _ = rt.eprint(n);
+    let _ = eprintln!(rt; "{tally}");
 }

@@ -1,45 +1,57 @@
 -- The causes in a text, as the code meets them. Assumes nothing.
-use mathlib.Core.Path.{◌≡◌, refl, sym, ◌∙◌, ap}
-use mathlib.Core.Bool.{Bool, false, ◌&&◌, ◌||◌, and-false}
+use mathlib.Core.Path.{◌≡◌, refl, sym, ◌∙◌, ap, subst}
+use mathlib.Core.Bool.{Bool, false, ◌&&◌, and-false}
 use mathlib.Core.List.{List, [], ◌∷◌}
-use Prim.Native.Nat.{ℕ, zero, suc, ◌-◌, ◌≤◌, ◌<◌}
+use Prim.Native.Nat.{ℕ, suc, ◌-◌, ◌≤◌, ◌<◌}
 use native.Mathlib.Omega.{arith}
 use lib.Dec.{ltb, eqb}
-use lib.ListN.{length, drop, get_or}
-use lib.Seq.{drop-cons}
+use lib.ListN.{length, take, drop, get_or}
 use borrow.Author.Tests.{lt-ltb, le-ltb}
-use Rattle.errors.specs.Refusals.{accepted, refused}
+use Rattle.std.specs.List.{list_any}
+use Rattle.std.specs.Slice.Iter.{windows_rest, windows_size, windows_steps}
+use Rattle.std.specs.declared.slice.Windows.{Windows}
+use Rattle.std.proofs.lemmas.Iterator.{YieldsList}
+use Rattle.std.proofs.lemmas.Iterator.Splits.{YieldsList-from_shown_while}
 use Rattle.party.specs.declared.PartyOption.{PartyOption}
 use Rattle.party.specs.Limits.{limits_of}
 use Rattle.field_utils.specs.Lines.{starts, lines}
-use Rattle.reader.specs.Reading.{Reading}
-use Rattle.kept.specs.Kept.{has_cr_lf, ends_lf, bic_line, is_after_bic, causes_of, no_causes, kept_of}
+use Rattle.kept.specs.Kept.{has_cr_lf, ends_lf, bic_line, is_after_bic}
 
--- ---- a CR before an LF, from a place on
-crlf_next : (s : List ℕ) (j : ℕ) → suc j < length s → has_cr_lf (drop j s) ≡ ((eqb (get_or s j 0) 13 && eqb (get_or s (suc j) 0) 10) || has_cr_lf (drop (suc j) s))
-unfolding has_cr_lf starts
-crlf_next s j h =
-    ap has_cr_lf (drop-cons s j 0 (omega arith))
-    ∙ ap (λ (l : List ℕ). (eqb (get_or s j 0) 13 && starts 10 l) || has_cr_lf (drop (suc j) s)) (drop-cons s (suc j) 0 h)
+-- ---- a CR before an LF, among the pairs of neighbours
+pub pairs : List ℕ → List (List ℕ)
+pairs [] = []
+pairs (b ∷ []) = []
+pairs (b ∷ a ∷ l) = (b ∷ a ∷ []) ∷ pairs (a ∷ l)
 
--- the last byte, and none
-crlf_last : (s : List ℕ) (j : ℕ) → length s ≤ suc j → has_cr_lf (drop j s) ≡ false
-unfolding has_cr_lf starts
-crlf_last [] zero h = refl
-crlf_last [] (suc j) h = refl
-crlf_last (b ∷ []) zero h = rw (and-false (eqb b 13))
-crlf_last (b ∷ a ∷ s) zero h = absurd (omega arith)
-crlf_last (b ∷ s) (suc j) h = crlf_last s j (omega arith)
+pairs_none : (l : List ℕ) → length l < 2 → length (pairs l) ≡ 0
+unfolding pairs
+pairs_none [] h = refl
+pairs_none (b ∷ []) h = refl
+pairs_none (b ∷ a ∷ l) h = absurd (omega arith)
 
-module _ (s : List ℕ) (i : ℕ) (h : 1 ≤ i) where
-  pub crlf_at : i < length s → {t : Bool} → t ≡ (eqb (get_or s (i - 1) 0) 13 && eqb (get_or s i 0) 10) → has_cr_lf (drop (i - 1) s) ≡ (t || has_cr_lf (drop i s))
-  crlf_at k {t} e =
-      let n : suc (i - 1) ≡ i = omega (arith, h) in
-      crlf_next s (i - 1) (omega (arith, n, k))
-      ∙ ap (λ (x : ℕ). (eqb (get_or s (i - 1) 0) 13 && eqb (get_or s x 0) 10) || has_cr_lf (drop x s)) n ∙ ap (λ (x : Bool). x || has_cr_lf (drop i s)) (sym e)
+pairs_more : (l : List ℕ) → 2 ≤ length l → pairs l ≡ take 2 l ∷ pairs (drop 1 l)
+unfolding pairs
+pairs_more [] h = absurd (omega arith)
+pairs_more (b ∷ []) h = absurd (omega arith)
+pairs_more (b ∷ a ∷ l) h = refl
 
-  pub crlf_none : length s ≤ i → has_cr_lf (drop (i - 1) s) ≡ false
-  crlf_none k = crlf_last s (i - 1) (omega (arith, h, k))
+pub yields_pairs : {s : Windows ℕ} (l : List ℕ) → windows_rest s ≡ l → windows_size s ≡ 2 → YieldsList windows_steps (λ x. x.now) s (pairs l)
+yields_pairs {s} l r h =
+    subst (λ (m : List ℕ). YieldsList windows_steps (λ x. x.now) s (pairs m)) r
+    (YieldsList-from_shown_while windows_steps (λ x. x.now) (λ w. pairs (windows_rest w)) (λ w. windows_size w ≡ 2)
+    (λ w v p q. pairs_none (windows_rest w) (omega (arith, q.1.0, p)))
+    (λ w x v p q. (q.0 ∙ p, pairs_more (windows_rest w) (omega (arith, q.1.0, p)) ∙ sym (λ i. (q.1.1 ∙ ap (λ (n : ℕ). take n (windows_rest w)) p) i ∷ pairs (q.1.2 i))))
+    s h)
+
+-- a pair is CR and LF
+abbrev pub is_cr_lf : List ℕ → Bool
+is_cr_lf l = eqb (length l) 2 && eqb (get_or l 0 0) 13 && eqb (get_or l 1 0) 10
+
+pub crlf_pairs : (l : List ℕ) → list_any is_cr_lf (pairs l) ≡ has_cr_lf l
+unfolding pairs has_cr_lf starts
+crlf_pairs [] = refl
+crlf_pairs (b ∷ []) = rw (and-false (eqb b 13))
+crlf_pairs (b ∷ a ∷ l) = rw (crlf_pairs (a ∷ l))
 
 -- ---- the last byte
 pub ends_none : (s : List ℕ) → length s ≡ 0 → ends_lf s ≡ false
@@ -63,14 +75,3 @@ module _ (o : PartyOption) (present : Bool) (text : List ℕ) where
 
   pub after_by : ((limits_of o).bic_count ≡ 0 → ⊥) → is_after_bic o present text ≡ ltb (bic_line present) (length (lines text))
   after_by h = rw (lt-ltb 0 (limits_of o).bic_count (omega (arith, h)))
-
--- ---- what is told of a reading
-module _ (r : Reading) (text body : List ℕ) where
-  pub kept_refused : {k n : ℕ} → r.reply ≡ refused k n → kept_of r text body ≡ record { reply = refused k n; causes = no_causes }
-  unfolding kept_of
-  kept_refused e = rw e
-
-  pub kept_accepted : r.reply ≡ accepted → kept_of r text body
-      ≡ record { reply = accepted; causes = causes_of r.party.option r.party.present text (ltb (length text) (length body)) false }
-  unfolding kept_of
-  kept_accepted e = rw e

@@ -1,8 +1,9 @@
 -- When the written body of a record is the very body that came, and by which causes it is not. Each cause is something that reading leaves
 -- off (document 01, field_utils.rs, field50.rs, field59.rs, 'Choices'; on a page document 02, One); that there are no others is `kept_exact`,
 -- proofs/Exact.antt.
-use Rattle.std.specs.Prelude.{ℕ, Bool, true, false, not, ◌&&◌, ◌||◌, List, [], ◌∷◌, ltb, eqb, length}
-use Rattle.errors.specs.Refusals.{Reply, accepted, refused, told}
+use Rattle.std.specs.Prelude.{ℕ, Bool, true, false, not, ◌&&◌, ◌||◌, List, [], ◌∷◌, ltb, eqb, length, Result, Ok, Err}
+use Rattle.errors.specs.Refusals.{Reply, accepted, refused, told_error}
+use Rattle.errors.specs.declared.ParseError.{ParseError}
 use Rattle.party.specs.declared.PartyOption.{PartyOption}
 use Rattle.party.specs.Limits.{limits_of}
 use Rattle.field_utils.specs.Lines.{starts, lines}
@@ -12,7 +13,6 @@ use Rattle.reader.specs.declared.choices.Choice.{Choice}
 use Rattle.reader.specs.Choices.{tried_text, parse, read_text, parse_with_variant}
 use Rattle.writer.specs.Given.{passes}
 use Rattle.kept.specs.declared.Causes.{Causes}
-use Rattle.kept.specs.declared.Kept.{Kept as KeptAs}
 
 -- ---- the causes
 -- a CR directly before an LF, which is dropped with it (field_utils.rs)
@@ -90,5 +90,6 @@ abbrev pub is_kept : PartyOption → List ℕ → Bool
 is_kept o body = is_kept_by (kept_read o body)
 
 -- what the code's answer says
-abbrev pub told_kept : KeptAs → Kept
-told_kept k = record { reply = told k.outcome; causes = k.causes }
+abbrev pub told_kept : Result Causes ParseError → Kept
+told_kept (Ok c) = record { reply = accepted; causes = c }
+told_kept (Err e) = record { reply = told_error e; causes = no_causes }

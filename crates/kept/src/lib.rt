@@ -3,18 +3,17 @@
 
 ghost use Rattle.std.specs.Prelude.{◌≡◌, ◌&&◌, ltb, eqb, get_or};
 ghost use Rattle.reader.specs.Reading.{told_answer};
-ghost use Rattle.kept.specs.Kept.{has_cr_lf, ends_lf, bic_line, is_after_bic, causes_of, no_causes, kept_of, kept_read, kept_parse, kept_parse_with_variant, told_kept};
+ghost use Rattle.kept.specs.Kept.{has_cr_lf, ends_lf, bic_line, is_after_bic, causes_of, kept_of, kept_read, kept_parse, kept_parse_with_variant, told_kept};
 ghost use Rattle.kept.specs.Fields.{field_causes};
 
-use errors::Outcome;
+use errors::ParseError;
 use field_utils::lines::count_lines;
 use page_reader::body_place;
-use party::{PartyOption, limits_of};
-use reader::Answer;
+use party::{Party, PartyOption, limits_of};
 use reader::choices::{Choice, read_text, tried_text};
 
-// By which causes the written field is other bytes than came; none where all are false.
-#[derive(Clone, Copy)]
+// By which causes the written field is other bytes than came; none where all are false, as by default.
+#[derive(Clone, Copy, Debug, Default, PartialEq, Eq)]
 pub struct Causes {
     // a CR before an LF inside the body
     pub inner_cr: bool,
@@ -28,42 +27,18 @@ pub struct Causes {
     pub closing_cr: bool,
 }
 
-// What is told of a body: the reading's outcome and, where it accepts, the causes.
-#[derive(Clone, Copy)]
-pub struct Kept {
-    pub outcome: Outcome,
-    pub causes: Causes,
-}
-
-// Whether two bytes are CR and LF.
-fn is_cr_lf(a: u8, b: u8) -> bool
-    ensures { result ≡ (eqb a 13 && eqb b 10) }
-{
-    a == b'\r' && b == b'\n'
-}
-
 // Whether a CR stands directly before an LF.
 fn has_cr_lf(s: &[u8]) -> bool
     ensures { result ≡ has_cr_lf s.now }
 {
-    let mut i = 1;
-    while i < s.len() {
-        if is_cr_lf(s[i - 1], s[i]) {
-            return true;
-        }
-        i += 1;
-    }
-    false
+    s.windows(2).any(|pair| matches!(pair, b"\r\n"))
 }
 
 // Whether the last byte is LF.
 fn ends_lf(s: &[u8]) -> bool
     ensures { result ≡ ends_lf s.now }
 {
-    if s.len() == 0 {
-        return false;
-    }
-    s[s.len() - 1] == b'\n'
+    s.last() == Some(&b'\n')
 }
 
 // The BIC's line, by whether an account or identifier is there.
@@ -77,11 +52,7 @@ fn bic_line(present: bool) -> usize
 fn is_after_bic(option: PartyOption, present: bool, text: &[u8]) -> bool
     ensures { result ≡ is_after_bic option present text.now }
 {
-    let limits = limits_of(option);
-    if limits.bic_count == 0 {
-        return false;
-    }
-    bic_line(present) < count_lines(text)
+    limits_of(option).bic_count != 0 && bic_line(present) < count_lines(text)
 }
 
 // The causes in a text that an option read.
@@ -103,48 +74,24 @@ fn causes_of(
     }
 }
 
-// No cause.
-fn no_causes() -> Causes
-    ensures { result ≡ no_causes }
-{
-    Causes {
-        inner_cr: false,
-        last_lf: false,
-        after_bic: false,
-        blanks: false,
-        closing_cr: false,
-    }
-}
-
 // What is told of a reading of a text, which is the body or what trimming left of it.
-fn keep(answer: Answer, text: &[u8], body: &[u8]) -> Kept
+fn keep(answer: Result<Party, ParseError>, text: &[u8], body: &[u8]) -> Result<Causes, ParseError>
     ensures { told_kept result ≡ kept_of (told_answer answer) text.now body.now }
 {
-    let outcome = answer.outcome;
-    if let Outcome::Refused(_) = outcome {
-        return Kept {
-            outcome,
-            causes: no_causes(),
-        };
-    }
-    let party = answer.party;
-    let option = party.option;
+    let party = answer?;
     let blanks = text.len() < body.len();
-    Kept {
-        outcome,
-        causes: causes_of(option, party.present, text, blanks, false),
-    }
+    Ok(causes_of(party.option, party.present, text, blanks, false))
 }
 
-// Of a body that an option reads.
-pub fn read(option: PartyOption, body: &[u8]) -> Kept
+// The causes in a body that an option reads.
+pub fn read(option: PartyOption, body: &[u8]) -> Result<Causes, ParseError>
     ensures { told_kept result ≡ kept_read option body.now }
 {
     keep(reader::read(option, body), body, body)
 }
 
-// Of one that a choice reads, which detects.
-pub fn parse(choice: Choice, body: &[u8]) -> Kept
+// In one that a choice reads, which detects.
+pub fn parse(choice: Choice, body: &[u8]) -> Result<Causes, ParseError>
     ensures { told_kept result ≡ kept_parse choice body.now }
 {
     keep(
@@ -154,8 +101,8 @@ pub fn parse(choice: Choice, body: &[u8]) -> Kept
     )
 }
 
-// Of one that a choice reads by a letter, 0 for none.
-pub fn parse_with_variant(choice: Choice, body: &[u8], letter: u8) -> Kept
+// In one that a choice reads by a letter, 0 for none.
+pub fn parse_with_variant(choice: Choice, body: &[u8], letter: u8) -> Result<Causes, ParseError>
     ensures { told_kept result ≡ kept_parse_with_variant choice body.now letter }
 {
     keep(
@@ -169,13 +116,7 @@ pub fn parse_with_variant(choice: Choice, body: &[u8], letter: u8) -> Kept
 fn is_cr_after(page: &[u8], start: usize, end: usize) -> bool
     ensures { result ≡ (ltb 0 start && eqb (get_or page.now end 0) 13) }
 {
-    if start == 0 {
-        return false;
-    }
-    if page.len() <= end {
-        return false;
-    }
-    page[end] == b'\r'
+    0 < start && page.get(end) == Some(&b'\r')
 }
 
 // The causes in the field of a page at a position, that an option read with or without an account or identifier; none where there is no

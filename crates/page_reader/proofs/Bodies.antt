@@ -95,6 +95,19 @@ module _ (page : List ℕ) (at : ℕ) where
   unfolding body_place
   place_by_lem e = ap (λ (x : ReadCase). place_by x page at) e
 
+  -- there is none where no field opens
+  pub place_none : ((to : ℕ) → read_case page at ≡ Opening to → ⊥) → body_place page at ≡ no_body
+  unfolding body_place
+  place_none n = go (read_case page at) refl
+    where
+      go : (x : ReadCase) → read_case page at ≡ x → place_by x page at ≡ no_body
+      go TooLong e = refl
+      go NoStart e = refl
+      go AtLength e = refl
+      go (Opening to) e = absurd (n to e)
+      go (Ending to) e = refl
+      go (Stray to) e = refl
+
   nothing : There page no_body []
   nothing = record { within = omega arith; bytes = refl }
 

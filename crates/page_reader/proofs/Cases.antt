@@ -1,17 +1,17 @@
 -- Which case a read is, byte by byte, and what an answer of the code says of it. Assumes nothing.
 use mathlib.Core.Path.{◌≡◌, refl, sym, ◌∙◌, ap, subst}
-use mathlib.Core.Bool.{Bool, true, false, ◌&&◌, ◌||◌, or-true, true≢false}
+use mathlib.Core.Bool.{Bool, true, false, ◌&&◌, ◌||◌, true≢false}
 use mathlib.Core.List.{List, [], ◌∷◌}
-use Prim.Native.Nat.{ℕ, zero, suc, ◌+◌, ◌-◌, ◌≤◌, ◌<◌}
+use Prim.Native.Nat.{ℕ, suc, ◌+◌, ◌≤◌, ◌<◌}
 use native.Mathlib.Omega.{arith}
+use Rattle.std.specs.Prelude.{Option, Some, Result, Ok, Err}
+use Rattle.std.proofs.lemmas.List.{get_or_past}
 use lib.Dec.{leb, eqb}
 use lib.ListN.{length, drop, get_or, length-drop, drop_of_length-le}
 use lib.Seq.{drop-cons, drop-drop}
-use borrow.Author.Tests.{eqb-true, eq-eqb, ne_eqb, le-leb, lt-leb}
+use borrow.Author.Tests.{eqb-true, ne_eqb, le-leb, lt-leb, leb-true, leb-false}
 use Rattle.errors.specs.declared.ParseError.{ParseError}
-use Rattle.errors.specs.declared.Outcome.{Outcome}
-use Rattle.errors.specs.declared.Outcome.TheVariants.{Accepted, Refused as Denied}
-use Rattle.errors.specs.Refusals.{Reply, accepted, refused, told, refusal_of}
+use Rattle.errors.specs.Refusals.{Reply, accepted, refused, told}
 use Rattle.party.specs.declared.PartyOption.{PartyOption}
 use Rattle.party.specs.declared.Party.{Party}
 use Rattle.party.specs.Limits.{options}
@@ -21,12 +21,13 @@ use Rattle.reader.specs.Reading.{Into, storing, read_into, told_into}
 use Rattle.reader.specs.Options.{read}
 use Rattle.record_bytes.specs.RecordBytes.{record_size}
 use Rattle.reader.proofs.Into.{into_whole, replied}
-use Rattle.page_reader.specs.declared.ReadInto.{ReadInto}
-use Rattle.page_reader.specs.declared.ReadOutcome.{ReadOutcome as OutcomeAt}
-use Rattle.page_reader.specs.declared.ReadOutcome.TheVariants.{Record, End, Refused}
+use Rattle.page_reader.specs.declared.PageRead.{PageRead as ReadAt}
+use Rattle.page_reader.specs.declared.Tag.{Tag}
 use Rattle.page_reader.specs.declared.ReadCase.{ReadCase}
 use Rattle.page_reader.specs.declared.ReadCase.TheVariants.{TooLong, NoStart, AtLength, Opening, Ending, Stray}
-use Rattle.page_reader.specs.Pages.{page_most, line_at, opens, has_lf, ends_at, runs, Tagged, untagged, tagged, tag_in, the_end, a_refusal, PageRead, bodiless, outcome_of, read_tagged, read_field, readable, line_case, rest_case, read_case, read_by, read_at, read_lent, read_bytes, Kind, kind_of, Outline, outline, told_kind, told_read_into}
+use Rattle.page_reader.specs.Pages.{page_most, line_at, opens, has_lf, ends_at, runs, Tagged, untagged, tagged, tag_in, ReadOutcome, PageRead, outcome_of, read_tagged, read_field, readable, line_case, rest_case, read_case, read_by, read_at, read_lent, read_bytes, Kind, kind_of, outline, told_kind, told_read_into}
+use Rattle.page_reader.specs.Index.{told_body}
+use Rattle.page_reader.specs.Code.{told_tag}
 use Rattle.page_reader.proofs.EndLines.{not_both}
 use Rattle.page_reader.proofs.Runs.{followed, runs_end, runs_lf, runs_more}
 
@@ -39,16 +40,13 @@ opens_cons b s = go (eqb b 10) refl
     go true e = rw (e, upto) (sym (ne_eqb b 58 (λ f. omega (arith, f, eqb-true b 10 e))))
     go false e = rw (e, upto)
 
-module _ (page : List ℕ) (at : ℕ) where
-  abbrev line : List ℕ
-  line = line_at (drop at page)
-
-  pub opens_none : length page ≤ at → opens line ≡ false
-  unfolding line_at upto starts
-  opens_none h = rw (drop_of_length-le page h)
-
-  pub opens_first : at < length page → opens line ≡ eqb (get_or page at 0) 58
-  opens_first h = ap (λ (s : List ℕ). opens (line_at s)) (drop-cons page at 0 h) ∙ opens_cons (get_or page at 0) (drop (suc at) page)
+pub opens_by : (page : List ℕ) (at : ℕ) → opens (line_at (drop at page)) ≡ eqb (get_or page at 0) 58
+unfolding line_at upto starts
+opens_by page at = go (leb (length page) at) refl
+  where
+    go : (t : Bool) → leb (length page) at ≡ t → opens (line_at (drop at page)) ≡ eqb (get_or page at 0) 58
+    go true e = let h = leb-true (length page) at e in rw (drop_of_length-le page h, get_or_past page at 0 h)
+    go false e = ap (λ (s : List ℕ). opens (line_at s)) (drop-cons page at 0 (leb-false (length page) at e)) ∙ opens_cons (get_or page at 0) (drop (suc at) page)
 
 -- ---- how far a field runs
 pub runs_most : (s : List ℕ) → runs s ≤ length s
@@ -62,7 +60,7 @@ runs_most (b ∷ s) = go (eqb b 10 && followed s) refl (runs_most s)
 
 -- from a position on, where the LF stands at lf
 module _ (page : List ℕ) (i lf : ℕ) (e : lf ≡ i + upto 10 (drop i page)) (h : i ≤ length page) where
-  pub to_end : length page ≤ lf → lf ≡ i + runs (drop i page)
+  to_end : length page ≤ lf → lf ≡ i + runs (drop i page)
   to_end k =
       let n = length-drop i page in
       let u : length (drop i page) ≤ upto 10 (drop i page) = omega (arith, n, e, k) in
@@ -83,7 +81,7 @@ module _ (page : List ℕ) (i lf : ℕ) (e : lf ≡ i + upto 10 (drop i page)) (
 
 -- what follows an LF
 module _ (page : List ℕ) (at : ℕ) where
-  pub followed_none : length page ≤ at → followed (drop at page) ≡ true
+  followed_none : length page ≤ at → followed (drop at page) ≡ true
   followed_none h = rw (drop_of_length-le page h)
 
   pub followed_line : {a b : Bool} → at < length page → opens (line_at (drop at page)) ≡ a → ends_at (drop at page) ≡ b → followed (drop at page) ≡ (a || b)
@@ -91,23 +89,13 @@ module _ (page : List ℕ) (at : ℕ) where
       let s : is_empty (drop at page) ≡ false = ap is_empty (drop-cons page at 0 h) in
       rw (s, p, q)
 
--- ---- positions to read at
-module _ (page : List ℕ) where
-  pub readable_past : (at : ℕ) → length page < at → readable page at ≡ false
-  readable_past at h = rw (lt-leb at (length page) h)
-
-  pub readable_end : (at : ℕ) → at ≡ length page → readable page at ≡ true
-  readable_end at e = rw (le-leb at (length page) (omega arith), eq-eqb at (length page) e)
-
-  pub readable_zero : (at : ℕ) → at ≡ 0 → readable page at ≡ true
-  readable_zero zero e = rw (le-leb 0 (length page) (omega arith)) (or-true (eqb 0 (length page)))
-  readable_zero (suc at) e = absurd (omega arith)
-
-  pub readable_lf : (at : ℕ) → at ≤ length page → (at ≡ length page → ⊥) → (at ≡ 0 → ⊥) → readable page at ≡ eqb (get_or page (at - 1) 0) 10
-  readable_lf zero h n z = absurd (z refl)
-  readable_lf (suc at) h n z =
-      let e : suc at - 1 ≡ at = omega arith in
-      rw (e, le-leb (suc at) (length page) h, ne_eqb (suc at) (length page) n)
+-- no LF stands there, or the last byte is one
+pub to_last : (page : List ℕ) (i lf : ℕ) → lf ≡ i + upto 10 (drop i page) → i ≤ length page → length page ≤ lf + 1 → lf ≡ i + runs (drop i page)
+to_last page i lf e h k = go (leb (length page) lf) refl
+  where
+    go : (t : Bool) → leb (length page) lf ≡ t → lf ≡ i + runs (drop i page)
+    go true q = to_end page i lf e h (leb-true (length page) lf q)
+    go false q = to_lf page i lf e h (leb-false (length page) lf q) (followed_none page (lf + 1) k)
 
 -- ---- which case a read is
 pub rest_some : (s : List ℕ) (at : ℕ) → is_empty s ≡ false → rest_case s at ≡ line_case s at
@@ -184,15 +172,11 @@ module _ (page : List ℕ) (at : ℕ) where
       go true true (c ∷ s) e = line (c ∷ s) e (omega arith) (opens (line_at (c ∷ s))) (ends_at (c ∷ s))
 
 -- ---- what an answer of the code says of a read into lent bytes, which were d and are e
-abbrev pub Tells : ReadInto → PageRead → List ℕ → List ℕ → Type 0
+abbrev pub Leaves : Kind → ReadOutcome → List ℕ → List ℕ → Type 0
+Leaves k o d e = (k ≡ kind_of o) × (e ≡ read_bytes o d)
+
+abbrev pub Tells : ReadAt (Unit {0}) → PageRead → List ℕ → List ℕ → Type 0
 Tells r x d e = (told_read_into r ≡ outline x) × (e ≡ read_bytes x.outcome d)
-
-pub tells_refusal : {r : ReadInto} {w : ParseError} {next : ℕ} (d : List ℕ) → r ≡ record { outcome = Refused w; next = next }
-    → Tells r (bodiless (a_refusal (refusal_of w).number (refusal_of w).line) next) d d
-tells_refusal d q = (ap told_read_into q, refl)
-
-pub tells_end : {r : ReadInto} {next : ℕ} (d : List ℕ) → r ≡ record { outcome = End; next = next } → Tells r (bodiless the_end next) d d
-tells_end d q = (ap told_read_into q, refl)
 
 -- from a case to the read at a position
 module _ (page : List ℕ) (at : ℕ) {x : ReadCase} (e : read_case page at ≡ x) where
@@ -200,54 +184,62 @@ module _ (page : List ℕ) (at : ℕ) {x : ReadCase} (e : read_case page at ≡ 
   unfolding read_at
   by_case = ap (λ (y : ReadCase). read_by y page at) e
 
-  pub tells_by : (r : ReadInto) (d : List ℕ) {f : List ℕ} → Tells r (read_by x page at) d f → Tells r (read_at page at) d f
+  pub tells_by : (r : ReadAt (Unit {0})) (d : List ℕ) {f : List ℕ} → Tells r (read_by x page at) d f → Tells r (read_at page at) d f
   tells_by r d {f} h = subst (λ (y : PageRead). Tells r y d f) (sym by_case) h
 
   pub ends_by : Ends page at x
   ends_by = subst (Ends page at) e (stands page at)
 
--- a field's next position
+-- a field's read by its tag; its next position, on which nothing else hangs
 tagged_next : (t : Tagged) (next : ℕ) → (read_tagged t next).next ≡ next
 tagged_next untagged next = refl
 tagged_next (tagged o body) next = refl
 
-pub field_next : (text : List ℕ) (next : ℕ) → (read_field text next).next ≡ next
-unfolding read_field
-field_next text next = tagged_next (tag_in options text) next
+tagged_outcome : (t : Tagged) (next n : ℕ) → (read_tagged t next).outcome ≡ (read_tagged t n).outcome
+tagged_outcome untagged next n = refl
+tagged_outcome (tagged o body) next n = refl
 
--- a field's read by its tag
-pub tagged_tells : (text : List ℕ) (next : ℕ) {t : Tagged} → t ≡ tag_in options text → (r : ReadInto) (d : List ℕ) {e : List ℕ} → Tells r (read_tagged t next) d e → Tells r (read_field text next) d e
-unfolding read_field
-tagged_tells text next q r d {e} h = subst (λ (w : Tagged). Tells r (read_tagged w next) d e) q h
+module _ (text : List ℕ) (next : ℕ) where
+  pub field_tagged : {t : Tagged} → t ≡ tag_in options text → read_field text next ≡ read_tagged t next
+  unfolding read_field
+  field_tagged q = ap (λ (t : Tagged). read_tagged t next) (sym q)
 
--- ---- a field's read by its option's reader
--- what the reader's outcome is to the read
-abbrev pub went : Outcome → OutcomeAt
-went Accepted = Record
-went (Denied e) = Refused e
+  pub field_next : (read_field text next).next ≡ next
+  unfolding read_field
+  field_next = tagged_next (tag_in options text) next
 
-went_told : (w : Outcome) (p : Party) → told_kind (went w) ≡ kind_of (outcome_of (told w) p)
-went_told Accepted p = refl
-went_told (Denied e) p = refl
+  pub field_tells : (r : ReadAt (Unit {0})) (d : List ℕ) {e : List ℕ} → r.next ≡ next → Leaves (told_kind r.outcome) (read_field text 0).outcome d e → Tells r (read_field text next) d e
+  unfolding read_field
+  field_tells r d n h =
+      let q = tagged_outcome (tag_in options text) 0 next in (
+        (λ i. record { kind = (h.0 ∙ ap kind_of q) i; next = (n ∙ sym field_next) i }),
+        h.1 ∙ ap (λ (o : ReadOutcome). read_bytes o d) q,
+      )
+
+-- ---- a field's body by its option's reader
+body_kind : (w : Result (Unit {0}) ParseError) (p : Party) → told_body w ≡ kind_of (outcome_of (told w) p)
+body_kind (Ok t) p = refl
+body_kind (Err e) p = refl
 
 stored_bytes : (q : Reply) (p : Party) (d : List ℕ) → (storing q p d).bytes ≡ read_bytes (outcome_of q p) d
 stored_bytes accepted p d = refl
 stored_bytes (refused k n) p d = refl
 
-pub answer_tells : (o : PartyOption) (body : List ℕ) (next : ℕ) (a : Outcome) {w : Outcome} (d : List ℕ) {e : List ℕ} → record_size ≤ length d → told_into a e ≡ read_into (read o body) d → a ≡ w
-    → Tells (record { outcome = went w; next = next }) (read_tagged (tagged o body) next) d e
-answer_tells o body next a {w} d size into q =
+pub body_leaves : (o : PartyOption) (body : List ℕ) (next : ℕ) (w : Result (Unit {0}) ParseError) (d : List ℕ) {e : List ℕ} → record_size ≤ length d → told_into w e ≡ read_into (read o body) d
+    → Leaves (told_body w) (read_tagged (tagged o body) next).outcome d e
+body_leaves o body next w d size into =
     let r = read o body in
-    let h = into ∙ into_whole r d size in
-    let reply : told w ≡ r.reply = sym (ap told q) ∙ replied r d a h in (
-      ap {B = Outline} (λ (y : Kind). record { kind = y; next = next }) (went_told w r.party ∙ ap (λ (y : Reply). kind_of (outcome_of y r.party)) reply),
+    let h = into ∙ into_whole r d size in (
+      body_kind w r.party ∙ ap (λ (y : Reply). kind_of (outcome_of y r.party)) (replied r d w h),
       ap (λ (i : Into). i.bytes) h ∙ stored_bytes r.reply r.party d,
     )
 
--- ---- by the bytes that are lent
-module _ (page : List ℕ) (at : ℕ) (d : List ℕ) where
-  pub lent_whole : record_size ≤ length d → read_lent page at d ≡ read_at page at
-  lent_whole h = rw (le-leb record_size (length d) h)
+-- a field whose tag is found
+pub field_leaves : (text : List ℕ) {o : Option Tag} {t : Tag} → told_tag text o ≡ tag_in options text → o ≡ Some t → (w : Result (Unit {0}) ParseError) (d : List ℕ) {body e : List ℕ} → body ≡ drop t.skip text
+    → record_size ≤ length d → told_into w e ≡ read_into (read t.option body) d → Leaves (told_body w) (read_field text 0).outcome d e
+field_leaves text {t = t} found is w d {body} {e} rest size into =
+    subst (λ (x : PageRead). Leaves (told_body w) x.outcome d e) (sym (field_tagged text 0 (ap (tagged t.option) rest ∙ ap (told_tag text) (sym is) ∙ found))) (body_leaves t.option body 0 w d size into)
 
-  pub lent_short : length d < record_size → read_lent page at d ≡ bodiless (a_refusal 42 0) at
-  lent_short h = rw (lt-leb record_size (length d) h)
+-- ---- by the bytes that are lent
+pub lent_whole : (page : List ℕ) (at : ℕ) (d : List ℕ) → record_size ≤ length d → read_lent page at d ≡ read_at page at
+lent_whole page at d h = rw (le-leb record_size (length d) h)

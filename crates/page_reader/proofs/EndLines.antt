@@ -1,13 +1,13 @@
 -- End lines, byte by byte. Assumes nothing.
-use mathlib.Core.Path.{◌≡◌, refl, sym, ◌∙◌, ap}
-use mathlib.Core.Bool.{Bool, true, false, true≢false, false≢true}
+use mathlib.Core.Path.{◌≡◌, refl, sym, ◌∙◌, ap, subst}
+use mathlib.Core.Bool.{Bool, true, false, or-false, true≢false}
 use mathlib.Core.List.{List, [], ◌∷◌}
 use mathlib.Core.Logic.{◌⊎◌, inl, inr, ⊎_elim}
-use Prim.Native.Nat.{ℕ, suc, ◌≤◌, ◌<◌}
-use lib.Dec.{leb, eqb}
-use lib.ListN.{length, drop, get_or, drop_of_length-le}
-use lib.Seq.{drop-cons}
-use borrow.Author.Tests.{eqb-true, eqb-false, eq-eqb, ne_eqb, leb-true, leb-false}
+use Prim.Native.Nat.{ℕ, ◌<◌}
+use native.Mathlib.Omega.{arith}
+use lib.Dec.{eqb}
+use lib.ListN.{length, drop, get_or}
+use borrow.Author.Tests.{eqb-true, eqb-false, eq-eqb, ne_eqb}
 use Rattle.field_utils.specs.Lines.{upto, starts, is_empty, without_cr}
 use Rattle.page_reader.specs.Pages.{line_at, has_lf, less_cr, opens, is_end, ends_page, ends_at}
 use Rattle.page_reader.specs.Code.{is_over}
@@ -44,11 +44,6 @@ unfolding is_end
 is_first b [] e = e
 is_first b (c ∷ []) e = rw e
 is_first b (c ∷ d ∷ m) e = refl
-
-is_one : (l : List ℕ) → is_empty l ≡ true → is_end (45 ∷ l) ≡ true
-unfolding is_end
-is_one [] e = refl
-is_one (b ∷ l) e = absurd (false≢true e)
 
 is_second : (c : ℕ) (m : List ℕ) → eqb c 125 ≡ false → is_end (45 ∷ c ∷ m) ≡ false
 unfolding is_end
@@ -112,14 +107,14 @@ shown_first b s = go (eqb b 10) refl
     go false e = ⊎_elim (λ q. inl (shown_more b s e ∙ q)) (λ q. inr (q.0, shown_more b s e ∙ q.1)) (less_first (has_lf s) b (line_at s))
 
 -- ---- where nothing is left of it
-over_other : (b : ℕ) (s : List ℕ) → eqb b 13 ≡ false → is_over (b ∷ s) ≡ eqb b 10
+over_other : (b : ℕ) (s : List ℕ) → eqb b 13 ≡ false → is_empty (shown (b ∷ s)) ≡ eqb b 10
 over_other b s f = go (eqb b 10) refl
   where
-    go : (t : Bool) → eqb b 10 ≡ t → is_over (b ∷ s) ≡ eqb b 10
+    go : (t : Bool) → eqb b 10 ≡ t → is_empty (shown (b ∷ s)) ≡ eqb b 10
     go true e = rw e (ap is_empty (shown_lf b s e))
     go false e = rw e (ap is_empty (shown_cons b s e f))
 
-over_cr : (d : ℕ) (s : List ℕ) → is_over (13 ∷ d ∷ s) ≡ eqb d 10
+over_cr : (d : ℕ) (s : List ℕ) → is_empty (shown (13 ∷ d ∷ s)) ≡ eqb d 10
 unfolding without_cr
 over_cr d s = go (eqb d 10) refl
   where
@@ -127,65 +122,53 @@ over_cr d s = go (eqb d 10) refl
     more true l = refl
     more false l = refl
 
-    go : (t : Bool) → eqb d 10 ≡ t → is_over (13 ∷ d ∷ s) ≡ eqb d 10
+    go : (t : Bool) → eqb d 10 ≡ t → is_empty (shown (13 ∷ d ∷ s)) ≡ eqb d 10
     go true e = rw e (ap is_empty (shown_more 13 (d ∷ s) refl ∙ ap (λ (l : List ℕ). less_cr (has_lf (d ∷ s)) (13 ∷ l)) (line_lf d s e) ∙ ap (λ (t : Bool). less_cr t (13 ∷ [])) (lf_first d s e)))
     go false e = rw e (ap is_empty (shown_more 13 (d ∷ s) refl ∙ ap (λ (l : List ℕ). less_cr (has_lf (d ∷ s)) (13 ∷ l)) (line_cons d s e)) ∙ more (has_lf (d ∷ s)) (line_at s))
 
--- ---- at a position of a page
-module _ (page : List ℕ) (at : ℕ) where
-  pub over_none : length page ≤ at → is_over (drop at page) ≡ true
-  unfolding line_at upto
-  over_none h = rw (drop_of_length-le page h)
+-- by the first bytes
+over_is : (s : List ℕ) → is_empty (shown s) ≡ is_over s
+unfolding line_at upto without_cr
+over_is [] = refl
+over_is (b ∷ s) = go (eqb b 13) refl
+  where
+    last : (l : List ℕ) → is_empty (shown (13 ∷ l)) ≡ is_over (13 ∷ l)
+    last [] = refl
+    last (d ∷ l) = rw (ne_eqb (length (13 ∷ d ∷ l)) 0 (λ e. omega arith)) (over_cr d l)
 
-  pub over_within : is_over (drop at page) ≡ false → at < length page
-  over_within o = go (leb (length page) at) refl
-    where
-      go : (t : Bool) → leb (length page) at ≡ t → at < length page
-      go true e = absurd (true≢false (sym (over_none (leb-true (length page) at e)) ∙ o))
-      go false e = leb-false (length page) at e
+    go : (t : Bool) → eqb b 13 ≡ t → is_empty (shown (b ∷ s)) ≡ is_over (b ∷ s)
+    go true e = subst (λ (c : ℕ). is_empty (shown (c ∷ s)) ≡ is_over (c ∷ s)) (sym (eqb-true b 13 e)) (last s)
+    go false e = over_other b s e ∙ sym (rw (ne_eqb (length (b ∷ s)) 0 (λ e. omega arith), e) (or-false (eqb b 10)))
 
-  pub ends_none : length page ≤ at → ends_at (drop at page) ≡ false
-  unfolding line_at upto ends_page is_end
-  ends_none h = rw (drop_of_length-le page h)
+-- ---- a rest whose first line ends the page, by its first bytes
+pub ends_empty : (s : List ℕ) → length s < 1 → ends_at s ≡ false
+unfolding line_at upto ends_page is_end
+ends_empty [] h = refl
+ends_empty (b ∷ s) h = absurd (omega arith)
 
-  module _ (h : at < length page) where
-    pub over_byte : (get_or page at 0 ≡ 13 → ⊥) → is_over (drop at page) ≡ eqb (get_or page at 0) 10
-    over_byte n = ap is_over (drop-cons page at 0 h) ∙ over_other (get_or page at 0) (drop (suc at) page) (ne_eqb _ _ n)
+pub ends_other : (s : List ℕ) → (get_or s 0 0 ≡ 45 → ⊥) → ends_at s ≡ false
+unfolding ends_page
+ends_other [] n = ends_empty [] (omega arith)
+ends_other (b ∷ s) n = begins_not b _ (shown_first b s) (ne_eqb b 45 n)
 
-    pub over_last : get_or page at 0 ≡ 13 → length page ≤ suc at → is_over (drop at page) ≡ false
-    unfolding line_at upto
-    over_last e k = ap is_over (drop-cons page at 0 h ∙ ap (λ (b : ℕ). b ∷ drop (suc at) page) e) ∙ rw (drop_of_length-le page k)
+-- after a hyphen
+ends_hyphen : (s : List ℕ) → ends_at (45 ∷ s) ≡ is_end (45 ∷ shown s)
+unfolding ends_page
+ends_hyphen s = ap is_end (shown_cons 45 s refl refl)
 
-    pub over_lf : get_or page at 0 ≡ 13 → suc at < length page → is_over (drop at page) ≡ eqb (get_or page (suc at) 0) 10
-    over_lf e k =
-        ap is_over (drop-cons page at 0 h ∙ ap (λ (b : ℕ). b ∷ drop (suc at) page) e ∙ ap (◌∷◌ 13) (drop-cons page (suc at) 0 k))
-        ∙ over_cr (get_or page (suc at) 0) (drop (suc (suc at)) page)
+-- there is no brace: nothing is left after the hyphen
+pub ends_over : (s : List ℕ) → get_or s 0 0 ≡ 45 → (get_or s 1 0 ≡ 125 → ⊥) → ends_at s ≡ is_over (drop 1 s)
+unfolding line_at upto is_end
+ends_over [] e n = absurd (omega arith)
+ends_over (a ∷ s) e n = ap (λ (b : ℕ). ends_at (b ∷ s)) e ∙ ends_hyphen s ∙ go s n ∙ over_is s
+  where
+    go : (s : List ℕ) → (get_or s 0 0 ≡ 125 → ⊥) → is_end (45 ∷ shown s) ≡ is_empty (shown s)
+    go [] n = refl
+    go (b ∷ s) n = ⊎_elim (λ z. ap (λ (l : List ℕ). is_end (45 ∷ l)) z ∙ ap is_empty (sym z)) (λ z. ap (λ (l : List ℕ). is_end (45 ∷ l)) z.1 ∙ is_second b z.0 (ne_eqb b 125 n) ∙ ap is_empty (sym z.1)) (shown_first b s)
 
-    pub ends_other : (get_or page at 0 ≡ 45 → ⊥) → ends_at (drop at page) ≡ false
-    unfolding ends_page
-    ends_other n = ap ends_at (drop-cons page at 0 h) ∙ begins_not (get_or page at 0) _ (shown_first (get_or page at 0) (drop (suc at) page)) (ne_eqb _ _ n)
-
-    -- after a hyphen
-    module _ (e : get_or page at 0 ≡ 45) where
-      ends_hyphen : ends_at (drop at page) ≡ is_end (45 ∷ shown (drop (suc at) page))
-      unfolding ends_page
-      ends_hyphen =
-          ap ends_at (drop-cons page at 0 h ∙ ap (λ (b : ℕ). b ∷ drop (suc at) page) e) ∙ ap is_end (shown_cons 45 (drop (suc at) page) refl refl)
-
-      pub ends_over : is_over (drop (suc at) page) ≡ true → ends_at (drop at page) ≡ true
-      ends_over o = ends_hyphen ∙ is_one (shown (drop (suc at) page)) o
-
-      module _ (k : suc at < length page) where
-        pub ends_more : (get_or page (suc at) 0 ≡ 125 → ⊥) → is_over (drop (suc at) page) ≡ false → ends_at (drop at page) ≡ false
-        ends_more n o =
-            let q = drop-cons page (suc at) 0 k in
-            let b = get_or page (suc at) 0 in
-            ends_hyphen
-            ∙ ⊎_elim (λ z. absurd (true≢false (ap is_empty (sym z) ∙ ap is_over (sym q) ∙ o))) (λ z. ap (λ (s : List ℕ). is_end (45 ∷ shown s)) q ∙ ap (λ (l : List ℕ). is_end (45 ∷ l)) z.1 ∙ is_second b z.0 (ne_eqb b 125 n))
-            (shown_first b (drop (suc (suc at)) page))
-
-        pub ends_brace : get_or page (suc at) 0 ≡ 125 → ends_at (drop at page) ≡ is_over (drop (suc (suc at)) page)
-        ends_brace f =
-            ends_hyphen
-            ∙ ap (λ (s : List ℕ). is_end (45 ∷ shown s)) (drop-cons page (suc at) 0 k ∙ ap (λ (b : ℕ). b ∷ drop (suc (suc at)) page) f)
-            ∙ ap (λ (l : List ℕ). is_end (45 ∷ l)) (shown_cons 125 (drop (suc (suc at)) page) refl refl) ∙ is_third _
+-- there is one: nothing is left after it
+pub ends_brace : (s : List ℕ) → get_or s 0 0 ≡ 45 → get_or s 1 0 ≡ 125 → ends_at s ≡ is_over (drop 2 s)
+ends_brace [] e f = absurd (omega arith)
+ends_brace (a ∷ []) e f = absurd (omega arith)
+ends_brace (a ∷ b ∷ s) e f =
+    (λ i. ends_at (e i ∷ f i ∷ s)) ∙ ends_hyphen (125 ∷ s) ∙ ap (λ (l : List ℕ). is_end (45 ∷ l)) (shown_cons 125 s refl refl) ∙ is_third (shown s) ∙ over_is s

@@ -1,26 +1,23 @@
 -- The entries of an index by its numbers, and what a lookup answers by its tests. Assumes nothing.
 use mathlib.Core.Path.{◌≡◌, refl, ◌∙◌, ap, subst}
-use mathlib.Core.Bool.{Bool, true, false, ◌&&◌, and-false}
+use mathlib.Core.Bool.{Bool, true}
 use mathlib.Core.List.{List, [], ◌∷◌}
 use Prim.Native.Nat.{ℕ, zero, suc, ◌*◌, ◌-◌, ◌≤◌, ◌<◌, min}
 use native.Mathlib.Omega.{arith}
-use lib.Dec.{eqb}
+use Rattle.std.specs.Prelude.{Result, Ok}
 use lib.ListN.{length, take, drop, get_or, length-take}
 use lib.Seq.{get_or-take}
-use borrow.Author.Tests.{eq-eqb, ne_eqb, le-leb, lt-leb}
+use borrow.Author.Tests.{eq-eqb, le-leb, lt-leb}
 use Rattle.errors.specs.declared.ParseError.{ParseError}
 use Rattle.errors.specs.Refusals.{Reply, accepted, refused, must}
-use Rattle.party.specs.declared.PartyOption.{PartyOption}
-use Rattle.party.specs.Limits.{place_of}
 use Rattle.record_bytes.specs.RecordBytes.{record_size}
-use Rattle.page_reader.specs.declared.ReadOutcome.TheVariants.{Record, Refused}
-use Rattle.page_reader.specs.declared.index.LookOutcome.TheVariants.{Record as FoundRecord, Refused as FoundRefused}
-use Rattle.page_reader.specs.declared.index.LookOutcome.{LookOutcome}
-use Rattle.page_reader.specs.Pages.{page_most, past, Tagged, untagged, tagged, PageRead, read_tagged, read_field, text_in, read_case, read_at}
+use Rattle.page_reader.specs.declared.index.FieldRead.{FieldRead}
+use Rattle.page_reader.specs.declared.index.Place.{Place}
+use Rattle.page_reader.specs.Pages.{page_most, past, Tagged, tagged, PageRead, read_tagged, read_field, text_in, read_case, read_at}
 use Rattle.page_reader.specs.Reads.{Read, read_here}
-use Rattle.page_reader.specs.Index.{Entry, index_most, index_size, entries_in, entries_of, no_entry, Met, a_field, tagged_as, met_by, field_at, Looked, found, not_found, looking, is_there, entry_of, look_reply, look_up, look_lent, look_bytes, found_at, look_outline, told_looked}
+use Rattle.page_reader.specs.Index.{Entry, index_most, index_size, entries_in, entries_of, no_entry, Met, a_field, met_by, field_at, Looked, found, not_found, looking, is_there, entry_of, look_reply, look_up, look_lent, look_bytes, found_at, look_outline, told_body, told_looked}
 use Rattle.page_reader.specs.Code.{IsField}
-use Rattle.page_reader.proofs.Cases.{Tells, by_case}
+use Rattle.page_reader.proofs.Cases.{Leaves, by_case}
 
 -- ---- the entries that an index has
 in_length : (n : ℕ) (l : List ℕ) → length l ≡ 3 * n → length (entries_in l) ≡ n
@@ -68,26 +65,11 @@ entry_at (count ∷ l) (suc i) o h =
     cut : i < count → get_or (take count (entries_in l)) i no_entry ≡ get_or (entries_in l) i no_entry
     cut m = rw get_or-take
 
--- ---- whether an entry is what the page has
-module _ (at n tag len : ℕ) where
-  abbrev pub There : Tagged → Bool → Type 0
-  There t b = is_there (tagged_as t at n) (record { tag = tag; position = at; len = len }) ≡ b
-
-  pub other_length : (t : Tagged) → (n ≡ len → ⊥) → There t false
-  other_length untagged h = refl
-  other_length (tagged o body) h = rw (ne_eqb n len h) (and-false (eqb (place_of o) tag && eqb at at))
-
-  module _ (o : PartyOption) (body : List ℕ) where
-    pub other_tag : (place_of o ≡ tag → ⊥) → There (tagged o body) false
-    other_tag h = rw (ne_eqb (place_of o) tag h)
-
-    pub same_field : place_of o ≡ tag → n ≡ len → There (tagged o body) true
-    same_field h e = rw (eq-eqb (place_of o) tag h, eq-eqb at at refl, eq-eqb n len e)
-
+-- ---- what a lookup answers
+-- an entry that is what the page has
 itself : (e : Entry) → is_there (a_field e) e ≡ true
 itself e = rw (eq-eqb e.tag e.tag refl, eq-eqb e.position e.position refl, eq-eqb e.len e.len refl)
 
--- ---- what a lookup answers
 module _ (page index : List ℕ) (k : ℕ) where
   pub look_long : page_most < length page → look_up page index k ≡ not_found 18 0
   unfolding look_up
@@ -134,26 +116,19 @@ refusal_of_lem P page index k {i} {n} e h = go (look_reply page index k) e h
     go (refused j l) q h = let a : j ≡ i = cc in let b : l ≡ n = cc in subst P (λ x. refused (a x) (b x)) h
 
 -- its read, by its option
-pub field_read : (page : List ℕ) {o : PartyOption} {skip at to : ℕ} → IsField (read_case page at) page o skip at to → read_at page at ≡ read_tagged (tagged o (drop skip (text_in page at to))) (past page to)
+pub field_read : (page : List ℕ) {p : Place} → IsField (read_case page p.at) page p → read_at page p.at ≡ read_tagged (tagged p.option (drop p.skip (text_in page p.at p.to))) (past page p.to)
 unfolding read_field
-field_read page {at = at} {to = to} f = by_case page at f.case ∙ ap (λ (t : Tagged). read_tagged t (past page to)) f.option
+field_read page {p} f = by_case page p.at f.case ∙ ap (λ (t : Tagged). read_tagged t (past page p.to)) f.option
 
 -- ---- into lent bytes
-module _ (page index : List ℕ) (k : ℕ) (d : List ℕ) where
-  pub look_whole : record_size ≤ length d → look_lent page index k d ≡ look_up page index k
-  look_whole h = rw (le-leb record_size (length d) h)
-
-  pub look_short : length d < record_size → look_lent page index k d ≡ not_found 42 0
-  look_short h = rw (lt-leb record_size (length d) h)
+pub look_whole : (page index : List ℕ) (k : ℕ) (d : List ℕ) → record_size ≤ length d → look_lent page index k d ≡ look_up page index k
+look_whole page index k d h = rw (le-leb record_size (length d) h)
 
 -- what an answer of the code says of a lookup into lent bytes, which were d and are e
-abbrev pub Looks : LookOutcome → Looked → List ℕ → List ℕ → Type 0
+abbrev pub Looks : Result (FieldRead (Unit {0})) ParseError → Looked → List ℕ → List ℕ → Type 0
 Looks r x d e = (told_looked r ≡ look_outline x) × (e ≡ look_bytes x d)
 
--- of a field that was found, what the answer of a read says
-module _ (at next : ℕ) (x : PageRead) (d : List ℕ) {e : List ℕ} where
-  pub looks_record : Tells (record { outcome = Record; next = next }) x d e → Looks (FoundRecord at next) (found (record { at = at; gave = x })) d e
-  looks_record t = (ap (found_at at) t.0, t.1)
-
-  pub looks_refused : (w : ParseError) → Tells (record { outcome = Refused w; next = next }) x d e → Looks (FoundRefused w at next) (found (record { at = at; gave = x })) d e
-  looks_refused w t = (ap (found_at at) t.0, t.1)
+-- of a field that was found, what its read leaves
+pub looks_body : (at next : ℕ) (x : PageRead) (d : List ℕ) {e : List ℕ} (w : Result (Unit {0}) ParseError) → next ≡ x.next → Leaves (told_body w) x.outcome d e
+    → Looks (Ok (record { outcome = w; at = at; next = next })) (found (record { at = at; gave = x })) d e
+looks_body at next x d w n h = ((λ i. found_at at (record { kind = h.0 i; next = n i })), h.1)

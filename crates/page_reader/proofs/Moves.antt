@@ -4,7 +4,8 @@ use mathlib.Core.Bool.{Bool, true, false, false≢true}
 use mathlib.Core.List.{List}
 use Prim.Native.Nat.{ℕ, ◌+◌, ◌≤◌, ◌<◌}
 use native.Mathlib.Omega.{arith}
-use lib.Dec.{leb}
+use Rattle.std.proofs.lemmas.List.{get_or_past}
+use lib.Dec.{leb, eqb}
 use lib.ListN.{length, drop}
 use borrow.Author.Tests.{leb-true, leb-false}
 use mathlib.Core.Logic.{◌⊎◌, inl, inr, ⊎_elim}
@@ -14,7 +15,7 @@ use Rattle.reader.specs.Options.{read}
 use Rattle.page_reader.specs.declared.ReadCase.{ReadCase}
 use Rattle.page_reader.specs.declared.ReadCase.TheVariants.{TooLong, NoStart, AtLength, Opening, Ending, Stray}
 use Rattle.page_reader.specs.Pages.{page_most, line_at, opens, runs, past, Tagged, untagged, tagged, tag_in, ReadOutcome, the_end, a_refusal, PageRead, outcome_of, read_tagged, read_field, readable, text_in, read_case, read_by, read_at}
-use Rattle.page_reader.proofs.Cases.{opens_none, case_opening, Stands, by_case, ends_by, field_next}
+use Rattle.page_reader.proofs.Cases.{opens_by, case_opening, Stands, by_case, ends_by, field_next}
 
 module _ (page : List ℕ) (at : ℕ) where
   -- the read, by its case
@@ -77,7 +78,7 @@ read_part page at o body m r q e =
     (tagged_read (tag_in options (field_at page at)) o body _ e)
   where
     go : (t : Bool) → leb (length page) at ≡ t → at < length page
-    go true h = absurd (false≢true (sym (opens_none page at (leb-true (length page) at h)) ∙ q))
+    go true h = absurd (false≢true (sym (opens_by page at ∙ ap (λ (b : ℕ). eqb b 58) (get_or_past page at 0 (leb-true (length page) at h))) ∙ q))
     go false h = leb-false (length page) at h
 
 -- what holds of what every option reads, of a refusal with no line and of the end, holds of what every read gives

@@ -6,6 +6,7 @@ use Prim.Native.Nat.{ℕ, ◌+◌, ◌≤◌, ◌<◌}
 use native.Mathlib.Omega.{arith}
 use lib.Dec.{leb, eqb}
 use lib.ListN.{length, drop, get_or}
+use lib.Seq.{drop-cons}
 use borrow.Author.Tests.{eqb-true, eqb-false, leb-true, leb-false}
 use Rattle.errors.specs.Refusals.{Reply, accepted, refused}
 use Rattle.party.specs.declared.PartyOption.{PartyOption}
@@ -153,9 +154,9 @@ outcome≢end : (r : Reply) (p : Party) → outcome_of r p ≡ the_end → ⊥
 outcome≢end accepted p e = end≢record (sym e)
 outcome≢end (refused k n) p e = refusal≢end e
 
-tagged≢end : (t : Tagged) (next : ℕ) → (read_tagged t next).outcome ≡ the_end → ⊥
-tagged≢end untagged next e = refusal≢end e
-tagged≢end (tagged o body) next e = outcome≢end (read o body).reply (read o body).party e
+tagged≢end : (t : Tagged) (to : ℕ) → (read_tagged t to).outcome ≡ the_end → ⊥
+tagged≢end untagged to e = refusal≢end e
+tagged≢end (tagged o body) to e = outcome≢end (read o body).reply (read o body).party e
 
 module _ (page : List ℕ) (at : ℕ) (q : (read_at page at).outcome ≡ the_end) where
   ends : {x : ReadCase} → read_case page at ≡ x → (read_by x page at).outcome ≡ the_end
@@ -186,4 +187,6 @@ module _ (page : List ℕ) (at : ℕ) (q : (read_at page at).outcome ≡ the_end
     where
       go : (t : Bool) → eqb (get_or page at 0) 45 ≡ t → get_or page at 0 ≡ 45
       go true e = eqb-true (get_or page at 0) 45 e
-      go false e = absurd (false≢true (sym (ends_other page at end_gave.within (eqb-false (get_or page at 0) 45 e)) ∙ end_gave.line))
+      go false e =
+          let first = ap (λ (s : List ℕ). get_or s 0 0) (drop-cons page at 0 end_gave.within) in
+          absurd (false≢true (sym (ends_other (drop at page) (λ q. eqb-false (get_or page at 0) 45 e (sym first ∙ q))) ∙ end_gave.line))

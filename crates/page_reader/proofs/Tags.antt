@@ -5,17 +5,18 @@ use mathlib.Core.List.{List, [], ◌∷◌}
 use Prim.Native.Nat.{ℕ, suc, ◌+◌, ◌%◌, ◌≤◌, ◌<◌}
 use native.Mathlib.Numerals.{add-one}
 use native.Mathlib.Omega.{arith}
-use lib.Dec.{eqb}
+use Rattle.std.specs.Prelude.{Option, Some, None}
+use mathlib.Core.Logic.{◌⊎◌, inl, inr}
+use lib.Dec.{leb, eqb}
 use lib.ListN.{length, drop, get_or, drop_of_length-le}
 use lib.Seq.{drop-cons}
-use borrow.Author.Tests.{eqb-true, ne_eqb}
+use borrow.Author.Tests.{eqb-true, eqb-false, ne_eqb, leb-true, leb-false}
 use Rattle.party.specs.declared.PartyOption.{PartyOption}
 use Rattle.party.specs.declared.PartyOption.TheVariants.{Field50NoOption}
 use Rattle.party.specs.Limits.{limits_of, option_at, options}
 use Rattle.party.proofs.Options.{by_option}
 use Rattle.field_utils.specs.Tags.{tag_of}
 use Rattle.field_utils.proofs.Tests.{both_right}
-use Rattle.page_reader.specs.declared.Tag.TheVariants.{Unknown, Known}
 use Rattle.page_reader.specs.declared.Tag.{Tag}
 use Rattle.page_reader.specs.Pages.{begins, untagged, tagged, tag_in}
 use Rattle.page_reader.specs.Code.{told_tag, has_tag, known_in}
@@ -176,22 +177,22 @@ module _ (d c : ℕ) (n : c ≡ 58 → ⊥) where
 
 -- ---- the options from a place of the table on
 module _ (d letter skip place : ℕ) where
-  abbrev known_from : ℕ → Tag
+  abbrev known_from : ℕ → Option Tag
   known_from k = known_in (drop k options) d letter skip
 
-  one_more : {t : Bool} → place < length options → has_tag (option_at place) d letter ≡ t → known_from place ≡ (elim t [ true ↦ Known (option_at place) skip | false ↦ known_from (suc place) ])
+  one_more : {t : Bool} → place < length options → has_tag (option_at place) d letter ≡ t → known_from place ≡ (elim t [ true ↦ Some (record { option = option_at place; skip = skip }) | false ↦ known_from (suc place) ])
   unfolding option_at known_in
   one_more h e =
       ap (λ (os : List PartyOption). known_in os d letter skip) (drop-cons options place Field50NoOption h)
-      ∙ ap (λ (b : Bool). elim b as (λ x. Tag) [ true ↦ Known (option_at place) skip | false ↦ known_from (suc place) ]) e
+      ∙ ap (λ (b : Bool). elim b as (λ x. Option Tag) [ true ↦ Some (record { option = option_at place; skip = skip }) | false ↦ known_from (suc place) ]) e
 
-  pub known_here : place < length options → has_tag (option_at place) d letter ≡ true → known_from place ≡ Known (option_at place) skip
+  pub known_here : place < length options → has_tag (option_at place) d letter ≡ true → known_from place ≡ Some (record { option = option_at place; skip = skip })
   known_here h e = one_more h e
 
   pub known_next : place < length options → has_tag (option_at place) d letter ≡ false → known_from place ≡ known_from (place + 1)
   known_next h e = one_more h e ∙ ap known_from (sym (add-one place))
 
-  pub known_none : length options ≤ place → known_from place ≡ Unknown
+  pub known_none : length options ≤ place → known_from place ≡ None
   unfolding known_in
   known_none h = ap (λ (os : List PartyOption). known_in os d letter skip) (drop_of_length-le options {i = place} h)
 
@@ -241,3 +242,60 @@ module _ (text : List ℕ) (a : get_or text 0 0 ≡ 58) (b : get_or text 1 0 ≡
         at_letter z =
             subst (λ (t : List ℕ). told_tag t (known_in options (get_or text 2 0) (get_or text 3 0) 5) ≡ tag_in options t) (sym whole)
             (tag_letter (get_or text 2 0) (get_or text 3 0) n (drop 5 text) z)
+
+-- a text of a tag without a letter, and one of a tag with one
+pub record IsPlain (text : List ℕ) : Type 0 where
+  pub size : 4 ≤ length text
+  pub first : get_or text 0 0 ≡ 58
+  pub second : get_or text 1 0 ≡ 53
+  pub last : get_or text 3 0 ≡ 58
+  pub is : told_tag text (known_in options (get_or text 2 0) 0 4) ≡ tag_in options text
+
+pub record IsLettered (text : List ℕ) : Type 0 where
+  pub size : 5 ≤ length text
+  pub first : get_or text 0 0 ≡ 58
+  pub second : get_or text 1 0 ≡ 53
+  pub other : get_or text 3 0 ≡ 58 → ⊥
+  pub some : get_or text 3 0 ≡ 0 → ⊥
+  pub last : get_or text 4 0 ≡ 58
+  pub is : told_tag text (known_in options (get_or text 2 0) (get_or text 3 0) 5) ≡ tag_in options text
+
+abbrev Cases : List ℕ → Type 0
+Cases text = (tag_in options text ≡ untagged) ⊎ (IsPlain text ⊎ IsLettered text)
+
+module _ (text : List ℕ) (h : 4 ≤ length text) where
+  module _ (a : get_or text 0 0 ≡ 58) (b : get_or text 1 0 ≡ 53) where
+    module _ (n : get_or text 3 0 ≡ 58 → ⊥) where
+      by_letter : (k : 5 ≤ length text) (c : get_or text 4 0 ≡ 58) (t : Bool) → eqb (get_or text 3 0) 0 ≡ t → Cases text
+      by_letter k c true e = inl (at_zero text a b n k c (eqb-true (get_or text 3 0) 0 e))
+      by_letter k c false e =
+          let z = eqb-false (get_or text 3 0) 0 e in
+          inr (inr (record { size = k; first = a; second = b; other = n; some = z; last = c; is = at_letter text a b n k c z }))
+
+      by_fifth : (k : 5 ≤ length text) (t : Bool) → eqb (get_or text 4 0) 58 ≡ t → Cases text
+      by_fifth k true e = by_letter k (eqb-true (get_or text 4 0) 58 e) (eqb (get_or text 3 0) 0) refl
+      by_fifth k false e = inl (at_open text a b n k (eqb-false (get_or text 4 0) 58 e))
+
+      by_more : (t : Bool) → leb 5 (length text) ≡ t → Cases text
+      by_more true e = by_fifth (leb-true 5 (length text) e) (eqb (get_or text 4 0) 58) refl
+      by_more false e = inl (at_end text a b n h (leb-false 5 (length text) e))
+
+    by_fourth : (t : Bool) → eqb (get_or text 3 0) 58 ≡ t → Cases text
+    by_fourth true e = let c = eqb-true (get_or text 3 0) 58 e in inr (inl (record { size = h; first = a; second = b; last = c; is = at_plain text a b h c }))
+    by_fourth false e = by_more (eqb-false (get_or text 3 0) 58 e) (leb 5 (length text)) refl
+
+  by_second : (a : get_or text 0 0 ≡ 58) (t : Bool) → eqb (get_or text 1 0) 53 ≡ t → Cases text
+  by_second a true e = by_fourth a (eqb-true (get_or text 1 0) 53 e) (eqb (get_or text 3 0) 58) refl
+  by_second a false e = inl (at_second text h (eqb-false (get_or text 1 0) 53 e))
+
+  by_first : (t : Bool) → eqb (get_or text 0 0) 58 ≡ t → Cases text
+  by_first true e = by_second (eqb-true (get_or text 0 0) 58 e) (eqb (get_or text 1 0) 53) refl
+  by_first false e = inl (at_first text h (eqb-false (get_or text 0 0) 58 e))
+
+-- a text starts with no tag, or is one of these
+pub tag_cases : (text : List ℕ) → (tag_in options text ≡ untagged) ⊎ (IsPlain text ⊎ IsLettered text)
+tag_cases text = go (leb 4 (length text)) refl
+  where
+    go : (t : Bool) → leb 4 (length text) ≡ t → Cases text
+    go true e = by_first text (leb-true 4 (length text) e) (eqb (get_or text 0 0) 58) refl
+    go false e = inl (tag_short text (leb-false 4 (length text) e))

@@ -1,5 +1,6 @@
 -- The index beside a page, and looking a field up in it (document 02, Three).
-use Rattle.std.specs.Prelude.{ℕ, ◌+◌, ◌*◌, ◌-◌, Bool, false, ◌&&◌, List, [], ◌∷◌, leb, eqb, length, take, get_or}
+use Rattle.std.specs.Prelude.{ℕ, ◌+◌, ◌*◌, ◌-◌, Bool, false, ◌&&◌, List, [], ◌∷◌, Result, Ok, Err, leb, eqb, length, take, get_or}
+use Rattle.errors.specs.declared.ParseError.{ParseError}
 use Rattle.errors.specs.Refusals.{Reply, accepted, refused, must, ◌then◌, refusal_of}
 use Rattle.party.specs.declared.Party.{Party}
 use Rattle.party.specs.Limits.{options, place_of}
@@ -7,9 +8,8 @@ use Rattle.party.specs.Party.{blank}
 use Rattle.reader.specs.Reading.{room_reply}
 use Rattle.page_reader.specs.declared.ReadCase.{ReadCase}
 use Rattle.page_reader.specs.declared.ReadCase.TheVariants.{TooLong, NoStart, AtLength, Opening, Ending, Stray}
-use Rattle.page_reader.specs.declared.index.LookOutcome.{LookOutcome}
-use Rattle.page_reader.specs.declared.index.LookOutcome.TheVariants.{Record, Refused, NotFound}
-use Rattle.page_reader.specs.Pages.{page_most, Tagged, untagged, tagged, tag_in, text_in, read_case, read_bytes, party_beside, a_record_given, a_refusal_given, Outline, outline}
+use Rattle.page_reader.specs.declared.index.FieldRead.{FieldRead}
+use Rattle.page_reader.specs.Pages.{page_most, Tagged, untagged, tagged, tag_in, text_in, read_case, read_bytes, party_beside, Kind, a_record_given, Outline, outline, refusal_given}
 use Rattle.page_reader.specs.Reads.{Read, read_here, reads}
 
 -- ---- the index
@@ -150,8 +150,21 @@ abbrev pub look_outline : Looked → LookOutline
 look_outline (found r) = found_at r.at (outline r.gave)
 look_outline (not_found k n) = not_found_for k n
 
+-- what the code says of a field's body
+abbrev pub told_body : {T : Type 0} → Result T ParseError → Kind
+told_body (Ok t) = a_record_given
+told_body (Err e) = refusal_given e
+
 -- the code's answer
-abbrev pub told_looked : LookOutcome → LookOutline
-told_looked (Record at next) = found_at at (record { kind = a_record_given; next = next })
-told_looked (Refused e at next) = found_at at (record { kind = a_refusal_given (refusal_of e).number (refusal_of e).line; next = next })
-told_looked (NotFound e) = not_found_for (refusal_of e).number (refusal_of e).line
+abbrev pub told_looked : {T : Type 0} → Result (FieldRead T) ParseError → LookOutline
+told_looked (Ok f) = found_at f.at (record { kind = told_body f.outcome; next = f.next })
+told_looked (Err e) = not_found_for (refusal_of e).number (refusal_of e).line
+
+-- the record that an answer by value has, else the blank one
+abbrev pub party_or_blank : Result Party ParseError → Party
+party_or_blank (Ok p) = p
+party_or_blank (Err e) = blank
+
+abbrev pub told_found : Result (FieldRead Party) ParseError → Party
+told_found (Ok f) = party_or_blank f.outcome
+told_found (Err e) = blank

@@ -1,6 +1,7 @@
 -- Pages: lines, fields, and a read at a position (document 01, 'Pages (added)'; CR and `-}`, document 02, One). What follows a position is
 -- the rest of the page from there.
-use Rattle.std.specs.Prelude.{ℕ, zero, suc, ◌+◌, ◌-◌, min, Bool, true, false, ◌&&◌, ◌||◌, List, [], ◌∷◌, ltb, leb, eqb, length, take, drop, get_or}
+use Rattle.std.specs.Prelude.{ℕ, zero, suc, ◌+◌, ◌-◌, min, Bool, true, false, ◌&&◌, ◌||◌, List, [], ◌∷◌, Option, Some, None, Result, Ok, Err, ltb, leb, eqb, length, take, drop, get_or}
+use Rattle.errors.specs.declared.ParseError.{ParseError}
 use Rattle.errors.specs.Refusals.{Reply, accepted, refused, refusal_of}
 use Rattle.party.specs.declared.PartyOption.{PartyOption}
 use Rattle.party.specs.declared.Party.{Party}
@@ -13,10 +14,7 @@ use Rattle.record_bytes.specs.RecordBytes.{stored}
 use Rattle.reader.specs.Reading.{room_reply}
 use Rattle.reader.specs.Options.{read}
 use Rattle.page_reader.specs.declared.PageRead.{PageRead as ReadAt}
-use Rattle.page_reader.specs.declared.ReadInto.{ReadInto}
 use Rattle.page_reader.specs.declared.BodyPlace.{BodyPlace}
-use Rattle.page_reader.specs.declared.ReadOutcome.{ReadOutcome as OutcomeAt}
-use Rattle.page_reader.specs.declared.ReadOutcome.TheVariants.{Record, End, Refused}
 use Rattle.page_reader.specs.declared.ReadCase.{ReadCase}
 use Rattle.page_reader.specs.declared.ReadCase.TheVariants.{TooLong, NoStart, AtLength, Opening, Ending, Stray}
 
@@ -228,15 +226,25 @@ pub record Outline : Type 0 where
 abbrev pub outline : PageRead → Outline
 outline r = record { kind = kind_of r.outcome; next = r.next }
 
--- the code's outcome
-abbrev pub told_kind : OutcomeAt → Kind
-told_kind Record = a_record_given
-told_kind End = the_end_given
-told_kind (Refused e) = a_refusal_given (refusal_of e).number (refusal_of e).line
+-- the code's refusal
+abbrev pub refusal_given : ParseError → Kind
+refusal_given e = a_refusal_given (refusal_of e).number (refusal_of e).line
 
--- its answer to a read into lent bytes, and to one by value, which has the record beside it
-abbrev pub told_read_into : ReadInto → Outline
+-- the code's outcome
+abbrev pub told_kind : {T : Type 0} → Result (Option T) ParseError → Kind
+told_kind (Ok (Some t)) = a_record_given
+told_kind (Ok None) = the_end_given
+told_kind (Err e) = refusal_given e
+
+-- its answer to a read into lent bytes, and to one by value
+abbrev pub told_read_into : ReadAt (Unit {0}) → Outline
 told_read_into r = record { kind = told_kind r.outcome; next = r.next }
 
-abbrev pub told_read : ReadAt → Outline
+abbrev pub told_read : ReadAt Party → Outline
 told_read r = record { kind = told_kind r.outcome; next = r.next }
+
+-- the record that an outcome by value has, else the blank one
+abbrev pub told_party : Result (Option Party) ParseError → Party
+told_party (Ok (Some p)) = p
+told_party (Ok None) = blank
+told_party (Err e) = blank

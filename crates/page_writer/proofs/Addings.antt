@@ -203,7 +203,3 @@ line_puts d at f h {e} q =
     let first : Puts d at f e (at + length f) = record { bytes = q ∙ placed_fits d at f (omega arith); ends = refl } in
     let room : at + length (f ++ 10 ∷ []) ≤ length d = let n = length-append f (10 ∷ []) in omega arith in
     both f (10 ∷ []) first room (puts_byte e (at + length f) 10 (let k = space f (10 ∷ []) first room in omega arith))
-
--- an accepted call, by what was put
-pub put_filed : {d e : List ℕ} {at to : ℕ} {f : List ℕ} → Puts d at f e to → ◌≡◌ {A = Call} (record { answer = position_after to; buffer = e }) (putting accepted d at f)
-put_filed p = λ i. record { answer = position_after (p.ends i); buffer = p.bytes i }

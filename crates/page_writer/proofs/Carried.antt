@@ -2,20 +2,20 @@
 use mathlib.Core.Path.{◌≡◌, refl, sym, ◌∙◌, ap}
 use mathlib.Core.Bool.{Bool, true, false, not, ◌&&◌, ◌||◌, and-false}
 use mathlib.Core.List.{List, [], ◌∷◌}
-use Prim.Native.Nat.{ℕ, zero, suc, ◌+◌, ◌-◌, ◌≤◌, ◌<◌, min}
+use Prim.Native.Nat.{ℕ, zero, suc, ◌+◌, ◌-◌, ◌≤◌, ◌<◌}
 use native.Mathlib.Omega.{arith}
 use lib.Dec.{ltb, leb, eqb}
 use lib.ListN.{length, take, drop, get_or, length-drop}
 use lib.Seq.{drop-drop, take_all}
-use borrow.Author.Tests.{le-ltb, lt-ltb, leb-true, leb-false, le-leb, lt-leb}
-use Rattle.swift_utils.proofs.Parts.{part, part_none, part_at, part_length}
+use borrow.Author.Tests.{eq-eqb, ne_eqb, le-ltb, lt-ltb, leb-true, leb-false}
+use Rattle.swift_utils.proofs.Parts.{part}
 use Rattle.field_utils.specs.Lines.{upto, is_empty}
 use Rattle.writer.specs.Writing.{joined, pieces}
 use Rattle.writer.specs.ReadBack.{ends_cr, last_empty}
 use Rattle.writer.proofs.Relined.{cr_kept, pieces_joined}
-use Rattle.page_reader.specs.Pages.{page_most, line_at, has_lf, opens, is_end, ends_page, is_boundary}
+use Rattle.page_reader.specs.Pages.{line_at, has_lf, opens, is_end, ends_page, is_boundary}
 use Rattle.page_reader.proofs.Runs.{line_whole}
-use Rattle.page_writer.specs.Adding.{any_line, any_cr, any_boundary, later_boundary, lines_carried, writable, has_space}
+use Rattle.page_writer.specs.Adding.{any_line, any_cr, any_boundary, later_boundary, lines_carried}
 use Rattle.page_writer.proofs.Pieces.{pieces_last, pieces_lf, first}
 
 -- ---- 23's clauses on lines, one after the other
@@ -113,39 +113,13 @@ ends_byte (b ∷ []) (suc n) h = absurd (omega arith)
 ends_byte (b ∷ a ∷ l) zero h = absurd (omega arith)
 ends_byte (b ∷ a ∷ l) (suc n) h = ends_byte (a ∷ l) n (omega arith)
 
-module _ (body : List ℕ) (start end : ℕ) where
-  pub cr_none : end ≤ start → ends_cr (part start end body) ≡ false
-  unfolding ends_cr
-  cr_none h = rw (part_none start end body h)
+pub cr_empty : (l : List ℕ) → length l < 1 → ends_cr l ≡ false
+unfolding ends_cr
+cr_empty [] h = refl
+cr_empty (b ∷ l) h = absurd (omega arith)
 
-  pub cr_last : start < end → end ≤ length body → ends_cr (part start end body) ≡ eqb (get_or body (end - 1) 0) 13
-  cr_last h k =
-      let q : start + (end - start - 1) ≡ end - 1 = omega arith in
-      ends_byte (part start end body) (end - start - 1) (omega (arith, part_length start end body k))
-      ∙ ap (λ (b : ℕ). eqb b 13) (part_at start end body (end - start - 1) (omega arith) ∙ ap (λ (n : ℕ). get_or body n 0) q)
+pub cr_last : (l : List ℕ) → 1 ≤ length l → get_or l (length l - 1) 0 ≡ 13 → ends_cr l ≡ true
+cr_last l h e = ends_byte l (length l - 1) (omega (arith, h)) ∙ eq-eqb (get_or l (length l - 1) 0) 13 e
 
--- ---- positions to write at, and space
-module _ (buffer : List ℕ) where
-  pub writable_past : (at : ℕ) → length buffer < at → writable buffer at ≡ false
-  unfolding writable
-  writable_past at h = rw (lt-leb at (length buffer) h)
-
-  pub writable_zero : (at : ℕ) → at ≡ 0 → writable buffer at ≡ true
-  unfolding writable
-  writable_zero zero e = rw (le-leb 0 (length buffer) (omega arith))
-  writable_zero (suc at) e = absurd (omega arith)
-
-  pub writable_lf : (at : ℕ) → at ≤ length buffer → (at ≡ 0 → ⊥) → writable buffer at ≡ eqb (get_or buffer (at - 1) 0) 10
-  unfolding writable
-  writable_lf zero h z = absurd (z refl)
-  writable_lf (suc at) h z = let e : suc at - 1 ≡ at = omega arith in rw (e, le-leb (suc at) (length buffer) h)
-
-pub space_not : (len at more : ℕ) → min len page_most < at → has_space len (at + more) ≡ false
-space_not len at more h = lt-leb (at + more) (min len page_most) (omega arith)
-
-pub space_left : (most at more : ℕ) → at ≤ most → leb more (most - at) ≡ leb (at + more) most
-space_left most at more h = go (leb (at + more) most) refl
-  where
-    go : (t : Bool) → leb (at + more) most ≡ t → leb more (most - at) ≡ leb (at + more) most
-    go true e = rw e (le-leb more (most - at) (omega (arith, leb-true (at + more) most e)))
-    go false e = rw e (lt-leb more (most - at) (omega (arith, leb-false (at + more) most e)))
+pub cr_none : (l : List ℕ) → 1 ≤ length l → (get_or l (length l - 1) 0 ≡ 13 → ⊥) → ends_cr l ≡ false
+cr_none l h n = ends_byte l (length l - 1) (omega (arith, h)) ∙ ne_eqb (get_or l (length l - 1) 0) 13 n

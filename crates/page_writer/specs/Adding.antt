@@ -1,5 +1,6 @@
 -- Adding to a page and closing it (document 01, 'Pages (added)' and 'From the state'; an index beside it, document 02, Three).
-use Rattle.std.specs.Prelude.{ℕ, suc, ◌+◌, min, Bool, true, false, not, ◌&&◌, ◌||◌, List, [], ◌∷◌, ◌++◌, leb, length}
+use Rattle.std.specs.Prelude.{ℕ, suc, ◌+◌, min, Bool, true, false, not, ◌&&◌, ◌||◌, List, [], ◌∷◌, ◌++◌, Result, Ok, Err, leb, length}
+use Rattle.errors.specs.declared.ParseError.{ParseError}
 use Rattle.errors.specs.Refusals.{Reply, accepted, refused, must, ◌then◌, refusal_of}
 use Rattle.party.specs.Party.{Content}
 use Rattle.party.specs.Limits.{place_of}
@@ -10,8 +11,6 @@ use Rattle.writer.specs.ReadBack.{ends_cr, last_empty}
 use Rattle.page_reader.specs.Pages.{page_most, is_boundary, starts_line}
 use Rattle.page_reader.specs.Index.{Entry}
 use Rattle.page_writer.specs.IndexState.{IndexState, is_indexed, entries_kept, is_free, noting}
-use Rattle.page_writer.specs.declared.Filed.{Filed as FiledAt}
-use Rattle.page_writer.specs.declared.Filed.TheVariants.{Position, Refused}
 
 -- a line, any of them, is such
 unfoldable pub any_line : (List ℕ → Bool) → List (List ℕ) → Bool
@@ -121,10 +120,10 @@ unfoldable pub close : List ℕ → ℕ → Call
 close buffer at = putting (must (writable buffer at) 21 0 then must (has_space (length buffer) (at + 2)) 24 0) buffer at end_line
 
 -- what the code's answer says
-abbrev pub told_filed : FiledAt → Filed
-told_filed (Position n) = position_after n
-told_filed (Refused e) = refusal (refusal_of e).number (refusal_of e).line
+abbrev pub told_filed : Result ℕ ParseError → Filed
+told_filed (Ok n) = position_after n
+told_filed (Err e) = refusal (refusal_of e).number (refusal_of e).line
 
 -- with the buffer that it left
-abbrev pub told_call : FiledAt → List ℕ → Call
+abbrev pub told_call : Result ℕ ParseError → List ℕ → Call
 told_call r buffer = record { answer = told_filed r; buffer = buffer }

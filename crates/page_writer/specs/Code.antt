@@ -1,12 +1,12 @@
 -- The working forms of the private functions of page_writer.
-use Rattle.std.specs.Prelude.{ℕ, ◌+◌, ◌≤◌, ◌<◌, ◌≡◌, Bool, List, length, take, drop}
+use Rattle.std.specs.Prelude.{ℕ, ◌+◌, ◌≤◌, ◌<◌, ◌≡◌, Bool, List, Result, Ok, Err, length, take, drop}
+use Rattle.errors.specs.declared.ParseError.{ParseError}
 use Rattle.errors.specs.Refusals.{Reply, must, ◌then◌, refusal_of}
 use Rattle.party.specs.Party.{Content}
 use Rattle.writer.specs.Writing.{pieces, field_most}
 use Rattle.page_reader.specs.Pages.{page_most}
 use Rattle.page_reader.specs.Index.{index_most, index_size, entries_of}
 use Rattle.page_writer.specs.declared.Rendered.{Rendered}
-use Rattle.page_writer.specs.declared.Rendered.TheVariants.{Field, Refused}
 use Rattle.page_writer.specs.IndexState.{IndexState}
 use Rattle.page_writer.specs.Adding.{lines_carried, has_space, with_lf, refusal, Call, putting, has_free_entry, add}
 
@@ -24,17 +24,17 @@ field_call buffer at field start free =
     putting (must (lines_carried (pieces (drop start field))) 23 0 then line_reply (length buffer) at field 2 free) buffer at (with_lf field)
 
 -- what is rendered of a record, put at a position, or its refusal
-abbrev pub rendered_call : List ℕ → ℕ → Rendered → List ℕ → Bool → Call
-rendered_call buffer at (Field n start) room free = field_call buffer at (take n room) start free
-rendered_call buffer at (Refused e) room free = record { answer = refusal (refusal_of e).number (refusal_of e).line; buffer = buffer }
+abbrev pub rendered_call : List ℕ → ℕ → Result Rendered ParseError → List ℕ → Bool → Call
+rendered_call buffer at (Ok r) room free = field_call buffer at (take r.len room) r.start free
+rendered_call buffer at (Err e) room free = record { answer = refusal (refusal_of e).number (refusal_of e).line; buffer = buffer }
 
 -- a field that is rendered is a part of the room, and its body a part of it
-abbrev pub Fits : Rendered → List ℕ → Type 0
-Fits (Field n start) room = (start ≤ n) × (n ≤ length room) × (n ≤ field_most)
-Fits (Refused e) room = Unit {0}
+abbrev pub Fits : Result Rendered ParseError → List ℕ → Type 0
+Fits (Ok r) room = (r.start ≤ r.len) × (r.len ≤ length room) × (r.len ≤ field_most)
+Fits (Err e) room = Unit {0}
 
 -- filing what is rendered gives what adding the record gives
-pub record Holds (buffer : List ℕ) (at : ℕ) (s : Content) (rendered : Rendered) (room : List ℕ) : Type 0 where
+pub record Holds (buffer : List ℕ) (at : ℕ) (s : Content) (rendered : Result Rendered ParseError) (room : List ℕ) : Type 0 where
   pub fits : Fits rendered room
   pub adds : (b : IndexState) → rendered_call buffer at rendered room (has_free_entry b) ≡ add buffer at b s
 

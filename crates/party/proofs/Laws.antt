@@ -10,6 +10,12 @@ use borrow.Author.Tests.{lt-ltb}
 use lib.ListN.{length, get_or, take, set, replicate, length-append, length-take}
 use lib.Seq.{take-suc, take_all, take-take, get_or-take, set_at, append_snoc, length-take-le}
 use Rattle.party.specs.declared.Text.{Text}
+use Rattle.std.specs.Bool.{Decides as DecidesBy}
+use Rattle.std.specs.Cmp.Lexicographic.{pointwise}
+use Rattle.std.proofs.lemmas.Bool.Decides.{Decides-eqb}
+use Rattle.std.proofs.lemmas.Slice.Eq.{slice_eq-Decides}
+use Rattle.std.proofs.lemmas.List.{take_min as take_to}
+use lib.Dec.{eqb}
 use Rattle.party.specs.Decides.{Decides}
 use Rattle.party.specs.Text.{padded, text_of, Used, used, text_most}
 use Rattle.party.specs.Party.{where_limit}
@@ -20,6 +26,17 @@ holds p = record { yes = λ e. p; no = λ e. absurd (false≢true (sym e)) }
 
 pub fails : {P : Type 0} → (P → ⊥) → Decides false P
 fails n = record { yes = λ e. absurd (false≢true e); no = λ e. n }
+
+-- a test that decides as the library says it
+pub decides_so : {b : Bool} {P : Type 0} → DecidesBy b P → Decides b P
+decides_so d = record { yes = d.0; no = λ e p. false≢true (sym e ∙ d.1 p) }
+
+-- whether two lists are the same up to a place, or to their end where that is before it
+pub decides_taken : {b : Bool} (l m : List ℕ) (n most i : ℕ) → length l ≡ most → length m ≡ most → i ≡ min n most → b ≡ pointwise eqb (take i l) (take i m) → Decides b (take n l ≡ take n m)
+decides_taken l m n most i h k e t =
+    let left : take i l ≡ take n l = rw (e, ← h) (take_to n l) in
+    let right : take i m ≡ take n m = rw (e, ← k) (take_to n m) in
+    decides_so (rw (← left, ← right) (slice_eq-Decides Decides-eqb (take i l) (take i m) _ t))
 
 pub decides_as : {b : Bool} {P Q : Type 0} → (P → Q) → (Q → P) → Decides b P → Decides b Q
 decides_as f g d = record { yes = λ e. f (d.yes e); no = λ e q. d.no e (g q) }

@@ -9,7 +9,7 @@ ghost use Rattle.party.specs.Party.{blank as blank_party, where_limit, names_of,
 ghost use Rattle.party.specs.Decides.{Decides};
 
 // The eleven options, under the names of the Rust's structs.
-#[derive(Clone, Copy)]
+#[derive(Clone, Copy, Debug, PartialEq, Eq)]
 pub enum PartyOption {
     Field50NoOption,
     Field50A,
@@ -48,7 +48,7 @@ pub struct Party {
 }
 
 // A part of a body: where it starts, and its length.
-#[derive(Clone, Copy)]
+#[derive(Clone, Copy, Debug, PartialEq, Eq)]
 pub struct Part {
     pub start: usize,
     pub len: usize,
@@ -58,7 +58,7 @@ pub struct Part {
 pub const NO_PART: Part = Part { start: 0, len: 0 };
 
 // A party by the parts of a body that its texts are; the small fields stand last, so that it is copied without gaps.
-#[derive(Clone, Copy)]
+#[derive(Clone, Copy, Debug, PartialEq, Eq)]
 pub struct Parts {
     pub account: Part,
     pub bic: Part,
@@ -70,7 +70,7 @@ pub struct Parts {
 }
 
 // What a body is to an option: a BIC, a text, or lines.
-#[derive(Clone, Copy)]
+#[derive(Clone, Copy, Debug, PartialEq, Eq)]
 pub enum Layout {
     BicOnly,
     TextOnly,
@@ -78,7 +78,7 @@ pub enum Layout {
 }
 
 // What the first line is to an option: no account or identifier, an identifier, or an account, whose forms differ.
-#[derive(Clone, Copy)]
+#[derive(Clone, Copy, Debug, PartialEq, Eq)]
 pub enum First {
     NoAccount,
     Identified,
@@ -90,7 +90,7 @@ pub enum First {
 }
 
 // How the lines of names are numbered: not at all, with any digits, or in turn.
-#[derive(Clone, Copy)]
+#[derive(Clone, Copy, Debug, PartialEq, Eq)]
 pub enum Numbering {
     Unnumbered,
     Numbered,
@@ -98,7 +98,7 @@ pub enum Numbering {
 }
 
 // All that is said of an option: a row of the table.
-#[derive(Clone, Copy)]
+#[derive(Clone, Copy, Debug, PartialEq, Eq)]
 pub struct Limits {
     // the tag: its field, 50 or 59, and its letter, 0 for none
     pub field: u8,
@@ -122,7 +122,7 @@ pub struct Limits {
     pub numbering: Numbering,
 }
 
-const LIMITS: [Limits; 11] = [
+static LIMITS: [Limits; OPTION_COUNT] = [
     // Field50NoOption
     Limits {
         field: 50,
@@ -311,26 +311,14 @@ pub const NOTHING: Text = Text {
 pub fn index_of(option: PartyOption) -> usize
     ensures { result ≡ place_of option }
 {
-    match option {
-        PartyOption::Field50NoOption => 0,
-        PartyOption::Field50A => 1,
-        PartyOption::Field50F => 2,
-        PartyOption::Field50K => 3,
-        PartyOption::Field50C => 4,
-        PartyOption::Field50L => 5,
-        PartyOption::Field50G => 6,
-        PartyOption::Field50H => 7,
-        PartyOption::Field59NoOption => 8,
-        PartyOption::Field59A => 9,
-        PartyOption::Field59F => 10,
-    }
+    option as usize
 }
 
 // How many options there are.
 pub const OPTION_COUNT: usize = 11;
 
 // The options in the order of the table.
-const OPTIONS: [PartyOption; OPTION_COUNT] = [
+static OPTIONS: [PartyOption; OPTION_COUNT] = [
     PartyOption::Field50NoOption,
     PartyOption::Field50A,
     PartyOption::Field50F,
@@ -348,61 +336,36 @@ const OPTIONS: [PartyOption; OPTION_COUNT] = [
 pub fn option_at(place: usize) -> PartyOption
     ensures { result ≡ option_at place }
 {
-    let options = OPTIONS;
-    if place < 11 {
-        options[place]
-    } else {
-        options[0]
+    match OPTIONS.get(place) {
+        Some(option) => *option,
+        None => PartyOption::Field50NoOption,
     }
 }
 
-// The option's limits. Each arm names its row: at an index that is computed, the whole table would be written out at each call.
-pub fn limits_of(option: PartyOption) -> Limits
-    ensures { result ≡ limits_of option }
+// The option's limits.
+pub fn limits_of(option: PartyOption) -> &'static Limits
+    ensures { result.now ≡ limits_of option }
 {
-    let table = LIMITS;
-    match option {
-        PartyOption::Field50NoOption => table[0],
-        PartyOption::Field50A => table[1],
-        PartyOption::Field50F => table[2],
-        PartyOption::Field50K => table[3],
-        PartyOption::Field50C => table[4],
-        PartyOption::Field50L => table[5],
-        PartyOption::Field50G => table[6],
-        PartyOption::Field50H => table[7],
-        PartyOption::Field59NoOption => table[8],
-        PartyOption::Field59A => table[9],
-        PartyOption::Field59F => table[10],
-    }
+    &LIMITS[index_of(option)]
 }
 
 // The text of the first 38 bytes of a slice, with the bytes after it zero.
 pub fn text_of(s: &[u8]) -> Text
     ensures { result ≡ text_of s.now }
 {
+    let len = s.len().min(TEXT_MOST);
     let mut bytes = [0u8; TEXT_MOST];
-    let mut i = 0;
-    while i < TEXT_MOST && i < s.len() {
-        bytes[i] = s[i];
-        i += 1;
-    }
-    Text { bytes, len: i }
+    bytes[..len].copy_from_slice(&s[..len]);
+    Text { bytes, len }
 }
 
 // The bytes of a part, those that the body has.
 pub fn part_of(body: &[u8], part: Part) -> &[u8]
     ensures { result.now ≡ part_in body.now part }
 {
-    let start = part.start;
-    let len = part.len;
-    if body.len() <= start {
-        return &body[..0];
-    }
-    if body.len() - start < len {
-        return &body[start..];
-    }
-    let end = start + len;
-    &body[start..end]
+    let start = part.start.min(body.len());
+    let len = part.len.min(body.len() - start);
+    &body[start..start + len]
 }
 
 // The blank record: what stands beside a refusal, and beside a page's end.
@@ -421,71 +384,45 @@ pub fn blank() -> Party
 }
 
 // Whether two texts hold the same.
-fn same_text(t: Text, u: Text) -> bool
-    ensures { Decides result (used t ≡ used u) }
+fn same_text(t: &Text, u: &Text) -> bool
+    ensures { Decides result (used t.now ≡ used u.now) }
 {
     if t.len != u.len {
         return false;
     }
-    let len = t.len;
-    let mut i = 0;
-    while i < TEXT_MOST && i < len {
-        if t.bytes[i] != u.bytes[i] {
-            return false;
-        }
-        i += 1;
-    }
-    true
+    let len = t.len.min(TEXT_MOST);
+    t.bytes[..len] == u.bytes[..len]
 }
 
 // Whether the texts of an option hold the same, where its limit for them is not 0.
-fn same_where(limit: usize, t: Text, u: Text) -> bool
-    ensures { Decides result (where_limit limit (used t ∷ []) ≡ where_limit limit (used u ∷ [])) }
+fn same_where(limit: usize, t: &Text, u: &Text) -> bool
+    ensures { Decides result (where_limit limit (used t.now ∷ []) ≡ where_limit limit (used u.now ∷ [])) }
 {
-    if limit == 0 {
-        return true;
-    }
-    same_text(t, u)
+    limit == 0 || same_text(t, u)
 }
 
 // Whether the first names of two records hold the same, as many as count says.
-fn same_names(p: Party, q: Party, count: usize) -> bool
-    ensures { Decides result (names_of count p ≡ names_of count q) }
+fn same_names(p: &Party, q: &Party, count: usize) -> bool
+    ensures { Decides result (names_of count p.now ≡ names_of count q.now) }
 {
-    let mut i = 0;
-    while i < 4 && i < count {
-        let t = p.name_and_address[i];
-        let u = q.name_and_address[i];
-        if !same_text(t, u) {
+    for i in 0..count.min(4) {
+        if !same_text(&p.name_and_address[i], &q.name_and_address[i]) {
             return false;
         }
-        i += 1;
     }
     true
 }
 
-// Whether the first digits of two records are the same, as many as count says.
-fn same_digits(p: Party, q: Party, count: usize) -> bool
-    ensures { Decides result (take count p.digits ≡ take count q.digits) }
-{
-    let mut i = 0;
-    while i < 4 && i < count {
-        if p.digits[i] != q.digits[i] {
-            return false;
-        }
-        i += 1;
-    }
-    true
-}
-
-// Whether they are, where the option has digits beside its texts.
-fn same_numbers(numbering: Numbering, p: Party, q: Party, count: usize) -> bool
-    ensures { Decides result (where_numbered numbering (take count p.digits) ≡ where_numbered numbering (take count q.digits)) }
+// Whether their first digits are the same, where the option has digits beside its texts.
+fn same_numbers(numbering: Numbering, p: &Party, q: &Party, count: usize) -> bool
+    ensures { Decides result (where_numbered numbering (take count p.now.digits) ≡ where_numbered numbering (take count q.now.digits)) }
 {
     match numbering {
-        Numbering::Unnumbered => true,
-        Numbering::Numbered => same_digits(p, q, count),
-        Numbering::InTurn => true,
+        Numbering::Numbered => {
+            let n = count.min(4);
+            p.digits[..n] == q.digits[..n]
+        }
+        Numbering::Unnumbered | Numbering::InTurn => true,
     }
 }
 
@@ -493,38 +430,27 @@ fn same_numbers(numbering: Numbering, p: Party, q: Party, count: usize) -> bool
 pub fn same(p: Party, q: Party) -> bool
     ensures { Decides result (Same p q) }
 {
-    let option = p.option;
-    let other_option = q.option;
-    if index_of(option) != index_of(other_option) {
+    if p.option != q.option {
         return false;
     }
-    let present = p.present;
-    let other_present = q.present;
-    if present != other_present {
+    if p.present != q.present {
         return false;
     }
-    let count = p.count;
-    let other_count = q.count;
-    if count != other_count {
+    if p.count != q.count {
         return false;
     }
-    let limits = limits_of(option);
-    let account = p.account;
-    let other_account = q.account;
-    if !same_where(limits.account_max, account, other_account) {
+    let limits = limits_of(p.option);
+    if !same_where(limits.account_max, &p.account, &q.account) {
         return false;
     }
-    let bic = p.bic;
-    let other_bic = q.bic;
-    if !same_where(limits.bic_count, bic, other_bic) {
+    if !same_where(limits.bic_count, &p.bic, &q.bic) {
         return false;
     }
-    let numbering = limits.numbering;
-    if !same_numbers(numbering, p, q, count) {
+    if !same_numbers(limits.numbering, &p, &q, p.count) {
         return false;
     }
     if limits.max_names == 0 {
         return true;
     }
-    same_names(p, q, count)
+    same_names(&p, &q, p.count)
 }

@@ -1,128 +1,78 @@
 -- The cases of the profile's rules, as the code meets them. Assumes nothing.
 use mathlib.Core.Path.{◌≡◌, refl, sym, ◌∙◌, ap}
-use mathlib.Core.Bool.{Bool, true, false, not, ◌&&◌, ◌||◌, and-false, and-true, or-true, true≢false}
+use mathlib.Core.Bool.{Bool, true, false, not, ◌&&◌, ◌||◌, and-false}
 use mathlib.Core.List.{List, [], ◌∷◌}
-use Prim.Native.Nat.{ℕ, suc, ◌+◌, ◌≤◌, ◌<◌}
-use native.Mathlib.Numerals.{add-one}
+use Prim.Native.Nat.{ℕ, suc}
 use native.Mathlib.Omega.{arith}
 use lib.Dec.{eqb}
-use lib.ListN.{length, drop, get_or, drop_of_length-le}
-use lib.Seq.{drop-cons}
-use borrow.Author.Tests.{eq-eqb, ne_eqb, lt-ltb, le-ltb, not-true}
+use lib.ListN.{length, get_or}
+use borrow.Author.Tests.{ne_eqb, not-true}
 use Rattle.errors.specs.Refusals.{Reply, accepted, refused, must}
 use Rattle.errors.proofs.Replies.{must_held, then_first, then_second}
 use Rattle.party.specs.declared.Party.{Party}
-use Rattle.party.specs.Limits.{limits_of}
-use Rattle.party.specs.Text.{used}
-use Rattle.swift_utils.specs.Bytes.{all, small, narrow}
+use Rattle.swift_utils.specs.Bytes.{small, narrow}
+use Rattle.swift_utils.specs.Classes.{in_classes}
+use Rattle.swift_utils.proofs.Classes.{class_narrow, class_small}
+use Rattle.std.specs.Cmp.Lexicographic.{pointwise}
+use Rattle.std.specs.List.{list_all}
 use Rattle.field_utils.specs.Lines.{starts, is_empty}
-use Rattle.field_utils.specs.Trim.{trimmed}
 use Rattle.field_utils.proofs.Tests.{both_left, both_right}
 use Rattle.reader.specs.Reading.{Reading, giving}
 use Rattle.reader.specs.Choices.{refusing}
 use Rattle.profile.specs.Profile.{is_same, holds_bic, is_narrow, is_capital, is_opening, is_inside, lines_reply, profile_reply, profiled}
 
--- ---- two lists compared byte by byte
-pub same_length : (l m : List ℕ) → is_same l m ≡ true → length l ≡ length m
+-- ---- two lists compared byte by byte, as `==` compares them
+pub same_pointwise : (l m : List ℕ) → pointwise eqb l m ≡ is_same l m
 unfolding is_same
-same_length [] [] e = refl
-same_length [] (b ∷ m) e = absurd (true≢false (sym e))
-same_length (a ∷ l) [] e = absurd (true≢false (sym e))
-same_length (a ∷ l) (b ∷ m) e = ap suc (same_length l m (both_right (eqb a b) (is_same l m) e))
-
-module _ (l m : List ℕ) where
-  -- they have not the same length
-  pub same_none : (length l ≡ length m → ⊥) → is_same l m ≡ false
-  same_none h = go (is_same l m) refl
-    where
-      go : (t : Bool) → is_same l m ≡ t → t ≡ false
-      go true e = absurd (h (same_length l m e))
-      go false e = refl
-
-  module _ (i : ℕ) (h : i < length l) (k : i < length m) where
-    -- a byte differs, or is the same
-    pub same_not : (get_or l i 0 ≡ get_or m i 0 → ⊥) → is_same (drop i l) (drop i m) ≡ false
-    unfolding is_same
-    same_not d = rw (drop-cons l i 0 h, drop-cons m i 0 k, ne_eqb _ _ d)
-
-    pub same_here : get_or l i 0 ≡ get_or m i 0 → is_same (drop i l) (drop i m) ≡ is_same (drop (i + 1) l) (drop (i + 1) m)
-    unfolding is_same
-    same_here e = rw (drop-cons l i 0 h, drop-cons m i 0 k, eq-eqb _ _ e, add-one)
-
-  -- all are compared
-  pub same_all : (i : ℕ) → length l ≤ i → length m ≤ i → is_same (drop i l) (drop i m) ≡ true
-  unfolding is_same
-  same_all i h k = rw (drop_of_length-le l h, drop_of_length-le m k)
-
--- ---- the BIC of a record, where its option has none and where it has one
-module _ (p : Party) (l : List ℕ) where
-  pub holds_none : (limits_of p.option).bic_count ≡ 0 → holds_bic p l ≡ false
-  unfolding holds_bic
-  holds_none e = rw (le-ltb 0 (limits_of p.option).bic_count (omega (arith, e)))
-
-  pub holds_some : ((limits_of p.option).bic_count ≡ 0 → ⊥) → holds_bic p l ≡ is_same (trimmed l) (used p.bic).bytes
-  unfolding holds_bic
-  holds_some h = rw (lt-ltb 0 (limits_of p.option).bic_count (omega (arith, h)))
+same_pointwise [] [] = refl
+same_pointwise [] (b ∷ m) = refl
+same_pointwise (a ∷ l) [] = refl
+same_pointwise (a ∷ l) (b ∷ m) = ap (λ (t : Bool). eqb a b && t) (same_pointwise l m)
 
 -- ---- the bytes of a line
 -- what is asked of each, where it is said whether the line holds the BIC
 abbrev pub byte_inside : Bool → ℕ → Bool
-byte_inside holds b = narrow b && (not holds || not (small b))
+byte_inside holds b = in_classes 4 b && not (holds && in_classes 64 b)
 
 shuffle : (a b x y : Bool) → ((a && b) && (x && y)) ≡ ((a && x) && (b && y))
 shuffle true true x y = refl
 shuffle true false x y = sym (and-false x)
 shuffle false b x y = refl
 
-all_both : (f g : ℕ → Bool) (l : List ℕ) → all (λ (b : ℕ). f b && g b) l ≡ (all f l && all g l)
-all_both f g [] = refl
-all_both f g (b ∷ l) = rw (all_both f g l) (shuffle (f b) (g b) (all f l) (all g l))
+capital_more : (holds : Bool) (b : ℕ) (l : List ℕ) → (not (holds && small b) && is_capital holds l) ≡ is_capital holds (b ∷ l)
+capital_more true b l = refl
+capital_more false b l = refl
 
-capital_all : (holds : Bool) (l : List ℕ) → all (λ (b : ℕ). not holds || not (small b)) l ≡ is_capital holds l
-capital_all true l = refl
-capital_all false [] = refl
-capital_all false (b ∷ l) = capital_all false l
+pub bytes_inside : (holds : Bool) (l : List ℕ) → list_all (byte_inside holds) l ≡ (is_narrow l && is_capital holds l)
+bytes_inside true [] = refl
+bytes_inside false [] = refl
+bytes_inside holds (b ∷ l) =
+    rw (class_narrow b, class_small b, bytes_inside holds l)
+    (shuffle (narrow b) (not (holds && small b)) (is_narrow l) (is_capital holds l) ∙ ap (λ (t : Bool). is_narrow (b ∷ l) && t) (capital_more holds b l))
 
-pub bytes_inside : (holds : Bool) (l : List ℕ) → all (byte_inside holds) l ≡ (is_narrow l && is_capital holds l)
-bytes_inside holds l = all_both narrow (λ (b : ℕ). not holds || not (small b)) l ∙ ap (λ (t : Bool). is_narrow l && t) (capital_all holds l)
-
--- ---- how a line starts
-module _ (n : ℕ) where
-  pub opening_none : (l : List ℕ) → length l ≡ 0 → is_opening n l ≡ true
-  unfolding starts
-  opening_none [] e = or-true (eqb n 1)
-  opening_none (b ∷ l) e = absurd (omega arith)
-
-  pub opening_by : (l : List ℕ) → (n ≡ 1 → ⊥) → (length l ≡ 0 → ⊥) → is_opening n l ≡ not (eqb (get_or l 0 0) 58 || eqb (get_or l 0 0) 45)
-  unfolding starts
-  opening_by [] h k = absurd (k refl)
-  opening_by (b ∷ l) h k = rw (ne_eqb n 1 h)
+-- ---- how a line starts, after the first
+pub opening_by : (n : ℕ) (l : List ℕ) → (n ≡ 1 → ⊥) → is_opening n l ≡ not (eqb (get_or l 0 0) 58 || eqb (get_or l 0 0) 45)
+unfolding starts
+opening_by n [] h = rw (ne_eqb n 1 h)
+opening_by n (b ∷ l) h = rw (ne_eqb n 1 h)
 
 -- ---- a line
-pub empty_none : (l : List ℕ) → length l ≡ 0 → is_empty l ≡ true
-empty_none [] e = refl
-empty_none (b ∷ l) e = absurd (omega arith)
+empty_is : (l : List ℕ) → is_empty l ≡ eqb (length l) 0
+empty_is [] = refl
+empty_is (b ∷ l) = sym (ne_eqb (suc (length l)) 0 (λ e. omega arith))
 
-pub empty_some : (l : List ℕ) → (length l ≡ 0 → ⊥) → is_empty l ≡ false
-empty_some [] h = absurd (h refl)
-empty_some (b ∷ l) h = refl
+turned : (x a e o : Bool) → (((x && a) && e) && o) ≡ (((a && e) && o) && x)
+turned true true true true = refl
+turned true true true false = refl
+turned true true false o = refl
+turned true false e o = refl
+turned false a e o = sym (and-false ((a && e) && o))
 
-module _ (n : ℕ) (after holds : Bool) (l : List ℕ) where
-  pub inside_after : after ≡ true → is_inside n after holds l ≡ false
-  unfolding is_inside
-  inside_after e = rw (e, and-false (is_narrow l && is_capital holds l))
-
-  pub inside_empty : is_empty l ≡ true → is_inside n after holds l ≡ false
-  unfolding is_inside
-  inside_empty e = rw (e, and-false (is_narrow l && is_capital holds l && not after))
-
-  pub inside_opening : is_opening n l ≡ false → is_inside n after holds l ≡ false
-  unfolding is_inside
-  inside_opening e = rw (e, and-false (is_narrow l && is_capital holds l && not after && not (is_empty l)))
-
-  pub inside_bytes : after ≡ false → is_empty l ≡ false → is_opening n l ≡ true → is_inside n after holds l ≡ (is_narrow l && is_capital holds l)
-  unfolding is_inside
-  inside_bytes a e o = rw (a, e, o) (and-true (is_narrow l && is_capital holds l && true && true) ∙ and-true (is_narrow l && is_capital holds l && true) ∙ and-true (is_narrow l && is_capital holds l))
+-- the tests that need no look at the bytes, then the bytes
+pub inside_is : (n : ℕ) (after holds : Bool) (l : List ℕ)
+    → is_inside n after holds l ≡ (((not after && not (eqb (length l) 0)) && is_opening n l) && (is_narrow l && is_capital holds l))
+unfolding is_inside
+inside_is n after holds l = rw (empty_is l) (turned (is_narrow l && is_capital holds l) (not after) (not (eqb (length l) 0)) (is_opening n l))
 
 -- what a line that passes has
 pub record Inside (n : ℕ) (l : List ℕ) : Type 0 where
@@ -142,13 +92,6 @@ inside_has n after holds l e =
     }
 
 -- ---- the lines, one after the other
--- whether the BIC was met: earlier, or in this line
-pub met_earlier : (after holds : Bool) {met : Bool} → after ≡ true → met ≡ true → met ≡ (after || holds)
-met_earlier after holds e h = rw e h
-
-pub met_here : (after holds : Bool) {met : Bool} → after ≡ false → met ≡ holds → met ≡ (after || holds)
-met_here after holds e h = rw e h
-
 module _ (p : Party) (n : ℕ) (after : Bool) where
   pub lines_none : (ls : List (List ℕ)) → ls ≡ [] → lines_reply p n after ls ≡ accepted
   unfolding lines_reply

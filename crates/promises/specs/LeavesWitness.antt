@@ -1,10 +1,9 @@
 -- The theorems of the leaves, used: words of eight bytes, letters, and outcomes, each at an instance that a weaker one does not reach.
-use Rattle.std.specs.Prelude.{◌≡◌, true, false, List, [], ◌∷◌, ℕ, ◌/◌, eqb, replicate}
+use Rattle.std.specs.Prelude.{◌≡◌, true, false, List, [], ◌∷◌, ℕ, ◌/◌, eqb, replicate, Result, Ok, Err}
 use Rattle.std.proofs.Common.{arith}
 use Rattle.std.specs.Int.Bits.{bit_and}
 use Rattle.std.specs.Int.Count.{count_trailing_zeros}
-use Rattle.errors.specs.declared.Outcome.{Outcome}
-use Rattle.errors.specs.declared.Outcome.TheVariants.{Accepted, Refused}
+use Rattle.errors.specs.declared.ParseError.{ParseError}
 use Rattle.errors.specs.declared.ParseError.TheVariants.{BicLength, NotCarried, OutsideProfile}
 use Rattle.errors.specs.Refusals.{accepted, refused, told}
 use Rattle.errors.proofs.Cases.{told_one}
@@ -74,13 +73,13 @@ letter_witness = record {
   zero_digit = byte_48 Field59 body;
 }
 
--- ---- outcomes
+-- ---- answers without a value
 pub record OutcomeWitness : Type 0 where
   -- what says that it is accepted is, and what says a number and a line is that refusal with that line
-  pub accepts : (o : Outcome) → told o ≡ accepted → o ≡ Accepted
-  pub bic : (o : Outcome) → told o ≡ refused 9 2 → o ≡ Refused (BicLength 2)
-  pub outside : (o : Outcome) → told o ≡ refused 32 4 → o ≡ Refused (OutsideProfile 4)
-  pub uncarried : (o : Outcome) → told o ≡ refused 23 0 → o ≡ Refused NotCarried
+  pub accepts : (o : Result (Unit {0}) ParseError) → told o ≡ accepted → o ≡ Ok tt
+  pub bic : (o : Result (Unit {0}) ParseError) → told o ≡ refused 9 2 → o ≡ Err (BicLength 2)
+  pub outside : (o : Result (Unit {0}) ParseError) → told o ≡ refused 32 4 → o ≡ Err (OutsideProfile 4)
+  pub uncarried : (o : Result (Unit {0}) ParseError) → told o ≡ refused 23 0 → o ≡ Err NotCarried
 
 pub outcome_witness : OutcomeWitness
 outcome_witness = record {

@@ -1,6 +1,6 @@
 -- Wrong programs that the contracts of `errors`, `party`, `swift_utils` and `field_utils` rule out (document 01, 'For the auditor's form'),
 -- each by computation. A field is named after its operation and the fact, and its comment says what a wrong program would do.
-use Rattle.std.specs.Prelude.{◌≡◌, refl, true, false, List, [], ◌∷◌, ℕ, ◌+◌, drop, get_or, replicate}
+use Rattle.std.specs.Prelude.{◌≡◌, refl, true, false, List, [], ◌∷◌, ℕ, ◌+◌, drop, get_or, replicate, Some, None}
 use Rattle.errors.specs.declared.ParseError.TheVariants.{BicByte, Position}
 use Rattle.errors.specs.Refusals.{accepted, refused, refusal_at, refusal_of}
 use Rattle.party.specs.declared.PartyOption.TheVariants.{Field50NoOption, Field50A, Field50F, Field50K, Field59NoOption, Field59F}
@@ -14,7 +14,6 @@ use Rattle.party.specs.declared.Numbering.TheVariants.{Unnumbered, Numbered, InT
 use Rattle.swift_utils.specs.Bytes.{bytes, all, letter, small, digit, alphanumeric, signs, legal, narrow_signs, narrow}
 use Rattle.swift_utils.specs.Classes.{bits_of, classes_of, class_table, entry_in}
 use Rattle.swift_utils.specs.Checks.{parse_swift_chars, parse_length, parse_account, bic_length}
-use Rattle.field_utils.specs.declared.lines.Line.TheVariants.{Next, Done}
 use Rattle.field_utils.specs.Lines.{upto, starts, without_cr}
 use Rattle.field_utils.specs.Cursor.{line_of, next_line, places_of, line_places, no_place, name_places}
 use Rattle.field_utils.specs.Trim.{white, trimmed_start, keep, trimmed_end, trimmed}
@@ -188,9 +187,9 @@ pub record FieldUtilsOperations : Type 0 where
   -- gives 0 where there is none
   pub find_lf_of_none_is_the_length : found (bytes "ab") 0 10 ≡ 2
   -- drops every CR before the LF
-  pub next_drops_one_cr : next_line (bytes "a\r\r\n") 0 ≡ Next 0 2 (record { at = 4 })
+  pub next_drops_one_cr : next_line (bytes "a\r\r\n") 0 ≡ Some (record { start = 0; end = 2; rest = record { at = 4 } })
   -- gives an empty line after an LF at the end
-  pub next_is_done_after_the_last_lf : next_line (bytes "a\n") 2 ≡ Done
+  pub next_is_done_after_the_last_lf : next_line (bytes "a\n") 2 ≡ None
   -- drops two CRs
   pub without_cr_drops_one : without_cr (bytes "A\r\r") ≡ bytes "A\r"
   -- drops a CR that is not at the end

@@ -1,9 +1,7 @@
 -- Wrong programs that the contracts of `reader`, `choices`, `field50` and `field59` rule out (document 01, 'For the auditor's form'), each by
 -- computation. A field is named after its operation and the fact, and its comment says what a wrong program would do.
-use Rattle.std.specs.Prelude.{◌≡◌, refl, true, false, List, [], ◌∷◌, ◌++◌, ℕ, suc, get_or, drop, replicate}
-use Rattle.errors.specs.declared.ParseError.{ParseError}
+use Rattle.std.specs.Prelude.{◌≡◌, refl, true, false, List, [], ◌∷◌, ◌++◌, ℕ, suc, get_or, drop, replicate, Ok, Err}
 use Rattle.errors.specs.declared.ParseError.TheVariants.{TooLong}
-use Rattle.errors.specs.declared.Outcome.TheVariants.{Accepted, Refused}
 use Rattle.errors.specs.Refusals.{Reply, accepted, refused}
 use Rattle.party.specs.declared.PartyOption.{PartyOption}
 use Rattle.party.specs.declared.PartyOption.TheVariants.{Field50NoOption, Field50A, Field50F, Field50K, Field50C, Field50L, Field50G, Field50H, Field59NoOption, Field59A, Field59F}
@@ -18,18 +16,13 @@ use Rattle.field_utils.specs.Trim.{white, trimmed_start, keep, trimmed_end, trim
 use Rattle.field_utils.specs.Identifier.{is_numbered, second_slash, identifier_reply, parse_party_identifier}
 use Rattle.field_utils.specs.Names.{parse_line, parse_lines, parse_name_and_address}
 use Rattle.record_bytes.specs.RecordBytes.{record_size, encoded_texts, encoded, stored, holds_record, party_from, decoded}
-use Rattle.reader.specs.declared.Answer.{Answer}
-use Rattle.reader.specs.Reading.{party_of, told_answer, answer_from, read_into}
+use Rattle.reader.specs.Reading.{party_of, told_answer, read_into}
 use Rattle.reader.specs.Options.{length_reply, account_head, short_account_head, after_head, ascii, body_reply, read}
 use Rattle.reader.specs.declared.choices.Choice.TheVariants.{Field50InstructingParty, Field50OrderingCustomerFGH, Field50OrderingCustomerAFK, Field50OrderingCustomerNCF, Field50Creditor, Field59, Field59Debtor}
 use Rattle.reader.specs.declared.choices.Test.TheVariants.{LaterNumbered, AnyNumbered, LastIsBic, BicSized, FirstNumbered}
 use Rattle.reader.specs.Detection.{any_numbered, first_line, last_line, bic_like, test_line, holds}
 use Rattle.reader.specs.Choices.{refusing, first_that, parse, pick_of, parse_with_variant}
 use Rattle.promises.specs.RuledOut.{body_of, As}
-
--- what `refuse` gives, as its contract has it
-abbrev refused_with : ParseError → Answer
-refused_with e = record { outcome = Refused e; party = blank }
 
 -- a lent record, and one byte less
 abbrev pub lent : List ℕ
@@ -44,9 +37,9 @@ pub record ReaderOperations : Type 0 where
   -- reads 59 as 50K: `/` with over 34 bytes is an account
   pub parse_head_of_59_takes_a_short_account : (limits_of Field59NoOption).first ≡ ShortAccount
   -- loses the line
-  pub refuse_keeps_the_line : (told_answer (refused_with (TooLong 2))).reply ≡ refused 4 2
+  pub refusal_keeps_the_line : (told_answer (Err (TooLong 2))).reply ≡ refused 4 2
   -- leaves the names met so far beside the refusal
-  pub refuse_gives_no_names : (refused_with (TooLong 2)).party.count ≡ 0
+  pub refusal_has_no_names : (told_answer (Err (TooLong 2))).party.count ≡ 0
   -- gives all bytes where the place is past the end
   pub suffix_past_the_end_is_empty : drop 3 (bytes "AB") ≡ []
   -- gives one byte too few
@@ -70,18 +63,18 @@ pub record ReaderOperations : Type 0 where
   -- accepts where 240 bytes are lent, stores nothing and does not say so; or asks for more than 241
   pub read_into_refuses_240 : read_into (read Field50L (bytes "A")) short ≡ record { reply = refused 42 0; bytes = short }
   pub read_into_takes_241 : (read_into (read Field50L (bytes "A")) lent).reply ≡ accepted
-  -- gives what the room holds beside a refusal
-  pub answer_from_a_refusal_is_blank : (answer_from (Refused (TooLong 2)) (0 ∷ 1 ∷ replicate 239 0)).party.present ≡ false
-  -- gives the blank record beside an acceptance
-  pub answer_from_an_acceptance_is_the_room : (answer_from Accepted (0 ∷ 1 ∷ replicate 239 0)).party.present ≡ true
+  -- has any record beside a refusal
+  pub refusal_has_the_blank_record : (told_answer (Err (TooLong 2))).party.present ≡ false
+  -- has the blank record beside an acceptance
+  pub acceptance_has_its_record : (told_answer (Ok (decoded (0 ∷ 1 ∷ replicate 239 0)))).party.present ≡ true
 
 pub reader_operations : ReaderOperations
 unfolding letter digit alphanumeric signs legal parse_swift_chars parse_account bic_length parse_bic upto onto starts lines second_slash identifier_reply parse_party_identifier parse_line parse_lines parse_name_and_address after_head read holds_record party_from decoded
 reader_operations = record {
   parse_head_of_50H_takes_any_account = refl;
   parse_head_of_59_takes_a_short_account = refl;
-  refuse_keeps_the_line = refl;
-  refuse_gives_no_names = refl;
+  refusal_keeps_the_line = refl;
+  refusal_has_no_names = refl;
   suffix_past_the_end_is_empty = refl;
   suffix_at_1_skips_one = refl;
   account_length_takes_any_byte = refl;
@@ -94,8 +87,8 @@ reader_operations = record {
   read_into_tells_13 = refl;
   read_into_refuses_240 = refl;
   read_into_takes_241 = refl;
-  answer_from_a_refusal_is_blank = refl;
-  answer_from_an_acceptance_is_the_room = refl;
+  refusal_has_the_blank_record = refl;
+  acceptance_has_its_record = refl;
 }
 
 -- ---- the eleven options

@@ -1,9 +1,9 @@
 -- What a body's lines say, by the count and the first line; and what a body says, by 12 and 13. Assumes nothing.
 use mathlib.Core.Path.{◌≡◌, refl, sym, ◌∙◌, ap}
 use mathlib.Core.Bool.{Bool, true, false}
-use mathlib.Core.List.{List, [], ◌∷◌}
+use mathlib.Core.List.{List, ◌∷◌}
 use Prim.Native.Nat.{ℕ, ◌≤◌}
-use lib.ListN.{length, drop}
+use lib.ListN.{length}
 use borrow.Author.Tests.{leb-true}
 use Rattle.errors.specs.declared.ParseError.{ParseError}
 use Rattle.errors.specs.Refusals.{Reply, accepted, refused, told_error, must, ◌then◌}
@@ -12,10 +12,9 @@ use Rattle.party.specs.declared.PartyOption.{PartyOption}
 use Rattle.party.specs.Limits.{limits_of}
 use Rattle.party.specs.Party.{blank}
 use Rattle.swift_utils.specs.Bytes.{all}
-use Rattle.reader.specs.declared.HeadAt.{HeadAt}
 use Rattle.reader.specs.Reading.{giving, Found, party_of}
 use Rattle.reader.specs.Options.{Head, is_counted, body_most, head_by, after_head, after, from_head, by_lines, found_by, ascii, body_reply, read_own, read}
-use Rattle.reader.specs.Code.{told_head, passed_head}
+use Rattle.reader.specs.Code.{passed_head}
 
 refused_head : (o : PartyOption) (t : Bool) (text : List ℕ) (k n : ℕ) (all_lines later : List (List ℕ))
     → (from_head o (record { present = t; text = text; reply = refused k n }) all_lines later).reply ≡ refused k n
@@ -61,10 +60,3 @@ module _ (o : PartyOption) (body : List ℕ) where
 
 pub body_length : (body : List ℕ) → body_reply body ≡ accepted → length body ≤ body_most
 body_length body q = leb-true (length body) body_most (must_held _ 12 0 (then_first _ (must (all ascii body) 13 0) q))
-
--- the text of a head that the code found
-pub told_text : (l : List ℕ) (r : HeadAt) → r.present ≡ true → (told_head l r).text ≡ drop r.skip l
-told_text l r e = ap (λ (t : Bool). elim t as (λ x. List ℕ) [ true ↦ drop r.skip l | false ↦ [] ]) e
-
-pub told_none : (l : List ℕ) (r : HeadAt) → r.present ≡ false → (told_head l r).text ≡ []
-told_none l r e = ap (λ (t : Bool). elim t as (λ x. List ℕ) [ true ↦ drop r.skip l | false ↦ [] ]) e

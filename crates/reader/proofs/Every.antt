@@ -19,7 +19,6 @@ use Rattle.reader.specs.Options.{ascii, body_most, body_reply, read}
 use Rattle.reader.specs.declared.choices.Choice.{Choice}
 use Rattle.reader.specs.declared.choices.Choice.TheVariants.{Field50InstructingParty, Field50OrderingCustomerFGH, Field50OrderingCustomerAFK, Field50OrderingCustomerNCF, Field50Creditor, Field59, Field59Debtor}
 use Rattle.reader.specs.declared.choices.Trial.{Trial}
-use Rattle.reader.specs.declared.choices.Trial.TheVariants.{Try, Nothing}
 use Rattle.reader.specs.Detection.{holds}
 use Rattle.reader.specs.Choices.{trials_of, tried_text, when, wanted, refusing, or_else, first_that, after_check, parse, is_letter, options_in, options_of, pick_of, parse_with_variant}
 
@@ -35,10 +34,9 @@ each Q h (o ∷ os) = (h o, each Q h os)
 -- the options whose test holds are among the choice's
 wanted_each : (Q : PartyOption → Type 0) (ls : List (List ℕ)) (ts : List Trial) → Each Q (options_in ts) → Each Q (wanted ls ts)
 wanted_each Q ls [] h = tt
-wanted_each Q ls (Nothing ∷ ts) h = wanted_each Q ls ts h
-wanted_each Q ls (Try o t ∷ ts) h = go (holds t ls) (wanted_each Q ls ts h.1)
+wanted_each Q ls (t ∷ ts) h = go (holds t.1 ls) (wanted_each Q ls ts h.1)
   where
-    go : (b : Bool) → Each Q (wanted ls ts) → Each Q (when b o ++ wanted ls ts)
+    go : (b : Bool) → Each Q (wanted ls ts) → Each Q (when b t.0 ++ wanted ls ts)
     go true later = (h.0, later)
     go false later = later
 

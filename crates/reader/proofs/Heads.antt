@@ -1,5 +1,5 @@
 -- The cases of the first line. Assumes nothing.
-use mathlib.Core.Path.{◌≡◌, refl, sym, ◌∙◌, ap}
+use mathlib.Core.Path.{◌≡◌, refl, sym, ◌∙◌}
 use mathlib.Core.Bool.{Bool, true, false}
 use mathlib.Core.List.{List, [], ◌∷◌}
 use Prim.Native.Nat.{ℕ, ◌≤◌, ◌<◌}
@@ -8,26 +8,21 @@ use lib.ListN.{length, drop}
 use denote.Enum.Declared.{tag_of}
 use types.Run.{OneOf, miss}
 use borrow.Author.Tests.{le-leb, lt-leb, leb-true, leb-false}
-use Rattle.errors.specs.Refusals.{Reply, refused}
+use Rattle.errors.specs.Refusals.{Reply}
 use Rattle.party.specs.declared.PartyOption.{PartyOption}
 use Rattle.party.specs.declared.Limits.{Limits}
 use Rattle.party.specs.declared.First.{First}
 use Rattle.party.specs.declared.First.TheVariants.{NoAccount, Identified, Account, ShortAccount, SlashAccount, AnyAccount, WholeLine}
 use Rattle.party.specs.contracts.First.{the_type}
 use Rattle.party.specs.Limits.{limits_of}
-use Rattle.swift_utils.specs.Checks.{parse_length, parse_account}
 use Rattle.field_utils.specs.Lines.{starts}
-use Rattle.reader.specs.Options.{no_head, head, length_reply, account_reply, account_head, short_account_head, slash_head, head_by}
+use Rattle.field_utils.specs.Identifier.{given, parse_party_identifier}
+use Rattle.field_utils.proofs.Identifiers.{identifier_absent, identifier_given}
+use Rattle.reader.specs.Options.{no_head, head, account_reply, account_head, short_account_head, slash_head, head_by}
 use Rattle.reader.specs.Code.{has_account, account_by}
 
 -- m is what the code holds of the option's limits
 module _ (o : PartyOption) {m : Limits} (e : m ≡ limits_of o) (l : List ℕ) where
-  pub account_reply_lem : parse_account m.account_min m.account_max 1 l ≡ account_reply o l
-  account_reply_lem = ap (λ (k : Limits). parse_account k.account_min k.account_max 1 l) e
-
-  pub length_reply_lem : parse_length m.account_min m.account_max 1 l ≡ length_reply o l
-  length_reply_lem = ap (λ (k : Limits). parse_length k.account_min k.account_max 1 l) e
-
   pub short_long : m.account_max < length (drop 1 l) → short_account_head o l ≡ no_head
   unfolding short_account_head
   short_long h = let k : (limits_of o).account_max < length (drop 1 l) = rw e at h in rw (lt-leb _ _ k, short_account_head)
@@ -47,9 +42,6 @@ account_some o l e = rw (e, account_head)
 pub slash_there : (l : List ℕ) (r : Reply) → starts 47 l ≡ true → slash_head l r ≡ head (drop 1 l) r
 slash_there l r e = rw e
 
-pub slash_missing : (l : List ℕ) (r : Reply) → starts 47 l ≡ false → slash_head l r ≡ head (drop 1 l) (refused 2 1)
-slash_missing l r e = rw e
-
 -- ---- an account or none, by what the first line is to the option
 pub has_none : (f : First) (o : PartyOption) (l : List ℕ) → starts 47 l ≡ false → has_account f o l ≡ false
 has_none NoAccount o l e = e
@@ -62,18 +54,6 @@ has_none WholeLine o l e = e
 
 pub has_short : (o : PartyOption) (l : List ℕ) → starts 47 l ≡ true → has_account ShortAccount o l ≡ leb (length (drop 1 l)) (limits_of o).account_max
 has_short o l e = rw e
-
-abbrev pub others : List ℕ
-others = 0 ∷ 1 ∷ 2 ∷ 4 ∷ 5 ∷ 6 ∷ []
-
-pub has_other : (f : First) (o : PartyOption) (l : List ℕ) → OneOf others (tag_of the_type f) → starts 47 l ≡ true → has_account f o l ≡ true
-has_other NoAccount o l h e = e
-has_other Identified o l h e = e
-has_other Account o l h e = e
-has_other ShortAccount o l h e = absurd (miss others 3 tt h)
-has_other SlashAccount o l h e = e
-has_other AnyAccount o l h e = e
-has_other WholeLine o l h e = e
 
 module _ (f : First) (o : PartyOption) (l : List ℕ) where
   pub by_none : has_account f o l ≡ false → account_by f o l ≡ no_head
@@ -103,3 +83,11 @@ by_first ShortAccount o l h = go (starts 47 l) (leb (length (drop 1 l)) (limits_
 by_first SlashAccount o l h = absurd (miss (2 ∷ 3 ∷ []) 4 tt h)
 by_first AnyAccount o l h = absurd (miss (2 ∷ 3 ∷ []) 5 tt h)
 by_first WholeLine o l h = absurd (miss (2 ∷ 3 ∷ []) 6 tt h)
+
+-- the text of an identifier that is there
+pub identifier_text : (o : PartyOption) (n : ℕ) (l : List ℕ) {t : List ℕ} {r : Reply} → given t r ≡ parse_party_identifier o n l → t ≡ drop 1 l
+identifier_text o n l {t} {r} e = go (starts 47 l) refl
+  where
+    go : (s : Bool) → starts 47 l ≡ s → t ≡ drop 1 l
+    go true h = let k = e ∙ identifier_given o n l h in cc
+    go false h = let k = e ∙ identifier_absent o n l h in absurd cc

@@ -53,17 +53,11 @@ lines_some (b ∷ l) h = go (eqb b 10) (eqb b 13 && starts 10 l) refl refl (line
 
 -- the count of the lines, by the option's row
 module _ (o : PartyOption) {m : Limits} (e : m ≡ limits_of o) (n : ℕ) where
-  pub counts_few : n < m.min_lines → is_counted o n ≡ false
-  counts_few h = rw (← e, lt-leb _ _ h)
-
   pub counts_open : m.min_lines ≤ n → m.max_lines ≡ 0 → is_counted o n ≡ true
   counts_open h z = rw (← e, le-leb _ _ h, eq-eqb _ _ z)
 
   pub counts_least : m.max_lines ≡ 0 → is_counted o n ≡ leb m.min_lines n
   counts_least z = rw (← e, eq-eqb _ _ z) (and-true (leb m.min_lines n))
-
-  pub counts_most : m.min_lines ≤ n → (m.max_lines ≡ 0 → ⊥) → is_counted o n ≡ leb n m.max_lines
-  counts_most h z = rw (← e, le-leb _ _ h, ne_eqb _ _ z)
 
 -- a second line is there where the first does not run to the end
 pub lines_second : (s : List ℕ) (rest : ℕ) → length (lines s) ≡ suc (length (lines (drop rest s))) → leb 2 (length (lines s)) ≡ ltb rest (length s)

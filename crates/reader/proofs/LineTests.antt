@@ -4,7 +4,7 @@ use mathlib.Core.Bool.{Bool, true, false, ◌&&◌, ◌||◌, and-true, and-fals
 use mathlib.Core.List.{List, [], ◌∷◌}
 use Prim.Native.Nat.{ℕ, ◌≤◌, ◌<◌}
 use lib.Dec.{leb, eqb}
-use lib.ListN.{length, take, drop, length-drop}
+use lib.ListN.{length, drop, length-drop}
 use native.Mathlib.Omega.{arith}
 use borrow.Author.Tests.{eqb-true, ne_eqb, le-leb, lt-leb}
 use Rattle.swift_utils.specs.Bytes.{all, alphanumeric}
@@ -82,12 +82,6 @@ module _ (ls : List (List ℕ)) where
   pub short_fits : length (first_line ls) ≤ 35 → short_bic_line ls ≡ test_line ls
   unfolding short_bic_line test_line
   short_fits h = rw (le-leb (length (drop 1 (first_line ls))) 34 (omega (arith, length-drop 1 (first_line ls))), and-true (starts 47 (first_line ls)), short_bic_line)
-
--- there is one line where there is one of the first three
-pub one_of_three : (ls : List (List ℕ)) → eqb (length (take 3 ls)) 1 ≡ eqb (length ls) 1
-one_of_three [] = refl
-one_of_three (l ∷ []) = refl
-one_of_three (l ∷ m ∷ ls) = ne_eqb (length (take 3 (l ∷ m ∷ ls))) 1 (λ q. omega arith) ∙ sym (ne_eqb (length (l ∷ m ∷ ls)) 1 (λ q. omega arith))
 
 -- where a line after the first is numbered, there are 2 or more
 pub later_two : (ls : List (List ℕ)) → (leb 2 (length ls) && any_numbered (drop 1 ls)) ≡ any_numbered (drop 1 ls)

@@ -1,4 +1,5 @@
 -- A reading's record, stored and loaded again, is the record. Assumes nothing.
+use Rattle.std.specs.Prelude.{Result, Ok, Err}
 use Prim.Native.Nat.{ℕ, zero, suc, ◌-◌, ◌<◌, ◌≤◌}
 use mathlib.Core.Path.{◌≡◌, refl, sym, ◌∙◌, ap, subst}
 use mathlib.Core.Bool.{Bool, true, false, and-eq-true_iff}
@@ -8,8 +9,7 @@ use borrow.Author.Tests.{leb-true}
 use lib.Dec.{leb, eqb}
 use lib.ListN.{length, get_or, take, drop, replicate, length-append, length-take, length-map, length-replicate}
 use lib.Seq.{get_or-take}
-use Rattle.errors.specs.declared.Outcome.{Outcome}
-use Rattle.errors.specs.declared.Outcome.TheVariants.{Accepted, Refused}
+use Rattle.errors.specs.declared.ParseError.{ParseError}
 use Rattle.errors.specs.Refusals.{Reply, accepted, refused, must, ◌then◌}
 use Rattle.errors.proofs.Replies.{refused≢accepted, must_held, then_second}
 use Rattle.party.specs.declared.PartyOption.{PartyOption}
@@ -155,13 +155,13 @@ pub stored_loads : (p : Party) (bytes : List ℕ) → Loads p → record_size �
 stored_loads p bytes loads size = ap decoded (stored_whole p bytes size) ∙ loads (drop record_size bytes)
 
 -- the answer by value, of a reading into bytes that are as many as a record's
-pub answered : (r : Reading) (o : Outcome) (d e : List ℕ) → Back r → record_size ≤ length d → told_into o e ≡ read_into r d → told_answer (answer_from o e) ≡ r
+pub answered : (r : Reading) (o : Result (Unit {0}) ParseError) (d e : List ℕ) → Back r → record_size ≤ length d → told_into o e ≡ read_into r d → told_answer (answer_from o e) ≡ r
 answered r o d e back size told = go r.reply r.party o back (told ∙ into_whole r d size)
   where
-    go : (q : Reply) (p : Party) (o : Outcome) → Whole q p → told_into o e ≡ storing q p d → told_answer (answer_from o e) ≡ (record { reply = q; party = p })
-    go accepted p Accepted loads h =
+    go : (q : Reply) (p : Party) (o : Result (Unit {0}) ParseError) → Whole q p → told_into o e ≡ storing q p d → told_answer (answer_from o e) ≡ (record { reply = q; party = p })
+    go accepted p (Ok t) loads h =
         ap {B = Reading} (λ (p : Party). record { reply = accepted; party = p })
         (ap (λ (i : Into). decoded i.bytes) h ∙ stored_loads p d loads size)
-    go accepted p (Refused x) loads h = absurd (refused≢accepted (ap (λ (i : Into). i.reply) h))
-    go (refused k n) p Accepted is h = absurd (refused≢accepted (sym (ap (λ (i : Into). i.reply) h)))
-    go (refused k n) p (Refused x) is h = λ i. record { reply = (h i).reply; party = sym is i }
+    go accepted p (Err x) loads h = absurd (refused≢accepted (ap (λ (i : Into). i.reply) h))
+    go (refused k n) p (Ok t) is h = absurd (refused≢accepted (sym (ap (λ (i : Into). i.reply) h)))
+    go (refused k n) p (Err x) is h = λ i. record { reply = (h i).reply; party = sym is i }

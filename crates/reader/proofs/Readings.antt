@@ -2,36 +2,44 @@
 use mathlib.Core.Path.{◌≡◌, refl, sym, ◌∙◌, ap}
 use mathlib.Core.Bool.{true, false}
 use mathlib.Core.List.{List, [], map}
+use Rattle.std.specs.Prelude.{Ok, Err, Option, None, Some, is_some}
+use Rattle.std.specs.Option.{unwrap_or}
 use Prim.Native.Nat.{ℕ}
 use borrow.Author.Tests.{eq-eqb, ne_eqb}
 use Rattle.errors.specs.declared.ParseError.{ParseError}
-use Rattle.errors.specs.declared.Outcome.{Outcome}
-use Rattle.errors.specs.declared.Outcome.TheVariants.{Accepted, Refused}
-use Rattle.errors.specs.Refusals.{Reply, accepted, refused, told, told_error}
+use Rattle.errors.specs.Refusals.{Reply, accepted, refused, told_error}
 use Rattle.party.specs.declared.PartyOption.{PartyOption}
 use Rattle.party.specs.declared.Limits.{Limits}
 use Rattle.party.specs.declared.Text.{Text}
 use Rattle.party.specs.declared.Parts.{Parts}
 use Rattle.party.specs.declared.Party.{Party}
 use Rattle.party.specs.Limits.{limits_of}
-use Rattle.party.specs.Text.{text_of}
+use Rattle.party.specs.declared.Part.{Part}
+use Rattle.party.specs.Text.{text_of, part_in}
 use Rattle.party.specs.Party.{party_in}
 use Rattle.swift_utils.specs.Bytes.{among}
 use Rattle.field_utils.specs.Names.{parse_name_and_address, kept, digit_of, NamesRead, names_or, read_names}
-use Rattle.reader.specs.declared.FoundAt.{FoundAt}
 use Rattle.reader.specs.Reading.{Reading, giving, Found, party_of}
 use Rattle.reader.specs.Options.{Head, account_reply, with_names, with_bic, after_head, text_only}
-use Rattle.reader.specs.Code.{told_parts, reading_of}
+use Rattle.reader.specs.Code.{told_parts, head_at, reading_of}
 
-module _ (o : PartyOption) (f : Found) (body : List ℕ) (r : FoundAt) where
-  pub refusing : {e : ParseError} → r.outcome ≡ Refused e → f.reply ≡ told_error e → told_parts body r ≡ reading_of o f
-  refusing p q = ap (λ (x : Outcome). giving (told x) (party_in body r.parts)) p ∙ sym (ap (λ (s : Reply). giving s (party_of o f)) q)
+module _ (o : PartyOption) (f : Found) (body : List ℕ) where
+  pub refusing : (e : ParseError) → f.reply ≡ told_error e → told_parts body (Err e) ≡ reading_of o f
+  refusing e q = sym (ap (λ (s : Reply). giving s (party_of o f)) q)
 
-  pub accepting : (q : Parts) → r ≡ (record { outcome = Accepted; parts = q }) → f.reply ≡ accepted → party_in body q ≡ party_of o f → told_parts body r ≡ reading_of o f
-  accepting q e t h =
-      ap (told_parts body) e
-      ∙ ap {B = Reading} (λ (p : Party). record { reply = accepted; party = p }) h
+  pub accepting : (q : Parts) → f.reply ≡ accepted → party_in body q ≡ party_of o f → told_parts body (Ok q) ≡ reading_of o f
+  accepting q t h =
+      ap {B = Reading} (λ (p : Party). record { reply = accepted; party = p }) h
       ∙ sym (ap (λ (s : Reply). giving s (party_of o f)) t)
+
+-- the head at a part that may be none, as the code asks for it
+pub head_present : (body : List ℕ) (a : Option Part) → is_some a ≡ (head_at body a).present
+head_present body None = refl
+head_present body (Some p) = refl
+
+pub head_text : (body : List ℕ) (a : Option Part) → part_in body (unwrap_or a (record { start = 0; len = 0 })) ≡ (head_at body a).text
+head_text body None = refl
+head_text body (Some p) = refl
 
 -- a reading says what is said of it
 pub giving_reply : (r : Reply) (p : Party) → (giving r p).reply ≡ r

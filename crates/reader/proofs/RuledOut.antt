@@ -25,7 +25,6 @@ use Rattle.reader.proofs.Bodies.{body_passed}
 use Rattle.reader.specs.declared.choices.Choice.{Choice}
 use Rattle.reader.specs.declared.choices.Choice.TheVariants.{Field50InstructingParty, Field50OrderingCustomerFGH, Field50OrderingCustomerAFK, Field50OrderingCustomerNCF, Field50Creditor, Field59, Field59Debtor}
 use Rattle.reader.specs.declared.choices.Trial.{Trial}
-use Rattle.reader.specs.declared.choices.Trial.TheVariants.{Try, Nothing}
 use Rattle.reader.specs.Detection.{first_line, test_line, holds}
 use Rattle.reader.specs.Choices.{trials_of, tried_text, when, wanted, or_else, first_that}
 use Rattle.reader.specs.ChoicesCode.{asked_text, short_bic_line, ruled_out, is_open}
@@ -120,8 +119,7 @@ ruled_out_lem o text r e = rules text o r (sym (giving_reply (found_by (limits_o
 -- the options that are tried
 abbrev pub open_of : List ℕ → List (List ℕ) → List Trial → List PartyOption
 open_of text ls [] = []
-open_of text ls (Nothing ∷ ts) = open_of text ls ts
-open_of text ls (Try o t ∷ ts) = when (is_open o t text ls) o ++ open_of text ls ts
+open_of text ls (t ∷ ts) = when (is_open t.0 t.1 text ls) t.0 ++ open_of text ls ts
 
 -- an option that does not accept is passed
 passed : (o : PartyOption) (os : List PartyOption) (text : List ℕ) → ((read o text).reply ≡ accepted → ⊥) → first_that (o ∷ os) text ≡ first_that os text
@@ -136,9 +134,11 @@ module _ (text : List ℕ) (q : body_reply text ≡ accepted) where
   open_first : (ts : List Trial) → first_that (open_of text (lines text) ts) text ≡ first_that (wanted (lines text) ts) text
   unfolding first_that
   open_first [] = refl
-  open_first (Nothing ∷ ts) = open_first ts
-  open_first (Try o t ∷ ts) = go (ruled_out o text (lines text)) (holds t (lines text)) refl (open_first ts)
+  open_first (t ∷ ts) = go (ruled_out o text (lines text)) (holds t.1 (lines text)) refl (open_first ts)
     where
+      o : PartyOption
+      o = t.0
+
       go : (r h : Bool) → ruled_out o text (lines text) ≡ r → first_that (open_of text (lines text) ts) text ≡ first_that (wanted (lines text) ts) text
           → first_that (when (not r && h) o ++ open_of text (lines text) ts) text ≡ first_that (when h o ++ wanted (lines text) ts) text
       go true true e ih =

@@ -15,7 +15,7 @@ use Rattle.reader.specs.Options.{read}
 use Rattle.reader.specs.declared.choices.Choice.{Choice}
 use Rattle.reader.specs.declared.choices.Choice.TheVariants.{Field50InstructingParty, Field50OrderingCustomerFGH, Field50OrderingCustomerAFK, Field50OrderingCustomerNCF, Field50Creditor, Field59, Field59Debtor}
 use Rattle.reader.specs.declared.choices.Trial.{Trial}
-use Rattle.reader.specs.Choices.{trials_of, refusing, when, first_that, after_check, pick_of}
+use Rattle.reader.specs.Choices.{refusing, when, first_that, after_check, pick_of}
 
 -- a proof for each choice
 pub by_choice : (P : Choice → Type 0) → P Field50InstructingParty → P Field50OrderingCustomerFGH → P Field50OrderingCustomerAFK → P Field50OrderingCustomerNCF
@@ -27,9 +27,6 @@ by_choice P a b c d e f g Field50OrderingCustomerNCF = d
 by_choice P a b c d e f g Field50Creditor = e
 by_choice P a b c d e f g Field59 = f
 by_choice P a b c d e f g Field59Debtor = g
-
-pub three : (choice : Choice) → length (trials_of choice) ≡ 3
-three = by_choice (λ choice. length (trials_of choice) ≡ 3) refl refl refl refl refl refl refl
 
 pub place_at : (ts : List Trial) (k : ℕ) (d : Trial) {x : Trial} → k < length ts → get_or ts k d ≡ x → drop k ts ≡ x ∷ drop (k + 1) ts
 place_at ts k d h e = rw (add-one, drop-cons ts k d, e)

@@ -1,5 +1,5 @@
 -- The walk of the lines. Assumes nothing.
-use mathlib.Core.Path.{◌≡◌, refl, sym, ◌∙◌, ap, subst}
+use mathlib.Core.Path.{◌≡◌, refl, sym, ◌∙◌, ap}
 use mathlib.Core.Bool.{Bool, false, ◌||◌}
 use mathlib.Core.List.{List, [], ◌∷◌}
 use Prim.Native.Nat.{ℕ, ◌≤◌, ◌<◌}
@@ -7,28 +7,23 @@ use native.Mathlib.Omega.{arith}
 use lib.ListN.{length, take, drop, drop_of_length-le, length-take}
 use Rattle.swift_utils.proofs.Parts.{part}
 use Rattle.field_utils.specs.declared.lines.Line.{Line}
-use Rattle.field_utils.specs.declared.lines.Line.TheVariants.{Next, Done}
+use Rattle.std.specs.Prelude.{Option, Some, None}
 use Rattle.field_utils.specs.Lines.{lines}
 use Rattle.field_utils.specs.Identifier.{is_numbered}
 use Rattle.field_utils.proofs.Places.{Found, Fits, next_fits}
 use Rattle.field_utils.specs.Cursor.{next_line}
 use Rattle.reader.specs.declared.choices.LineSummary.{LineSummary}
 use Rattle.reader.specs.Detection.{any_numbered, first_line, last_line}
-use Rattle.reader.specs.ChoicesCode.{Walked}
 use Rattle.reader.proofs.LineTests.{last_or, last_or_lem, any_split}
-
--- what is seen of lines that are those
-pub walked_as : {s : List ℕ} {ls ms : List (List ℕ)} {w : LineSummary} → ls ≡ ms → Walked s ms w → Walked s ls w
-walked_as {s} {w = w} e h = subst (λ (ls : List (List ℕ)). Walked s ls w) (sym e) h
 
 -- whether there is a line from a place on, by whether the place is before the end
 module _ (s : List ℕ) (at : ℕ) where
   pub one_left : at < length s → length (take 1 (lines (drop at s))) ≡ 1
   one_left h = go (next_line s at) (next_fits s at)
     where
-      go : (x : Line) → Fits s at x → length (take 1 (lines (drop at s))) ≡ 1
-      go (Next start end rest) f = ap (λ (ls : List (List ℕ)). length (take 1 ls)) f.line
-      go Done f = absurd (omega (arith, h, f.1))
+      go : (x : Option Line) → Fits s at x → length (take 1 (lines (drop at s))) ≡ 1
+      go (Some l) f = ap (λ (ls : List (List ℕ)). length (take 1 ls)) f.line
+      go None f = absurd (omega (arith, h, f.1))
 
   pub none_left : length s ≤ at → length (take 1 (lines (drop at s))) ≡ 0
   unfolding lines
@@ -45,19 +40,22 @@ last_later [] = refl
 last_later (l ∷ []) = refl
 last_later (l ∷ m ∷ ls) = sym (last_or_lem (m ∷ ls))
 
-module _ {s : List ℕ} {ls : List (List ℕ)} {w : LineSummary} (h : Walked s ls w) where
-  pub seen_any : {t : Bool} → w.first_numbered ≡ t → (t || any_numbered (drop 1 ls)) ≡ any_numbered ls
-  seen_any e = ap (λ (u : Bool). u || any_numbered (drop 1 ls)) (sym e ∙ h.one) ∙ sym (any_split ls)
+module _ (w : LineSummary) where
+  abbrev seen : List (List ℕ)
+  seen = lines w.text.now
 
-  pub seen_later : {t : Bool} → w.second_numbered ≡ t → (t || any_numbered (lines (drop w.rest.at s))) ≡ any_numbered (drop 1 ls)
-  seen_later e = (λ i. (sym e ∙ h.two) i || any_numbered (h.rest i)) ∙ sym (any_later ls)
+  pub seen_any : {t : Bool} → w.first_numbered ≡ t → (t || any_numbered (drop 1 seen)) ≡ any_numbered seen
+  seen_any e = ap (λ (u : Bool). u || any_numbered (drop 1 seen)) (sym e ∙ w.one) ∙ sym (any_split seen)
 
-  pub seen_few : w.count ≤ 2 → false ≡ any_numbered (lines (drop w.rest.at s))
+  pub seen_later : {t : Bool} → w.second_numbered ≡ t → (t || any_numbered (lines (drop w.last.rest.at w.text.now))) ≡ any_numbered (drop 1 seen)
+  seen_later e = (λ i. (sym e ∙ w.two) i || any_numbered (w.later i)) ∙ sym (any_later seen)
+
+  pub seen_few : w.count ≤ 2 → false ≡ any_numbered (lines (drop w.last.rest.at w.text.now))
   unfolding any_numbered
-  seen_few k = ap any_numbered (sym (h.rest ∙ drop_of_length-le ls {i = 2} (omega (arith, h.count, k, length-take 3 ls))))
+  seen_few k = ap any_numbered (sym (w.later ∙ drop_of_length-le seen {i = 2} (omega (arith, w.counted, k, length-take 3 seen))))
 
-  pub seen_last : last_or (part w.from w.to s) (lines (drop w.rest.at s)) ≡ last_line ls
-  seen_last = (λ i. last_or (h.last i) (h.rest i)) ∙ last_later ls
+  pub seen_last : last_or (part w.last.start w.last.end w.text.now) (lines (drop w.last.rest.at w.text.now)) ≡ last_line seen
+  seen_last = (λ i. last_or (w.last_is i) (w.later i)) ∙ last_later seen
 
 -- the lines from a place on, by the one that is found there, or where there is none
 module _ {s : List ℕ} {at start end rest : ℕ} (f : Found s at start end rest) where

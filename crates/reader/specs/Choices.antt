@@ -12,27 +12,31 @@ use Rattle.reader.specs.Reading.{Reading}
 use Rattle.reader.specs.Options.{body_reply, read}
 use Rattle.reader.specs.declared.choices.Choice.{Choice}
 use Rattle.reader.specs.declared.choices.Choice.TheVariants.{Field50InstructingParty, Field50OrderingCustomerFGH, Field50OrderingCustomerAFK, Field50OrderingCustomerNCF, Field50Creditor, Field59, Field59Debtor}
+use Rattle.reader.specs.declared.choices.Test.{Test}
 use Rattle.reader.specs.declared.choices.Test.TheVariants.{Always, LaterNumbered, SlashFirstOfTwo, SlashFirst, AnyNumbered, LastIsBic, BicSized, FirstNumbered}
 use Rattle.reader.specs.declared.choices.Trial.{Trial}
-use Rattle.reader.specs.declared.choices.Trial.TheVariants.{Try, Nothing}
 use Rattle.reader.specs.Detection.{holds}
 
--- a choice's options in the order in which they are tried, each with its test, at three places of which the last may be empty
+-- an option with its test
+abbrev pub try : PartyOption → Test → Trial
+try o t = record { 0 = o; 1 = t }
+
+-- a choice's options in the order in which they are tried, each with its test
 abbrev pub trials_of : Choice → List Trial
 -- trim bytes 9 to 13 and 32 at both ends (`tried_text`), then C, L
-trials_of Field50InstructingParty = Try Field50C Always ∷ Try Field50L Always ∷ Nothing ∷ []
+trials_of Field50InstructingParty = try Field50C Always ∷ try Field50L Always ∷ []
 -- with 2 lines or more: F if a line after the first is numbered; G if the first has `/` and there are 2; H if the first has `/`
-trials_of Field50OrderingCustomerFGH = Try Field50F LaterNumbered ∷ Try Field50G SlashFirstOfTwo ∷ Try Field50H SlashFirst ∷ []
+trials_of Field50OrderingCustomerFGH = try Field50F LaterNumbered ∷ try Field50G SlashFirstOfTwo ∷ try Field50H SlashFirst ∷ []
 -- F if any line is numbered; A if the last line, trimmed, is 8 or 11 letters or digits; K
-trials_of Field50OrderingCustomerAFK = Try Field50F AnyNumbered ∷ Try Field50A LastIsBic ∷ Try Field50K Always ∷ []
+trials_of Field50OrderingCustomerAFK = try Field50F AnyNumbered ∷ try Field50A LastIsBic ∷ try Field50K Always ∷ []
 -- C if one line of 8 to 11 bytes; F if any is numbered; 50
-trials_of Field50OrderingCustomerNCF = Try Field50C BicSized ∷ Try Field50F AnyNumbered ∷ Try Field50NoOption Always ∷ []
+trials_of Field50OrderingCustomerNCF = try Field50C BicSized ∷ try Field50F AnyNumbered ∷ try Field50NoOption Always ∷ []
 -- A tested as in AFK; K
-trials_of Field50Creditor = Try Field50A LastIsBic ∷ Try Field50K Always ∷ Nothing ∷ []
+trials_of Field50Creditor = try Field50A LastIsBic ∷ try Field50K Always ∷ []
 -- A; F if the first line (the second, where the first has `/`) is numbered; 59
-trials_of Field59 = Try Field59A Always ∷ Try Field59F FirstNumbered ∷ Try Field59NoOption Always ∷ []
+trials_of Field59 = try Field59A Always ∷ try Field59F FirstNumbered ∷ try Field59NoOption Always ∷ []
 -- A; 59
-trials_of Field59Debtor = Try Field59A Always ∷ Try Field59NoOption Always ∷ Nothing ∷ []
+trials_of Field59Debtor = try Field59A Always ∷ try Field59NoOption Always ∷ []
 
 -- what is tried: the body, trimmed in `Field50InstructingParty`
 abbrev pub tried_text : Choice → List ℕ → List ℕ
@@ -52,8 +56,7 @@ when false o = []
 -- the options whose test holds of a body's lines
 abbrev pub wanted : List (List ℕ) → List Trial → List PartyOption
 wanted ls [] = []
-wanted ls (Nothing ∷ ts) = wanted ls ts
-wanted ls (Try o t ∷ ts) = when (holds t ls) o ++ wanted ls ts
+wanted ls (t ∷ ts) = when (holds t.1 ls) t.0 ++ wanted ls ts
 
 -- a refusal, with the blank record beside it
 abbrev pub refusing : ℕ → ℕ → Reading
@@ -88,8 +91,7 @@ letter_reply letter = must (is_letter letter) 14 0
 -- the options among trials
 abbrev pub options_in : List Trial → List PartyOption
 options_in [] = []
-options_in (Nothing ∷ ts) = options_in ts
-options_in (Try o t ∷ ts) = o ∷ options_in ts
+options_in (t ∷ ts) = t.0 ∷ options_in ts
 
 -- a choice's options
 abbrev pub options_of : Choice → List PartyOption

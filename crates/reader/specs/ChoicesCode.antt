@@ -1,32 +1,16 @@
 -- What the answers of the private functions mean: what a walk of the lines sees, and what it rules out.
-use Rattle.std.specs.Prelude.{ℕ, ◌-◌, ◌≤◌, ◌≡◌, Bool, true, false, not, ◌&&◌, List, [], length, take, drop}
+use Rattle.std.specs.Prelude.{ℕ, ◌≤◌, Bool, true, false, not, ◌&&◌, List, [], length, drop}
 use Rattle.party.specs.declared.PartyOption.{PartyOption}
 use Rattle.party.specs.declared.PartyOption.TheVariants.{Field50NoOption, Field50A, Field50F, Field50K, Field50C, Field50L, Field50G, Field50H, Field59NoOption, Field59A, Field59F}
 use Rattle.party.specs.declared.First.TheVariants.{ShortAccount}
 use Rattle.swift_utils.specs.Checks.{bic_length}
-use Rattle.field_utils.specs.Lines.{lines}
-use Rattle.field_utils.specs.Identifier.{is_numbered}
 use Rattle.reader.specs.Code.{has_account}
 use Rattle.reader.specs.declared.choices.Choice.{Choice}
 use Rattle.reader.specs.declared.choices.Choice.TheVariants.{Field50InstructingParty, Field50OrderingCustomerFGH, Field50OrderingCustomerAFK, Field50OrderingCustomerNCF, Field50Creditor, Field59, Field59Debtor}
 use Rattle.reader.specs.declared.choices.Test.{Test}
-use Rattle.reader.specs.declared.choices.LineSummary.{LineSummary}
-use Rattle.reader.specs.Detection.{first_line, last_line, test_line, holds}
+use Rattle.reader.specs.Detection.{first_line, test_line, holds}
 
 -- ---- the walk
--- what a walk of a text sees of lines: how many there are, at most 3; the first and the second, of which the last is a part of the
--- text; and where those after them start
-pub record Walked (s : List ℕ) (ls : List (List ℕ)) (w : LineSummary) : Type 0 where
-  pub count : w.count ≡ length (take 3 ls)
-  pub first : w.first ≡ length (first_line ls)
-  pub second : w.second ≡ length (first_line (drop 1 ls))
-  pub one : w.first_numbered ≡ is_numbered (first_line ls)
-  pub two : w.second_numbered ≡ is_numbered (first_line (drop 1 ls))
-  pub last : take (w.to - w.from) (drop w.from s) ≡ last_line (take 2 ls)
-  pub forward : w.from ≤ w.to
-  pub within : w.to ≤ length s
-  pub rest : lines (drop w.rest.at s) ≡ drop 2 ls
-
 -- two lines are passed, the second from start to end
 pub record Passed (s : List ℕ) (start end at : ℕ) : Type 0 where
   pub forward : start ≤ end

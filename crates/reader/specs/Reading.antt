@@ -1,14 +1,12 @@
 -- What a reader gives: a record or a refusal (document 01, 'From the input' and 'Rust forms and their Rattle stand-ins').
-use Rattle.std.specs.Prelude.{ℕ, Bool, List, leb, length}
-use Rattle.errors.specs.Refusals.{Reply, accepted, refused, must, ◌then◌, told}
+use Rattle.std.specs.Prelude.{ℕ, Bool, List, leb, length, Result, Ok, Err}
+use Rattle.errors.specs.Refusals.{Reply, accepted, refused, must, ◌then◌, told_error, told}
+use Rattle.errors.specs.declared.ParseError.{ParseError}
 use Rattle.party.specs.declared.PartyOption.{PartyOption}
 use Rattle.party.specs.declared.Party.{Party}
 use Rattle.party.specs.Text.{text_of, four, four_texts}
 use Rattle.party.specs.Party.{blank}
-use Rattle.errors.specs.declared.Outcome.{Outcome}
-use Rattle.errors.specs.declared.Outcome.TheVariants.{Accepted, Refused}
 use Rattle.record_bytes.specs.RecordBytes.{record_size, stored, decoded}
-use Rattle.reader.specs.declared.Answer.{Answer}
 
 -- accepted with a record, or refused; the record beside a refusal is the blank one
 pub record Reading : Type 0 where
@@ -21,8 +19,9 @@ giving accepted p = record { reply = accepted; party = p }
 giving (refused k n) p = record { reply = refused k n; party = blank }
 
 -- an answer of the code in document 01's terms
-abbrev pub told_answer : Answer → Reading
-told_answer a = record { reply = told a.outcome; party = a.party }
+abbrev pub told_answer : Result Party ParseError → Reading
+told_answer (Ok p) = record { reply = accepted; party = p }
+told_answer (Err e) = record { reply = told_error e; party = blank }
 
 -- a reading into lent bytes: what was said of the body, and the bytes after it
 pub record Into : Type 0 where
@@ -47,13 +46,13 @@ abbrev pub read_into : Reading → List ℕ → Into
 read_into r bytes = storing (room_reply (length bytes) then r.reply) r.party bytes
 
 -- an answer of the code with the bytes that it left
-abbrev pub told_into : Outcome → List ℕ → Into
+abbrev pub told_into : Result (Unit {0}) ParseError → List ℕ → Into
 told_into outcome bytes = record { reply = told outcome; bytes = bytes }
 
 -- the answer of an outcome, with the record that bytes hold
-abbrev pub answer_from : Outcome → List ℕ → Answer
-answer_from Accepted bytes = record { outcome = Accepted; party = decoded bytes }
-answer_from (Refused e) bytes = record { outcome = Refused e; party = blank }
+abbrev pub answer_from : Result (Unit {0}) ParseError → List ℕ → Result Party ParseError
+answer_from (Ok t) bytes = Ok (decoded bytes)
+answer_from (Err e) bytes = Err e
 
 -- what an option finds in a body: what its checks say in their order, whether the body gave an account or identifier, that text, the
 -- BIC, and the names, each with its digit, 0 but in 50F; a text that the option has not is empty

@@ -9,8 +9,10 @@ use native.Mathlib.Nat.{add-zero}
 use native.Mathlib.Numerals.{add-one}
 use borrow.Author.Tests.{le-leb, lt-leb, leb-true, leb-false, not-true, not-false}
 use lib.Dec.{leb}
-use lib.ListN.{length, get_or, take, drop, set, length-append, length-take, length-drop, length-set, take-append-drop, get_or-eq_default}
-use lib.Seq.{take-take, take-append-add, paste, paste-zero, paste-suc, take_at, drop_at, take_all, take-add, take-append-le, drop-append-le, drop-drop, drop-cons, drop-set-lt, take-suc-set, append_snoc, length-take-le, take-paste, drop-paste, get_or-take, get_or-drop}
+use lib.ListN.{length, get_or, take, drop, set, length-append, length-take, length-drop, take-append-drop, get_or-eq_default}
+use lib.Seq.{take-take, take-append-add, paste, take_at, drop_at, take_all, take-add, take-append-le, drop-append-le, drop-drop, drop-cons, drop-set-lt, take-suc-set, append_snoc, length-take-le, take-paste, drop-paste, get_or-take, get_or-drop}
+use Rattle.std.specs.Array.{IsFirstChunk}
+use Rattle.std.proofs.lemmas.List.{drop_all}
 use Rattle.party.specs.declared.Text.{Text}
 use Rattle.party.specs.declared.Party.{Party}
 use Rattle.party.specs.Limits.{place_of}
@@ -163,20 +165,6 @@ nth_blank (suc (suc (suc (suc (suc zero))))) = (refl, λ h. refl)
 nth_blank (suc (suc (suc (suc (suc (suc n)))))) = (refl, λ h. absurd (omega arith))
 
 module _ (s : List ℕ) (n : ℕ) where
-  pub laid_text : record_size ≤ length s → n < 6 → nth_text n (laid_out s) ≡ text_at n s
-  laid_text h l = ap (nth_text n) (laid_here s h) ∙ nth_party s n l
-
-  -- the bytes that it uses are a part
-  pub laid_used :
-      {m k : ℕ} → let from = 3 + text_size * n + 1 in record_size ≤ length s → n < 6 → m ≡ (nth_text n (laid_out s)).len → k ≡ min m text_most →
-      take (from + k - from) (drop from s) ≡ (used (nth_text n (laid_out s))).bytes
-  laid_used {m} {k} h l e f =
-      let from = 3 + text_size * n + 1 in
-      let width : from + k - from ≡ k = omega arith in
-      ap (λ (i : ℕ). take i (drop from s)) (width ∙ f ∙ ap (λ (i : ℕ). min i text_most) e)
-      ∙ take_within (nth_text n (laid_out s)).len text_most (drop from s)
-      ∙ ap (take (nth_text n (laid_out s)).len) (sym (ap (λ (t : Text). t.bytes) (laid_text h l) ∙ text_bytes s n (omega arith)))
-
   -- it is empty where the bytes are fewer, and past the six
   pub text_short : length s < record_size → (nth_text n (laid_out s)).len ≡ 0
   text_short h = ap (λ (p : Party). (nth_text n p).len) (laid_not s h) ∙ (nth_blank n).0
@@ -197,33 +185,6 @@ module _ (s : List ℕ) (n : ℕ) where
           omega (arith, length-take (nth_text n (laid_out s)).len (nth_text n (laid_out s)).bytes, laid_size (omega (arith, leb-true n 5 e)))
       go false e = rw (text_past (leb-false n 5 e)) (omega arith)
 
--- a name is one of the six
-pub name_text : (p : Party) (i : ℕ) → nth_text (2 + i) p ≡ get_or p.name_and_address i none
-name_text p i = let n : 2 + i ≡ suc (suc i) = omega arith in ap (λ (k : ℕ). nth_text k p) n
-
--- ---- its digits
-laid_digits : (s : List ℕ) → length (laid_out s).digits ≤ 4
-unfolding party_from
-laid_digits s = by_size s (λ p. length p.digits ≤ 4) (λ h. omega (arith, length-take 4 (drop digits_at s))) (omega arith)
-
-digit_blank : (i : ℕ) → get_or blank.digits i 0 ≡ 0
-digit_blank zero = refl
-digit_blank (suc zero) = refl
-digit_blank (suc (suc zero)) = refl
-digit_blank (suc (suc (suc zero))) = refl
-digit_blank (suc (suc (suc (suc i)))) = refl
-
-module _ (s : List ℕ) (i : ℕ) where
-  pub laid_digit : record_size ≤ length s → i < 4 → get_or (laid_out s).digits i 0 ≡ get_or s (digits_at + i) 0
-  unfolding party_from
-  laid_digit h l = ap (λ (p : Party). get_or p.digits i 0) (laid_here s h) ∙ get_or-take 4 (drop digits_at s) i 0 l ∙ get_or-drop digits_at s i 0
-
-  pub digit_short : length s < record_size → get_or (laid_out s).digits i 0 ≡ 0
-  digit_short h = ap (λ (p : Party). get_or p.digits i 0) (laid_not s h) ∙ digit_blank i
-
-  pub digit_past : 3 < i → get_or (laid_out s).digits i 0 ≡ 0
-  digit_past h = get_or-eq_default (laid_out s).digits 0 {n = i} (omega (arith, laid_digits s))
-
 -- ---- the bytes after a record do not count
 module _ (s : List ℕ) (h : record_size ≤ length s) where
   abbrev own : List ℕ
@@ -241,7 +202,7 @@ module _ (s : List ℕ) (h : record_size ≤ length s) where
   unfolding text_at
   text_first n l = ap text_from (part_first (3 + text_size * n) text_size (omega arith))
 
-  party_first : party_from own ≡ party_from s
+  pub party_first : party_from own ≡ party_from s
   unfolding party_from
   party_first =
       rw (
@@ -260,22 +221,52 @@ module _ (s : List ℕ) (h : record_size ≤ length s) where
   pub laid_first : laid_out (take record_size s) ≡ laid_out s
   laid_first = laid_here own (omega (arith, length-take-le record_size s h)) ∙ party_first ∙ sym (laid_here s h)
 
--- ---- bytes copied one by one
--- out is d, with the first i bytes of s from at on
-pub record Copied (d : List ℕ) (at : ℕ) (s : List ℕ) (i : ℕ) (out : List ℕ) : Type 0 where
-  pub size : length out ≡ length d
-  pub bytes : out ≡ paste d at s i
+-- ---- the first bytes alone: each text, and the part of it that it uses
+module _ {s r : List ℕ} (h : IsFirstChunk s r record_size) where
+  pub chunk_size : length r ≡ record_size
+  chunk_size = ap length h.same ∙ length-take-le record_size s h.enough
 
-module _ (d : List ℕ) (at : ℕ) (s : List ℕ) where
-  pub copied_none : Copied d at s 0 d
-  copied_none = record { size = refl; bytes = paste-zero d at s }
+  pub chunk_party : laid_out s ≡ party_from r
+  chunk_party = laid_here s h.enough ∙ sym (party_first s h.enough) ∙ ap party_from (sym h.same)
 
-  pub copied_more :
-      (i : ℕ) (out : List ℕ) → Copied d at s i out → at + i < length d → i < length s → Copied d at s (i + 1) (set out (at + i) (get_or s i 0))
-  copied_more i out h room inside = record {
-    size = length-set out (at + i) (get_or s i 0) ∙ h.size;
-    bytes = rw (h.bytes, add-one i) (paste-suc d at s i 0 room inside);
-  }
+  pub chunk_text : (n : ℕ) → n < 6 → nth_text n (laid_out s) ≡ text_at n r
+  chunk_text n l = ap (nth_text n) chunk_party ∙ nth_party r n l
+
+  pub chunk_used :
+      (n : ℕ) {k : ℕ} → let at = 3 + text_size * n in n < 6 → k ≡ min (get_or r at 0) text_most →
+      take (at + 1 + k - (at + 1)) (drop (at + 1) r) ≡ (used (nth_text n (laid_out s))).bytes
+  chunk_used n {k} l e =
+      let at = 3 + text_size * n in
+      let width : at + 1 + k - (at + 1) ≡ k = omega arith in
+      ap (λ (i : ℕ). take i (drop (at + 1) r)) (width ∙ e)
+      ∙ take_within (get_or r at 0) text_most (drop (at + 1) r)
+      ∙ rw (chunk_text n l, text_length_lem r n, text_bytes r n (omega (arith, chunk_size))) refl
+
+  pub chunk_digit : (i : ℕ) → i < 4 → get_or (laid_out s).digits i 0 ≡ get_or r (digits_at + i) 0
+  chunk_digit i l = ap (λ (p : Party). get_or p.digits i 0) chunk_party ∙ party_digit r i l
+
+-- a name is one of the six
+pub name_text : (p : Party) (i : ℕ) → nth_text (2 + i) p ≡ get_or p.name_and_address i none
+name_text p i = let n : 2 + i ≡ suc (suc i) = omega arith in ap (λ (k : ℕ). nth_text k p) n
+
+-- ---- its digits
+laid_digits : (s : List ℕ) → length (laid_out s).digits ≤ 4
+unfolding party_from
+laid_digits s = by_size s (λ p. length p.digits ≤ 4) (λ h. omega (arith, length-take 4 (drop digits_at s))) (omega arith)
+
+digit_blank : (i : ℕ) → get_or blank.digits i 0 ≡ 0
+digit_blank zero = refl
+digit_blank (suc zero) = refl
+digit_blank (suc (suc zero)) = refl
+digit_blank (suc (suc (suc zero))) = refl
+digit_blank (suc (suc (suc (suc i)))) = refl
+
+module _ (s : List ℕ) (i : ℕ) where
+  pub digit_short : length s < record_size → get_or (laid_out s).digits i 0 ≡ 0
+  digit_short h = ap (λ (p : Party). get_or p.digits i 0) (laid_not s h) ∙ digit_blank i
+
+  pub digit_past : 3 < i → get_or (laid_out s).digits i 0 ≡ 0
+  digit_past h = get_or-eq_default (laid_out s).digits 0 {n = i} (omega (arith, laid_digits s))
 
 -- ---- a text stored at a place
 pub text_put :
@@ -311,14 +302,6 @@ module _ (d : List ℕ) (at : ℕ) (s : List ℕ) (i j k : ℕ) (h : j ≤ i) (l
   paste_over =
       rw (paste_front, paste_back, take-add j k s)
       (ap (λ (r : List ℕ). r ++ drop (at + (j + k)) d) (append_assoc (take at d) (take j s) (take k (drop j s))))
-
--- a list put as its first bytes and its last, which may be put over some of the first
-pub paste_ends :
-    (d : List ℕ) (at : ℕ) (s : List ℕ) (k : ℕ) {e f : List ℕ} → k ≤ length s → length s ≤ k + k → at + length s ≤ length d → e ≡ paste d at s k →
-    f ≡ paste e (at + (length s - k)) (drop (length s - k) s) k → f ≡ paste d at s (length s)
-paste_ends d at s k h l room p q =
-    let all : length s - k + k ≡ length s = omega arith in
-    q ∙ rw p (paste_over d at s k (length s - k) k (omega arith) (omega arith) (omega arith) (omega arith)) ∙ ap (paste d at s) all
 
 -- ---- texts one after the other
 pub paste_more :
@@ -375,25 +358,19 @@ pub stored_none : (p : Party) (d : List ℕ) → length d < record_size → stor
 unfolding stored
 stored_none p d h = rw (lt-leb record_size (length d) h, stored)
 
--- the texts and then the digits are those bytes
-texts_digits :
-    (p : Party) (d : List ℕ) → length p.name_and_address ≡ 4 → length p.digits ≡ 4 → Sizes (texts_of p) → record_size ≤ length d →
-    paste (paste d 3 (encoded_texts (texts_of p)) (6 * text_size)) digits_at p.digits 4 ≡ take 3 d ++ body p ++ drop record_size d
-texts_digits p d four digits h l =
-    let texts = encoded_texts (texts_of p) in
-    let size = six p four h in
-    let all = body_size p four digits h in
-    let last : take 4 p.digits ≡ take 4 (drop (6 * text_size) (body p)) = ap (take 4) (sym (drop_at texts p.digits (6 * text_size) size)) in
-    let more = paste_more d (body p) p.digits 3 (6 * text_size) 4 l (omega (arith, all)) last in
-    rw (take-append-le (6 * text_size) texts p.digits (omega (arith, size)), take_all (6 * text_size + 4) (body p) (omega (arith, all))) at more
+-- a list put before another that ends a buffer
+between : (d s t : List ℕ) (n m : ℕ) → length s ≡ n → length t ≡ m → length d ≡ n + m → take n s ++ drop n (take n d ++ take m t ++ drop (n + m) d) ≡ s ++ t
+between d s t n m size last whole =
+    let front : length (take n d) ≡ n = length-take-le n d (omega arith) in
+    rw (take_all n s (omega arith), take_all m t (omega arith), drop_all (n + m) d (omega arith), append-nil, drop_at (take n d) t n front) refl
 
--- the first three bytes, then those
+-- the first three bytes and the digits, then the texts between them
 pub store_all :
-    (p : Party) (d : List ℕ) → length p.name_and_address ≡ 4 → length p.digits ≡ 4 → Sizes (texts_of p) → record_size ≤ length d →
-    paste (paste (head_put p.option p.present p.count d) 3 (encoded_texts (texts_of p)) (6 * text_size)) digits_at p.digits 4
-    ≡ encoded p ++ drop record_size d
+    (p : Party) (d : List ℕ) → length p.name_and_address ≡ 4 → length p.digits ≡ 4 → Sizes (texts_of p) → length d ≡ record_size →
+    paste (paste (head_put p.option p.present p.count d) digits_at p.digits 4) 3 (encoded_texts (texts_of p)) (6 * text_size) ≡ encoded p
 unfolding encoded
 store_all p [] four digits h l = absurd (omega arith)
 store_all p (x ∷ []) four digits h l = absurd (omega arith)
 store_all p (x ∷ y ∷ []) four digits h l = absurd (omega arith)
-store_all p (x ∷ y ∷ z ∷ d) four digits h l = texts_digits p (place_of p.option ∷ bit p.present ∷ byte_of p.count ∷ d) four digits h l
+store_all p (x ∷ y ∷ z ∷ d) four digits h l =
+    ap (λ (r : List ℕ). place_of p.option ∷ bit p.present ∷ byte_of p.count ∷ r) (between d (encoded_texts (texts_of p)) p.digits (6 * text_size) 4 (six p four h) digits (omega arith))

@@ -1,24 +1,22 @@
 -- Texts that are parts of a body, stored at their places. Assumes nothing.
 use Prim.Native.Nat.{ℕ, zero, suc, ◌+◌, ◌*◌, ◌-◌, ◌<◌, ◌≤◌}
 use mathlib.Core.Path.{◌≡◌, refl, ◌∙◌, sym, ap, subst}
-use mathlib.Core.Bool.{Bool}
 use mathlib.Core.List.{List, [], ◌∷◌, ◌++◌, append_assoc}
 use native.Mathlib.Omega.{arith}
 use lib.ListN.{length, get_or, take, drop, set, replicate, take-append-drop, length-set, length-map, length-append, length-take, length-drop, length-replicate}
 use native.Mathlib.Nat.{sub-zero, zero-sub, suc-sub-suc, zero-add, suc-add}
-use lib.Seq.{paste, take_all, take-nil, take-length, take-take, take-add, drop-set-lt, take_at, drop_at, length-take-le, take-append-le, drop-append-le, drop-drop, drop-paste, length-paste}
-use Rattle.party.specs.declared.PartyOption.{PartyOption}
+use lib.Seq.{paste, take_all, take-nil, take-length, take-take, take-add, drop-set-lt, take_at, drop_at, length-take-le, take-append-le, drop-append-le, drop-drop, drop-paste}
+use borrow.Rule.Slice.PartMut.{put_mid}
+use Rattle.std.proofs.lemmas.Slice.{take-put_mid_below, drop-put_mid}
 use Rattle.party.specs.declared.Text.{Text}
 use Rattle.party.specs.declared.Part.{Part}
 use Rattle.party.specs.declared.Parts.{Parts}
-use Rattle.party.specs.declared.Party.{Party}
-use Rattle.party.specs.Limits.{place_of}
 use Rattle.party.specs.Text.{text_most, padded, text_of, part_in, texts_in}
 use Rattle.party.specs.Party.{party_in}
 use Rattle.party.proofs.Laws.{take_min}
-use Rattle.record_bytes.specs.RecordBytes.{text_size, digits_at, record_size, byte_of, bit, encoded_text, encoded_texts, texts_of, encoded, stored}
+use Rattle.record_bytes.specs.RecordBytes.{text_size, digits_at, record_size, byte_of, encoded_text, encoded_texts, texts_of, encoded}
 use Rattle.record_bytes.specs.Code.{head_put, parts_of}
-use Rattle.record_bytes.proofs.Laws.{none, Sizes, text_in, text_put, stored_whole, store_all}
+use Rattle.record_bytes.proofs.Laws.{none, Sizes, text_in, text_put, store_all}
 
 -- the texts of the record of parts are those of its six parts
 pub texts_of_lem : (body : List ℕ) (q : Parts) → texts_of (party_in body q) ≡ texts_in body (parts_of q)
@@ -64,12 +62,11 @@ part_text body q n x h e =
     ∙ ap encoded_text (sym (nth_text_lem body (parts_of q) n h) ∙ ap (λ (ts : List Text). get_or ts n none) (sym (texts_of_lem body q)))
     ∙ sym (text_in (texts_of p) n (party_sizes body q) (omega (arith, h, ap length (texts_of_lem body q), length-map (parts_of q) (λ (p : Part). text_of (part_in body p)))))
 
--- the first three bytes, the texts and the digits are the record's
-pub store_all_parts : (body : List ℕ) (q : Parts) (d : List ℕ) → length q.name_and_address ≡ 4 → length q.digits ≡ 4 → record_size ≤ length d
-    → paste (paste (head_put q.option q.present q.count d) 3 (encoded_texts (texts_of (party_in body q))) (6 * text_size)) digits_at q.digits 4 ≡ stored (party_in body q) d
+-- the first three bytes, the digits and the texts are the record's
+pub store_all_parts : (body : List ℕ) (q : Parts) (d : List ℕ) → length q.name_and_address ≡ 4 → length q.digits ≡ 4 → length d ≡ record_size
+    → paste (paste (head_put q.option q.present q.count d) digits_at q.digits 4) 3 (encoded_texts (texts_of (party_in body q))) (6 * text_size) ≡ encoded (party_in body q)
 unfolding party_in
-store_all_parts body q d four digits room =
-    store_all (party_in body q) d (party_four body q four) digits (party_sizes body q) room ∙ sym (stored_whole (party_in body q) d room)
+store_all_parts body q d four digits size = store_all (party_in body q) d (party_four body q four) digits (party_sizes body q) size
 
 -- the first bytes of s over those of z
 module _ (d z s : List ℕ) (at m n : ℕ) (room : at + m ≤ length d) (whole : length z ≡ m) (few : n ≤ m) (some : n ≤ length s) where
@@ -155,26 +152,6 @@ zeros_left d texts n h room size e =
     ap (take text_size) (drop-paste d 3 texts (text_size * n) (omega arith) size ∙ sym (drop-drop (text_size * n) 3 d))
     ∙ zeros_part (text_size * n) text_size (text_size * (5 - n)) (drop 3 d) (subst (λ (k : ℕ). take k (drop 3 d) ≡ replicate k 0) all e)
 
--- a buffer with zeros for the texts: they stand after the first three bytes too, and a record stored there is one stored in the buffer
-module _ (d : List ℕ) (room : record_size ≤ length d) where
-  abbrev pub zeroed : List ℕ
-  zeroed = paste d 3 (replicate (6 * text_size) 0) (6 * text_size)
-
-  pub zeros_stand : (o : PartyOption) (present : Bool) (count : ℕ) → take (6 * text_size) (drop 3 (head_put o present count zeroed)) ≡ replicate (6 * text_size) 0
-  zeros_stand o present count =
-      let z = replicate {A = ℕ} (6 * text_size) 0 in
-      ap (take (6 * text_size))
-      (drop-set-lt 3 (set (set zeroed 0 (place_of o)) 1 (bit present)) 2 (byte_of count) (omega arith)
-      ∙ drop-set-lt 3 (set zeroed 0 (place_of o)) 1 (bit present) (omega arith)
-      ∙ drop-set-lt 3 zeroed 0 (place_of o) (omega arith)
-      ∙ back d z z 3 (6 * text_size) 0 (omega arith) refl (omega arith) (omega arith))
-      ∙ take_at z (drop (3 + 6 * text_size) d) (6 * text_size) refl
-
-  pub zeroed_length : length zeroed ≡ length d
-  zeroed_length = length-paste d 3 (replicate (6 * text_size) 0) (6 * text_size) (omega arith) (omega arith)
-
-  pub zeroed_stored : (p : Party) → stored p zeroed ≡ stored p d
-  zeroed_stored p =
-      stored_whole p zeroed (omega (arith, zeroed_length))
-      ∙ ap (◌++◌ (encoded p)) (sym (drop-drop 4 digits_at zeroed) ∙ ap (drop 4) (drop-paste d 3 (replicate (6 * text_size) 0) (6 * text_size) (omega arith) (omega arith)) ∙ drop-drop 4 digits_at d)
-      ∙ sym (stored_whole p d room)
+-- what is put over a part that was written before stands alone there
+pub paste_on_mid : (d y s : List ℕ) (at n : ℕ) → at + n ≤ length d → length y ≡ n → paste (put_mid at n d y) at s n ≡ paste d at s n
+paste_on_mid d y s at n room size = rw (take-put_mid_below at n d y at (omega arith) (omega arith), drop-put_mid at n d y (at + n) (omega arith) (omega arith) size) refl

@@ -4,18 +4,18 @@
 
 use copies::put_bytes;
 use party::{
-    NOTHING, Part, Parts, Party, PartyOption, TEXT_MOST, Text, blank, index_of, option_at, part_of,
-    text_of,
+    NOTHING, OPTION_COUNT, Part, Parts, Party, PartyOption, TEXT_MOST, Text, blank, index_of,
+    option_at, part_of, text_of,
 };
 
 pub mod copies;
 
-ghost use Rattle.std.specs.Prelude.{◌≡◌, [], ◌+◌, ◌*◌, ◌≤◌, ◌<◌, min, leb, length, get_or, take, drop, replicate};
+ghost use Rattle.std.specs.Prelude.{◌≡◌, [], ◌+◌, ◌*◌, ◌≤◌, ◌<◌, leb, length, get_or, take, drop, replicate, MatchOption};
 ghost use Rattle.std.proofs.Math.Seq.{paste};
 ghost use Rattle.party.specs.Text.{text_most, text_of, used};
-ghost use Rattle.party.specs.Party.{party_in};
+ghost use Rattle.party.specs.Party.{party_in, blank as blank_party};
 ghost use Rattle.record_bytes.specs.Code.{head_put, parts_of};
-ghost use Rattle.record_bytes.specs.RecordBytes.{text_size, digits_at, record_size, byte_of, bit as bit_of, encoded_text, encoded_texts, texts_of, nth_text, stored, text_at, has_option, holds_record, party_from, decoded, laid_out};
+ghost use Rattle.record_bytes.specs.RecordBytes.{text_size, digits_at, record_size, byte_of, encoded_text, encoded_texts, texts_of, nth_text, stored, text_at, has_option, holds_record, party_from, decoded, laid_out};
 
 // Where the texts stand: after the option, the presence and the count.
 pub const TEXTS_AT: usize = 3;
@@ -29,83 +29,57 @@ pub const DIGITS_AT: usize = TEXTS_AT + 6 * TEXT_SIZE;
 // The bytes of a record: 241.
 pub const RECORD_SIZE: usize = DIGITS_AT + 4;
 
-// A length or count as a byte.
+// A length or count as a byte; one above 255 as 255.
 fn byte_of(n: usize) -> u8
     ensures { result ≡ byte_of n }
 {
-    if n < 255 { n as u8 } else { 255 }
+    n.min(255) as u8
 }
 
-// A yes or no as a byte.
-fn bit(b: bool) -> u8
-    ensures { result ≡ bit_of b }
+// A text at an index: its length, then its bytes.
+fn put_text(text: Text, record: &mut [u8; RECORD_SIZE], at: usize)
+    requires { at + text_size ≤ record_size }
+    ensures { record.new ≡ paste record.old at (encoded_text text) text_size }
 {
-    if b { 1 } else { 0 }
-}
-
-// A text at a place: its length, then its bytes.
-fn put_text(t: Text, out: &mut [u8], at: usize)
-    requires { at + text_size ≤ length out.old }
-    ensures { out.new ≡ paste out.old at (encoded_text t) text_size }
-{
-    let len = t.len;
-    out[at] = byte_of(len);
-    let from = at + 1;
-    let mut i = 0;
-    while i < TEXT_MOST {
-        out[from + i] = t.bytes[i];
-        i += 1;
-    }
+    record[at] = byte_of(text.len);
+    record[at + 1..at + TEXT_SIZE].copy_from_slice(&text.bytes);
 }
 
 // The six texts of a record, in their order.
-fn nth_text(p: Party, n: usize) -> Text
+fn nth_text(p: &Party, n: usize) -> Text
     requires { n < 6 }
-    ensures { result ≡ get_or (texts_of p) n (record { bytes = []; len = 0 }) }
+    ensures { result ≡ get_or (texts_of p.now) n (record { bytes = []; len = 0 }) }
 {
-    if n == 0 {
-        return p.account;
+    match n {
+        0 => p.account,
+        1 => p.bic,
+        _ => p.name_and_address[n - 2],
     }
-    if n == 1 {
-        return p.bic;
-    }
-    p.name_and_address[n - 2]
 }
 
 // The six texts from 3 on.
-fn put_texts(p: Party, out: &mut [u8])
-    requires { record_size ≤ length out.old }
-    ensures { out.new ≡ paste out.old 3 (encoded_texts (texts_of p)) (6 * text_size) }
+fn put_texts(p: Party, record: &mut [u8; RECORD_SIZE])
+    ensures { record.new ≡ paste record.old 3 (encoded_texts (texts_of p)) (6 * text_size) }
 {
-    let mut n = 0;
-    let mut at = TEXTS_AT;
-    while n < 6 {
-        put_text(nth_text(p, n), out, at);
-        at += TEXT_SIZE;
-        n += 1;
+    for n in 0..6 {
+        put_text(nth_text(&p, n), record, TEXTS_AT + TEXT_SIZE * n);
     }
 }
 
-// The four digits, after the texts.
-fn put_digits(digits: [u8; 4], out: &mut [u8])
-    requires { record_size ≤ length out.old }
-    ensures { out.new ≡ paste out.old digits_at digits 4 }
+// What is no text: the three bytes before the texts, and the four digits after them.
+fn put_fields(
+    option: PartyOption,
+    present: bool,
+    count: usize,
+    digits: [u8; 4],
+    record: &mut [u8; RECORD_SIZE],
+)
+    ensures { record.new ≡ paste (head_put option present count record.old) digits_at digits 4 }
 {
-    let mut i = 0;
-    while i < 4 {
-        out[DIGITS_AT + i] = digits[i];
-        i += 1;
-    }
-}
-
-// The three bytes before the texts.
-fn put_head(option: PartyOption, present: bool, count: usize, out: &mut [u8])
-    requires { record_size ≤ length out.old }
-    ensures { out.new ≡ head_put option present count out.old }
-{
-    out[0] = index_of(option) as u8;
-    out[1] = bit(present);
-    out[2] = byte_of(count);
+    record[0] = index_of(option) as u8;
+    record[1] = u8::from(present);
+    record[2] = byte_of(count);
+    record[DIGITS_AT..].copy_from_slice(&digits);
 }
 
 // Stores a record at the start of the bytes, and says whether there are as many; where there are not, no byte changes.
@@ -113,78 +87,47 @@ pub fn store(p: Party, out: &mut [u8]) -> bool
     ensures value { result ≡ leb record_size (length out.old) }
     ensures out_after { out.new ≡ stored p out.old }
 {
-    if out.len() < RECORD_SIZE {
+    let Some(record) = out.first_chunk_mut() else {
         return false;
-    }
-    let option = p.option;
-    put_head(option, p.present, p.count, out);
-    put_texts(p, out);
-    let digits = p.digits;
-    put_digits(digits, out);
+    };
+    put_fields(p.option, p.present, p.count, p.digits, record);
+    put_texts(p, record);
     true
 }
 
-// Zeros for the six texts.
-fn put_zeros(out: &mut [u8])
-    requires { record_size ≤ length out.old }
-    ensures { out.new ≡ paste out.old 3 (replicate (6 * text_size) 0) (6 * text_size) }
+// The text of a slice at an index where there are zeros: its length, then its bytes. Not inlined, so that the six calls are unrolled.
+#[inline(never)]
+fn put_part(s: &[u8], record: &mut [u8; RECORD_SIZE], at: usize)
+    requires { (at + text_size ≤ record_size) × (take text_size (drop at record.old) ≡ replicate text_size 0) }
+    ensures { record.new ≡ paste record.old at (encoded_text (text_of s.now)) text_size }
 {
-    let mut i = 0;
-    while i < 6 * TEXT_SIZE {
-        out[TEXTS_AT + i] = 0;
-        i += 1;
-    }
-}
-
-// How many bytes of a slice a text takes.
-fn taken(s: &[u8]) -> usize
-    ensures { result ≡ length (take text_most s.now) }
-{
-    if s.len() < TEXT_MOST {
-        s.len()
-    } else {
-        TEXT_MOST
-    }
-}
-
-// The text of a slice at a place where there are zeros: its length, then its bytes.
-fn put_part(s: &[u8], out: &mut [u8], at: usize)
-    requires { (at + text_size ≤ length out.old) × (take text_size (drop at out.old) ≡ replicate text_size 0) }
-    ensures { out.new ≡ paste out.old at (encoded_text (text_of s.now)) text_size }
-{
-    let n = taken(s);
-    out[at] = n as u8;
-    put_bytes(out, at + 1, &s[..n]);
+    let n = s.len().min(TEXT_MOST);
+    record[at] = n as u8;
+    put_bytes(&mut record[at + 1..at + 1 + n], &s[..n]);
 }
 
 // The six parts of a record, in the order of its texts.
-fn nth_part(parts: Parts, n: usize) -> Part
+fn nth_part(parts: &Parts, n: usize) -> Part
     requires { n < 6 }
-    ensures { result ≡ get_or (parts_of parts) n (record { start = 0; len = 0 }) }
+    ensures { result ≡ get_or (parts_of parts.now) n (record { start = 0; len = 0 }) }
 {
-    if n == 0 {
-        return parts.account;
+    match n {
+        0 => parts.account,
+        1 => parts.bic,
+        _ => parts.name_and_address[n - 2],
     }
-    if n == 1 {
-        return parts.bic;
-    }
-    parts.name_and_address[n - 2]
 }
 
 // The texts of six parts of a body from 3 on, where there are zeros.
-fn put_parts(parts: Parts, body: &[u8], out: &mut [u8])
-    requires { (record_size ≤ length out.old) × (take (6 * text_size) (drop 3 out.old) ≡ replicate (6 * text_size) 0) }
-    ensures { out.new ≡ paste out.old 3 (encoded_texts (texts_of (party_in body.now parts))) (6 * text_size) }
+fn put_parts(parts: Parts, body: &[u8], record: &mut [u8; RECORD_SIZE])
+    requires { take (6 * text_size) (drop 3 record.old) ≡ replicate (6 * text_size) 0 }
+    ensures { record.new ≡ paste record.old 3 (encoded_texts (texts_of (party_in body.now parts))) (6 * text_size) }
 {
-    let mut n = 0;
-    let mut at = TEXTS_AT;
-    while n < 6 {
-        let part = nth_part(parts, n);
+    for n in 0..6 {
+        let part = nth_part(&parts, n);
         if part.len != 0 {
-            put_part(part_of(body, part), out, at);
+            put_part(part_of(body, part), record, TEXTS_AT + TEXT_SIZE * n);
         }
-        at += TEXT_SIZE;
-        n += 1;
     }
 }
 
@@ -193,98 +136,80 @@ pub fn store_parts(parts: Parts, body: &[u8], out: &mut [u8]) -> bool
     ensures value { result ≡ leb record_size (length out.old) }
     ensures out_after { out.new ≡ stored (party_in body.now parts) out.old }
 {
-    if out.len() < RECORD_SIZE {
+    let Some(record) = out.first_chunk_mut() else {
         return false;
-    }
-    let option = parts.option;
-    put_zeros(out);
-    put_head(option, parts.present, parts.count, out);
-    put_parts(parts, body, out);
-    let digits = parts.digits;
-    put_digits(digits, out);
+    };
+    put_fields(
+        parts.option,
+        parts.present,
+        parts.count,
+        parts.digits,
+        record,
+    );
+    record[TEXTS_AT..DIGITS_AT].fill(0);
+    put_parts(parts, body, record);
     true
 }
 
 // The text with a number among the six.
-fn text_at(s: &[u8], n: usize) -> Text
-    requires { (record_size ≤ length s.now) × (n < 6) }
-    ensures { result ≡ text_at n s.now }
+fn text_at(record: &[u8; RECORD_SIZE], n: usize) -> Text
+    requires { n < 6 }
+    ensures { result ≡ text_at n record.now }
 {
     let at = TEXTS_AT + TEXT_SIZE * n;
-    let from = at + 1;
-    let end = at + TEXT_SIZE;
-    let text = text_of(&s[from..end]);
-    let bytes = text.bytes;
     Text {
-        bytes,
-        len: s[at] as usize,
+        len: record[at] as usize,
+        ..text_of(&record[at + 1..at + TEXT_SIZE])
     }
-}
-
-// The four digits.
-fn digits_at(s: &[u8]) -> [u8; 4]
-    requires { record_size ≤ length s.now }
-    ensures { result ≡ take 4 (drop digits_at s.now) }
-{
-    [
-        s[DIGITS_AT],
-        s[DIGITS_AT + 1],
-        s[DIGITS_AT + 2],
-        s[DIGITS_AT + 3],
-    ]
 }
 
 // Whether bytes are as many as a record's, and the first is an option's place.
 pub fn has_option(s: &[u8]) -> bool
     ensures { result ≡ has_option s.now }
 {
-    if s.len() < RECORD_SIZE {
-        return false;
-    }
-    s[0] <= 10
+    s.len() >= RECORD_SIZE && usize::from(s[0]) < OPTION_COUNT
 }
 
 // Whether bytes start with a record.
 pub fn holds_record(s: &[u8]) -> bool
     ensures { result ≡ holds_record s.now }
 {
-    if s.len() < RECORD_SIZE {
-        return false;
+    has_option(s) && s[1] <= 1
+}
+
+// The record that bytes start with.
+fn record_of(s: &[u8]) -> Option<&[u8; RECORD_SIZE]>
+    ensures { MatchOption result (decoded s.now ≡ blank_party) (λ r. decoded s.now ≡ party_from r.now) }
+{
+    if holds_record(s) {
+        s.first_chunk()
+    } else {
+        None
     }
-    if 10 < s[0] {
-        return false;
-    }
-    s[1] <= 1
 }
 
 // The option of the record at the start of the bytes.
 pub fn option_of(s: &[u8]) -> PartyOption
     ensures { result ≡ (decoded s.now).option }
 {
-    if !holds_record(s) {
-        return PartyOption::Field50NoOption;
+    match record_of(s) {
+        Some(record) => option_at(record[0] as usize),
+        None => PartyOption::Field50NoOption,
     }
-    option_at(s[0] as usize)
 }
 
 // Whether it has an account or identifier.
 pub fn present_of(s: &[u8]) -> bool
     ensures { result ≡ (decoded s.now).present }
 {
-    if !holds_record(s) {
-        return false;
-    }
-    s[1] == 1
+    record_of(s).is_some_and(|r| r[1] == 1)
 }
 
 // Its count of names.
 pub fn count_of(s: &[u8]) -> usize
     ensures { result ≡ (decoded s.now).count }
 {
-    if !holds_record(s) {
-        return 0;
-    }
-    s[2] as usize
+    record_of(s).map_or(0, |r| r[2] as usize)
 }
 
 // The length of a text, by its number among the six. Texts and digits are what the bytes have at their places: whether they are a record's
@@ -292,71 +217,54 @@ pub fn count_of(s: &[u8]) -> usize
 pub fn text_length(s: &[u8], n: usize) -> usize
     ensures { result ≡ (nth_text n (laid_out s.now)).len }
 {
-    if s.len() < RECORD_SIZE {
-        return 0;
+    match s.first_chunk::<RECORD_SIZE>() {
+        Some(record) if n < 6 => record[TEXTS_AT + TEXT_SIZE * n] as usize,
+        _ => 0,
     }
-    if 5 < n {
-        return 0;
-    }
-    let at = TEXTS_AT + TEXT_SIZE * n;
-    s[at] as usize
-}
-
-// A length, or 38 where that passes it.
-fn within_text(n: usize) -> usize
-    ensures { result ≡ min n text_most }
-{
-    if TEXT_MOST < n { TEXT_MOST } else { n }
 }
 
 // The bytes that a text uses: as many as its length says, or all 38 where that passes them.
 pub fn used_text(s: &[u8], n: usize) -> &[u8]
     ensures { result.now ≡ (used (nth_text n (laid_out s.now))).bytes }
 {
-    if s.len() < RECORD_SIZE {
-        return &s[0..0];
+    match s.first_chunk::<RECORD_SIZE>() {
+        Some(record) if n < 6 => {
+            let at = TEXTS_AT + TEXT_SIZE * n;
+            let len = (record[at] as usize).min(TEXT_MOST);
+            &record[at + 1..at + 1 + len]
+        }
+        _ => &[],
     }
-    if 5 < n {
-        return &s[0..0];
-    }
-    let len = within_text(text_length(s, n));
-    let from = TEXTS_AT + TEXT_SIZE * n + 1;
-    let end = from + len;
-    &s[from..end]
 }
 
 // The digit of a line, counted from 0.
 pub fn digit_of(s: &[u8], i: usize) -> u8
     ensures { result ≡ get_or (laid_out s.now).digits i 0 }
 {
-    if s.len() < RECORD_SIZE {
-        return 0;
+    match s.first_chunk::<RECORD_SIZE>() {
+        Some(record) if i < 4 => record[DIGITS_AT + i],
+        _ => 0,
     }
-    if 3 < i {
-        return 0;
-    }
-    s[DIGITS_AT + i]
 }
 
-// The record of bytes that start with one.
-fn loaded(s: &[u8]) -> Party
-    requires { record_size ≤ length s.now }
-    ensures { result ≡ party_from s.now }
+// The record of its bytes.
+fn loaded(record: &[u8; RECORD_SIZE]) -> Party
+    ensures { result ≡ party_from record.now }
 {
     let mut names = [NOTHING; 4];
-    let mut i = 0;
-    while i < 4 {
-        names[i] = text_at(s, 2 + i);
-        i += 1;
+    for i in 0..4 {
+        names[i] = text_at(record, 2 + i);
     }
+    let mut digits = [0; 4];
+    digits.copy_from_slice(&record[DIGITS_AT..]);
     Party {
-        option: option_at(s[0] as usize),
-        present: s[1] == 1,
-        account: text_at(s, 0),
-        bic: text_at(s, 1),
-        count: s[2] as usize,
+        option: option_at(record[0] as usize),
+        present: record[1] == 1,
+        account: text_at(record, 0),
+        bic: text_at(record, 1),
+        count: record[2] as usize,
         name_and_address: names,
-        digits: digits_at(s),
+        digits,
     }
 }
 
@@ -365,8 +273,5 @@ fn loaded(s: &[u8]) -> Party
 pub fn load(s: &[u8]) -> Party
     ensures { result ≡ decoded s.now }
 {
-    if !holds_record(s) {
-        return blank();
-    }
-    loaded(s)
+    record_of(s).map_or_else(blank, loaded)
 }

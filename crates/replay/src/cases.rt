@@ -1,54 +1,60 @@
 // A case: a body is read by a call, and the record that it gives, or that the Rust reads, is written.
-ghost use Rattle.std.specs.Prelude.{◌≡◌, ◌≤◌, length};
+ghost use Rattle.std.specs.Prelude.{◌≤◌};
 
 use crate::count::{
-    BODIES, BY_RULE, CAME, CASES, CAUSES, COUNTS, Difference, OTHER, RECORDS, WAYS, tick,
+    BODIES, BY_RULE, CAME, CASES, CAUSES, Counts, Difference, OTHER, RECORDS, WAYS,
 };
-use crate::list::{field, find, number, pair, past, put, same, unescape};
-use crate::record::{byte, has_only, load, stale_room};
+use crate::list::{Line, put, unescape};
+use crate::record::{has_only, load, stale_room};
 use party::PartyOption;
-use record_bytes::{DIGITS_AT, option_of};
+use record_bytes::{DIGITS_AT, RECORD_SIZE, option_of};
 use yewdome::{
     yewdome_kept_parse, yewdome_kept_parse_with_variant, yewdome_kept_read, yewdome_party_measure,
     yewdome_party_parse, yewdome_party_parse_with_variant, yewdome_party_place, yewdome_party_read,
 };
 
-// Calls the function that a line names.
-fn call(line: &[u8], body: &[u8], record: &mut [u8]) -> u32 {
-    let place = byte(line, 1);
-    match number(line, 0) {
-        0 => yewdome_party_read(place, body, record),
-        1 => yewdome_party_parse(place, body, record),
-        _ => yewdome_party_parse_with_variant(place, body, byte(line, 2), record),
-    }
+// What reads a body: an option, a choice, or a choice with a letter.
+#[derive(Clone, Copy)]
+pub enum Reader {
+    ByOption(u8),
+    ByChoice(u8),
+    ByVariant { choice: u8, letter: u8 },
 }
 
-// The same of what tells the causes.
-fn call_kept(line: &[u8], body: &[u8]) -> u32 {
-    let place = byte(line, 1);
-    match number(line, 0) {
-        0 => yewdome_kept_read(place, body),
-        1 => yewdome_kept_parse(place, body),
-        _ => yewdome_kept_parse_with_variant(place, body, byte(line, 2)),
+impl Reader {
+    fn read(self, body: &[u8], record: &mut [u8]) -> u32 {
+        match self {
+            Reader::ByOption(option) => yewdome_party_read(option, body, record),
+            Reader::ByChoice(choice) => yewdome_party_parse(choice, body, record),
+            Reader::ByVariant { choice, letter } => {
+                yewdome_party_parse_with_variant(choice, body, letter, record)
+            }
+        }
+    }
+
+    // By which causes what is written of the body is other bytes, or the refusal.
+    fn kept(self, body: &[u8]) -> u32 {
+        match self {
+            Reader::ByOption(option) => yewdome_kept_read(option, body),
+            Reader::ByChoice(choice) => yewdome_kept_parse(choice, body),
+            Reader::ByVariant { choice, letter } => {
+                yewdome_kept_parse_with_variant(choice, body, letter)
+            }
+        }
     }
 }
 
 // Reads the body into 241 lent bytes. An accepted one gives the record; a refusal changes no byte.
-fn read(line: &[u8], body: &[u8], record: &[u8]) -> Difference {
-    let code = pair(line, 4);
+fn read(reader: Reader, body: &[u8], code: u64, record: &[u8]) -> Result<(), Difference> {
     let mut room = stale_room();
-    if call(line, body, &mut room[8..249]) as u64 != code {
-        return Difference::Code;
+    if u64::from(reader.read(body, &mut room[8..249])) != code {
+        return Err(Difference::Code);
     }
-    let stored = if code == 0 {
-        has_only(&room, record)
+    let stored = if code == 0 { record } else { b"" };
+    if has_only(&room, stored) {
+        Ok(())
     } else {
-        has_only(&room, b"")
-    };
-    if stored {
-        Difference::Nothing
-    } else {
-        Difference::Record
+        Err(Difference::Record)
     }
 }
 
@@ -64,14 +70,14 @@ fn gives(record: &[u8], size: usize, code: u32, text: &[u8]) -> bool
 // Whether the record is measured and placed as a text or, where there is a refusal, refused: in buffers one byte shorter than a length, as
 // long and one byte longer.
 fn writes(record: &[u8], text: &[u8], len: usize, refusal: u32) -> bool {
-    if len == 0 {
+    if len == 0 || 240 < len {
         return false;
     }
-    if 240 < len {
-        return false;
-    }
-    let code = if refusal == 0 { len as u32 } else { refusal };
-    let short = if refusal == 0 { 24 * 65536 } else { refusal };
+    let (code, short) = if refusal == 0 {
+        (len as u32, 24 * 65536)
+    } else {
+        (refusal, refusal)
+    };
     yewdome_party_measure(record) == code
         && gives(record, len - 1, short, b"")
         && gives(record, len, code, text)
@@ -80,22 +86,19 @@ fn writes(record: &[u8], text: &[u8], len: usize, refusal: u32) -> bool {
 
 // Whether the record of the line is written as the text or, by the rule 22, refused; and a 50F, once its digits are 1, 2, 3, 4, as the Rust
 // writes it.
-fn is_written(line: &[u8], record: &mut [u8], text: &[u8]) -> bool
-    requires { length «record».old ≡ 241 }
-{
+fn is_written(line: Line<'_>, record: &mut [u8; RECORD_SIZE], text: &[u8]) -> bool {
     let mut room = [0u8; 240];
-    let len = unescape(field(line, 20), &mut room, 0);
-    if number(line, 8) == 22 {
-        return writes(record, b"", len, 22 * 65536);
+    let rusts = unescape(line.field(20), &mut room);
+    if line.number(8) == 22 {
+        return writes(record, b"", rusts.len(), 22 * 65536);
     }
     if !writes(record, text, text.len(), 0) {
         return false;
     }
-    let option = option_of(record);
-    match option {
+    match option_of(record) {
         PartyOption::Field50F => {
-            put(b"1234", record, DIGITS_AT);
-            writes(record, &room[..len], len, 0)
+            put(b"1234", &mut record[DIGITS_AT..]);
+            writes(record, rusts, rusts.len(), 0)
         }
         _ => true,
     }
@@ -106,68 +109,58 @@ fn is_kept(told: u64, code: u64, body: &[u8], text: &[u8]) -> bool {
     if code != 0 {
         return told == code;
     }
-    if text.len() == 0 || 15 < told {
+    let Some((_, rest)) = text.split_first() else {
         return false;
-    }
-    let start = past(text, find(text, 1, b':'));
-    same(&text[start..], body) == (told == 0)
+    };
+    let written = rest.splitn(2, |b| *b == b':').nth(1).unwrap_or(b"");
+    told <= 15 && (written == body) == (told == 0)
 }
 
 // Counts a body that is read, by the causes that are told of it.
-fn count_kept(told: u64, counts: &mut [u64; COUNTS]) {
-    tick(counts, BODIES);
-    tick(counts, if told == 0 { CAME } else { OTHER });
-    if told % 2 == 1 {
-        tick(counts, CAUSES);
-    }
-    if told / 2 % 2 == 1 {
-        tick(counts, CAUSES + 1);
-    }
-    if told / 4 % 2 == 1 {
-        tick(counts, CAUSES + 2);
-    }
-    if told / 8 % 2 == 1 {
-        tick(counts, CAUSES + 3);
+fn count_kept(told: u64, counts: &mut Counts) {
+    counts.tick(BODIES);
+    counts.tick(if told == 0 { CAME } else { OTHER });
+    for cause in 0..4 {
+        if (told >> cause) % 2 == 1 {
+            counts.tick(CAUSES + cause);
+        }
     }
 }
 
 // Counts a case that is as expected.
-fn count(line: &[u8], told: u64, counts: &mut [u64; COUNTS]) {
-    tick(counts, CASES);
-    tick(counts, number(line, 6));
-    if number(line, 6) != 0 {
-        tick(counts, BY_RULE);
+fn count(line: Line<'_>, told: u64, counts: &mut Counts) {
+    counts.tick(CASES);
+    counts.tick(line.number(6));
+    if line.number(6) != 0 {
+        counts.tick(BY_RULE);
     }
-    tick(counts, WAYS + number(line, 8));
+    counts.tick(WAYS + line.number(8));
     // 0 is no record, and 50 one that the Rust does not read
-    if number(line, 8) % 50 != 0 {
-        tick(counts, RECORDS);
+    if line.number(8) % 50 != 0 {
+        counts.tick(RECORDS);
     }
-    if pair(line, 4) == 0 {
+    if line.pair(4) == 0 {
         count_kept(told, counts);
     }
 }
 
 // What differs in a case.
-pub(crate) fn judge(line: &[u8], counts: &mut [u64; COUNTS]) -> Difference {
-    let mut buffer = [0u8; 4096];
-    let len = unescape(field(line, 3), &mut buffer, 0);
-    let body = &buffer[..len];
-    let mut record = [0u8; 241];
+pub(crate) fn judge(line: Line<'_>, reader: Reader, counts: &mut Counts) -> Result<(), Difference> {
+    let mut body_room = [0u8; 4096];
+    let body = unescape(line.field(3), &mut body_room);
+    let mut text_room = [0u8; 240];
+    let text = unescape(line.field(19), &mut text_room);
+    let mut record = [0u8; RECORD_SIZE];
     load(line, 9, b"", &mut record);
-    let mut room = [0u8; 240];
-    let text_len = unescape(field(line, 19), &mut room, 0);
-    let text = &room[..text_len];
-    let difference = read(line, body, &record);
-    if let Difference::Nothing = difference {
-        let told = call_kept(line, body) as u64;
-        if !is_kept(told, pair(line, 4), body, text) {
-            return Difference::Kept;
-        }
-        if number(line, 8) != 0 && !is_written(line, &mut record, text) {
-            return Difference::Written;
-        }
-        count(line, told, counts);
+    let code = line.pair(4);
+    read(reader, body, code, &record)?;
+    let told = u64::from(reader.kept(body));
+    if !is_kept(told, code, body, text) {
+        return Err(Difference::Kept);
     }
-    difference
+    if line.number(8) != 0 && !is_written(line, &mut record, text) {
+        return Err(Difference::Written);
+    }
+    count(line, told, counts);
+    Ok(())
 }

@@ -1,10 +1,9 @@
 // The counts, and what is printed.
-use crate::list::{find, past};
+use std::fmt::{self, Display, Formatter};
 
 // What differs from what is expected; or the line is malformed.
 #[derive(Clone, Copy)]
 pub enum Difference {
-    Nothing,
     Malformed,
     Code,
     Record,
@@ -13,10 +12,21 @@ pub enum Difference {
     Body,
 }
 
-// Places of the counts: cases by the rule of their reading, 0 as the Rust, at the rule's number; 64 places on, records by the rule of their
-// writing.
-pub const COUNTS: usize = 256;
+impl Display for Difference {
+    fn fmt<W: fmt::Write>(&self, f: &mut Formatter<W>) -> fmt::Result {
+        f.write_str(match self {
+            Difference::Malformed => "malformed",
+            Difference::Code => "code",
+            Difference::Record => "record",
+            Difference::Written => "written",
+            Difference::Kept => "kept",
+            Difference::Body => "body",
+        })
+    }
+}
 
+// Places of the counts, which the list names by a byte: cases by the rule of their reading, 0 as the Rust, at the rule's number; 64 places
+// on, records by the rule of their writing.
 pub const WAYS: usize = 64;
 
 // All cases, and those by a rule; records that the Rust reads; bodies that ours reads; lines that differ.
@@ -28,7 +38,7 @@ pub const RECORDS: usize = 0x82;
 
 pub const BODIES: usize = 0x83;
 
-const DIFFER: usize = 0x84;
+const DIFFER: u8 = 0x84;
 
 // Bodies written as they came, and not; of these, the ones that have each of four causes.
 pub const CAME: usize = 0x85;
@@ -52,60 +62,46 @@ pub const INDEXED: usize = 0xc0;
 // How many differences are printed.
 const MOST: u64 = 20;
 
-// The list has too few lines for these to wrap; that is not proved, and only what is printed hangs on it.
-pub(crate) fn more(n: u64) -> u64 {
-    std::num::wrapping_add_u64(n, 1)
+#[derive(Drop)]
+pub struct Counts {
+    at: [u64; 256],
 }
 
-pub(crate) fn tick(counts: &mut [u64; COUNTS], i: usize) {
-    if i < COUNTS {
-        counts[i] = more(counts[i]);
+impl Counts {
+    pub(crate) fn new() -> Counts {
+        Counts { at: [0; 256] }
     }
-}
 
-pub(crate) fn print(rt: &impl Print, text: &[u8]) {
-    let _ = rt.write_all(text);
-}
-
-// Counts what differs in a line, and prints the first of them.
-pub(crate) fn note(rt: &impl Print, difference: Difference, line: u64, counts: &mut [u64; COUNTS]) {
-    if let Difference::Nothing = difference {
-        return;
-    }
-    if counts[DIFFER] < MOST {
-        print(rt, b"line ");
-        let _ = rt.print(line);
-        print_difference(rt, difference);
-    }
-    tick(counts, DIFFER);
-}
-
-fn print_difference(rt: &impl Print, difference: Difference) {
-    match difference {
-        Difference::Nothing => {}
-        Difference::Malformed => print(rt, b": malformed\n"),
-        Difference::Code => print(rt, b": code\n"),
-        Difference::Record => print(rt, b": record\n"),
-        Difference::Written => print(rt, b": written\n"),
-        Difference::Kept => print(rt, b": kept\n"),
-        Difference::Body => print(rt, b": body\n"),
-    }
-}
-
-fn print_count(rt: &impl Print, place: u8, counts: &[u64; COUNTS]) {
-    let _ = rt.print(counts[place as usize]);
-}
-
-// Prints a text, and in the place of each `#` and the byte after it the count that stands at that byte's place.
-pub(crate) fn print_counts(rt: &impl Print, text: &[u8], counts: &[u64; COUNTS]) {
-    let mut i = 0;
-    while i < text.len() {
-        let end = find(text, i, b'#');
-        print(rt, &text[i..end]);
-        i = past(text, end);
-        if i < text.len() {
-            print_count(rt, text[i], counts);
+    // The list has too few lines for a count to wrap; that is not proved, and only what is printed hangs on it.
+    pub(crate) fn tick(&mut self, place: usize) {
+        if let Some(count) = self.at.get_mut(place) {
+            *count = count.wrapping_add(1);
         }
-        i = past(text, i);
+    }
+
+    fn get(&self, place: u8) -> u64 {
+        self.at[usize::from(place)]
+    }
+
+    // Counts what differs in a line, and prints the first of them.
+    pub(crate) fn note(&mut self, rt: &impl Print, difference: Difference, line: u64) {
+        if self.get(DIFFER) < MOST {
+            let _ = println!(rt; "line {line}: {difference}");
+        }
+        self.tick(usize::from(DIFFER));
+    }
+
+    // Prints a text, and in the place of each `#` and the byte after it the count that stands at that byte's place.
+    pub(crate) fn print(&self, rt: &impl Print, text: &[u8]) {
+        let mut rest = text;
+        while let Some(at) = rest.iter().position(|b| *b == b'#') {
+            let _ = rt.write_all(&rest[..at]);
+            rest = &rest[at + 1..];
+            if let Some((place, after)) = rest.split_first() {
+                let _ = print!(rt; "{}", self.get(*place));
+                rest = after;
+            }
+        }
+        let _ = rt.write_all(rest);
     }
 }

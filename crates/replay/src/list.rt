@@ -1,177 +1,97 @@
-// The list: its lines, their fields, and the numbers and bytes that a field stands for. tests/README.md has the format.
-ghost use Rattle.std.specs.Prelude.{◌≡◌, ◌+◌, ◌<◌, ◌≤◌, min, length};
-ghost use Rattle.replay.specs.Counts.{IsPrefixLen};
+// A line of the list: its fields, and the numbers and bytes that a field stands for. tests/README.md has the format.
+ghost use Rattle.std.specs.Prelude.{◌<◌, ◌≤◌, length};
 
 // What a field that is no number gives; no number of the list is so high.
-pub const NO_NUMBER: usize = 65535;
+const NO_NUMBER: u16 = u16::MAX;
 
-// The place of the first byte b from a place on, or the length.
-pub(crate) fn find(s: &[u8], from: usize, b: u8) -> usize
-    requires { from ≤ length s.now }
-    ensures { (from ≤ result) × (result ≤ length s.now) }
-{
-    let mut i = from;
-    while i < s.len() {
-        if s[i] == b {
-            return i;
-        }
-        i += 1;
+// A line, without its LF.
+#[derive(Clone, Copy)]
+pub struct Line<'a> {
+    pub text: &'a [u8],
+}
+
+impl<'a> Line<'a> {
+    // The field after k tabs; empty where the line has fewer.
+    pub(crate) fn field(self, k: usize) -> &'a [u8] {
+        self.text.split(|b| *b == b'\t').nth(k).unwrap_or(b"")
     }
-    i
-}
 
-// The place after another, or the length.
-pub(crate) fn past(s: &[u8], at: usize) -> usize
-    ensures { result ≡ min (at + 1) (length s.now) }
-{
-    if at < s.len() { at + 1 } else { s.len() }
-}
-
-// The part of a slice from one place to another, or none where the slice has no such part.
-pub(crate) fn part(s: &[u8], from: usize, to: usize) -> &[u8] {
-    if from <= to && to <= s.len() {
-        &s[from..to]
-    } else {
-        &s[..0]
+    // The number in field k.
+    pub(crate) fn number(self, k: usize) -> usize
+        ensures { result ≤ 65535 }
+    {
+        usize::from(decimal(self.field(k)).unwrap_or(NO_NUMBER))
     }
-}
 
-// The line that starts at a place, without its LF.
-pub(crate) fn line_at(list: &[u8], at: usize) -> &[u8] {
-    if at <= list.len() {
-        let end = find(list, at, b'\n');
-        &list[at..end]
-    } else {
-        &list[..0]
+    // The number in field k as a byte.
+    pub(crate) fn byte(self, k: usize) -> u8 {
+        (self.number(k) % 256) as u8
+    }
+
+    // Two numbers from field k on, the first × 65,536: a refusal's number and line; or 0, and what an accepted call gives.
+    pub(crate) fn pair(self, k: usize) -> u64
+        requires { k < 100 }
+        ensures { result ≤ 4294967295 }
+    {
+        (self.number(k) * 65536 + self.number(k + 1)) as u64
     }
 }
 
-// The field after k tabs; empty where the line has fewer.
-pub(crate) fn field(line: &[u8], k: usize) -> &[u8] {
-    let mut from = 0;
-    let mut left = k;
-    while 0 < left {
-        from = past(line, find(line, from, b'\t'));
-        left -= 1;
+// The number that digits stand for, where they are some and it is below 65,520. The library's `parse` would take a sign, and more numbers.
+fn decimal(digits: &[u8]) -> Option<u16> {
+    if digits.is_empty() {
+        return None;
     }
-    let end = find(line, from, b'\t');
-    &line[from..end]
-}
-
-// The number in field k.
-pub(crate) fn number(line: &[u8], k: usize) -> usize
-    ensures { result ≤ 65535 }
-{
-    let digits = field(line, k);
     let mut value = 0;
-    let mut i = 0;
-    while i < digits.len() {
-        let b = digits[i];
-        if b < b'0' || b'9' < b {
-            return NO_NUMBER;
+    for &b in digits {
+        if !b.is_ascii_digit() || 6551 < value {
+            return None;
         }
-        if 6551 < value {
-            return NO_NUMBER;
-        }
-        value = 10 * value + digit(b);
-        i += 1;
+        value = 10 * value + u16::from(b - b'0');
     }
-    if i == 0 {
-        return NO_NUMBER;
-    }
-    value
+    Some(value)
 }
 
-// Two numbers from field k on, the first × 65,536: a refusal's number and line; or 0, and what an accepted call gives.
-pub(crate) fn pair(line: &[u8], k: usize) -> u64
-    requires { k < 100 }
-    ensures { result ≤ 4294967295 }
-{
-    (number(line, k) * 65536 + number(line, k + 1)) as u64
-}
-
-// The value of a digit in base 16, or 16.
-fn digit(b: u8) -> usize
+// The value of a digit in base 16, or 16. The library's `to_digit` would take capitals.
+fn digit(b: u8) -> u8
     ensures { result ≤ 16 }
 {
     match b {
-        b'0'..=b'9' => (b - b'0') as usize,
-        b'a'..=b'f' => (b - b'a') as usize + 10,
+        b'0'..=b'9' => b - b'0',
+        b'a'..=b'f' => b - b'a' + 10,
         _ => 16,
     }
 }
 
-// A byte, and how many bytes of a field stand for it: three of an escape, else one.
-#[derive(Clone, Copy)]
-struct Escape {
-    width: usize,
-    byte: u8,
+// The first byte that a field stands for, three bytes of an escape or one, and the rest of the field.
+fn first_byte(field: &[u8]) -> Option<(u8, &[u8])> {
+    match field {
+        [] => None,
+        [b'\\', high, low, rest @ ..] => {
+            let byte = digit(*high).wrapping_mul(16).wrapping_add(digit(*low));
+            Some((byte, rest))
+        }
+        [b, rest @ ..] => Some((*b, rest)),
+    }
 }
 
-fn byte_at(field: &[u8], at: usize) -> Escape
-    requires { at < length field.now }
-    ensures { (1 ≤ result.width) × (at + result.width ≤ length field.now) }
+// Puts the bytes that a field stands for at the start of a room, as far as there is room for them, and gives them there.
+pub(crate) fn unescape<'a>(field: &[u8], room: &'a mut [u8]) -> &'a [u8]
+    ensures { length result.now ≤ length room.old }
 {
-    let b = field[at];
-    if b != b'\\' {
-        return Escape { width: 1, byte: b };
+    let mut rest = field;
+    for (i, slot) in room.iter_mut().enumerate() {
+        let Some((byte, after)) = first_byte(rest) else {
+            return &room[..i];
+        };
+        *slot = byte;
+        rest = after;
     }
-    if field.len() - at < 3 {
-        return Escape { width: 1, byte: b };
-    }
-    let value = 16 * digit(field[at + 1]) + digit(field[at + 2]);
-    Escape {
-        width: 3,
-        byte: (value % 256) as u8,
-    }
+    room
 }
 
-// Puts the bytes that a field stands for at a place of a room, as far as there is room for them, and gives how many it put.
-pub(crate) fn unescape(field: &[u8], out: &mut [u8], to: usize) -> usize
-    ensures { IsPrefixLen result out.new }
-{
-    let mut at = 0;
-    let mut len = 0;
-    while at < field.len() {
-        let e = byte_at(field, at);
-        if out.len() <= len {
-            return len;
-        }
-        if out.len() - len <= to {
-            return len;
-        }
-        out[to + len] = e.byte;
-        len += 1;
-        at += e.width;
-    }
-    len
-}
-
-pub(crate) fn same(s: &[u8], t: &[u8]) -> bool {
-    if s.len() != t.len() {
-        return false;
-    }
-    let mut i = 0;
-    while i < s.len() {
-        if s[i] != t[i] {
-            return false;
-        }
-        i += 1;
-    }
-    true
-}
-
-// Copies a text to a place, as far as there is room for it, and gives the place after.
-pub(crate) fn put(text: &[u8], out: &mut [u8], at: usize) -> usize {
-    let mut to = at;
-    let mut i = 0;
-    while i < text.len() {
-        if out.len() <= to {
-            return to;
-        }
-        out[to] = text[i];
-        to += 1;
-        i += 1;
-    }
-    to
+// Copies a text to the start of a room, as far as there is room for it.
+pub(crate) fn put(text: &[u8], room: &mut [u8]) {
+    let len = text.len().min(room.len());
+    room[..len].copy_from_slice(&text[..len]);
 }

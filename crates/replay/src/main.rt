@@ -3,100 +3,71 @@
 // read, overwritten and looked up. Says which lines differ, and at the end how many there are of each kind.
 #![tactic(auto)]
 
+mod call;
 mod cases;
 mod count;
-mod input;
 mod list;
 mod pages;
 mod record;
 
+use call::Call;
 use cases::judge;
-use count::{COUNTS, Difference, more, note, print, print_counts};
+use count::{Counts, Difference};
 use input::read_full;
-use list::{field, find, line_at, number, part, past, unescape};
-use page_reader::index::INDEX_SIZE;
-use pages::{RECORDS, add, close, define, overwrite, read, record_line};
+use list::{Line, unescape};
+use pages::{Page, Records};
 use std::io::Read;
 
-// A call on a page, by its line and the line of the record that it names.
-fn play_page(
-    line: &[u8],
-    record: &[u8],
-    buf: &mut [u8],
-    position: &mut usize,
-    index: &mut [u32; INDEX_SIZE],
-    counts: &mut [u64; COUNTS],
-) -> Difference {
-    match number(line, 0) {
-        4 => {
-            index[0] = 0;
-            *position = 0;
-            Difference::Nothing
+// What a list is replayed on.
+#[derive(Drop)]
+struct Player<'a> {
+    page: Page,
+    records: Records<'a>,
+    counts: Counts,
+}
+
+impl<'a> Player<'a> {
+    // Plays a line, but for a comment.
+    fn play(&mut self, rt: &impl Print, line: Line<'a>) -> Result<(), Difference> {
+        if line.text.starts_with(b"#") {
+            return Ok(());
         }
-        5 | 6 => add(line, record, buf, position, index, counts),
-        7 => close(line, buf, position),
-        8 | 9 => read(line, record, part(buf, 0, *position), index, counts),
-        10 => overwrite(line, buf, position, counts),
-        _ => Difference::Malformed,
-    }
-}
-
-// Prints the text of a line, with counts.
-fn say(rt: &impl Print, line: &[u8], counts: &[u64; COUNTS]) -> Difference {
-    let mut text = [0u8; 4096];
-    let len = unescape(field(line, 1), &mut text, 0);
-    print_counts(rt, &text[..len], counts);
-    Difference::Nothing
-}
-
-// Plays the line that starts at a place of the list.
-fn play(
-    rt: &impl Print,
-    list: &[u8],
-    at: usize,
-    buf: &mut [u8],
-    position: &mut usize,
-    index: &mut [u32; INDEX_SIZE],
-    starts: &mut [usize; RECORDS],
-    counts: &mut [u64; COUNTS],
-) -> Difference {
-    let line = line_at(list, at);
-    if 0 < line.len() && line[0] == b'#' {
-        return Difference::Nothing;
-    }
-    match number(line, 0) {
-        0 | 1 | 2 => judge(line, counts),
-        3 => define(starts, at),
-        11 => say(rt, line, counts),
-        call => {
-            let n = number(line, if call < 8 { 3 } else { 6 });
-            let record = record_line(list, starts, n);
-            play_page(line, record, buf, position, index, counts)
+        match Call::try_from(line)? {
+            Call::ReadBody(reader) => judge(line, reader, &mut self.counts)?,
+            Call::Define => self.records.define(line)?,
+            Call::Begin => self.page.begin(),
+            Call::Add(way) => {
+                let record = self.records.get(line.number(3));
+                self.page.add(line, way, record, &mut self.counts)?;
+            }
+            Call::Close => self.page.close(line)?,
+            Call::ReadPage(way) => {
+                let record = self.records.get(line.number(6));
+                self.page.read(line, way, record, &mut self.counts)?;
+            }
+            Call::Overwrite => self.page.overwrite(line, &mut self.counts),
+            Call::Say => {
+                let mut room = [0u8; 4096];
+                self.counts.print(rt, unescape(line.field(1), &mut room));
+            }
         }
+        Ok(())
     }
 }
 
-// Every line but the comments is played.
-fn replay(rt: &impl Print, list: &[u8], buf: &mut [u8], counts: &mut [u64; COUNTS]) {
-    let mut index = [0u32; INDEX_SIZE];
-    let mut starts = [0usize; RECORDS];
-    let mut position = 0;
-    let mut lines = 0;
-    let mut at = 0;
-    while at < list.len() {
-        lines = more(lines);
-        let difference = play(
-            rt,
-            list,
-            at,
-            buf,
-            &mut position,
-            &mut index,
-            &mut starts,
-            counts,
-        );
-        note(rt, difference, lines, counts);
-        at = past(list, find(list, at, b'\n'));
+// Plays every line of the list.
+fn replay(rt: &impl Print, list: &[u8]) {
+    let first = list.split(|b| *b == b'\n').next().unwrap_or(b"");
+    let mut player = Player {
+        page: Page::new(),
+        records: Records::new(Line { text: first }),
+        counts: Counts::new(),
+    };
+    for (number, piece) in (1u64..).zip(list.split_inclusive(|b| *b == b'\n')) {
+        let text = piece.strip_suffix(b"\n").unwrap_or(piece);
+        if let Err(difference) = player.play(rt, Line { text }) {
+            player.counts.note(rt, difference, number);
+        }
     }
 }
 
@@ -104,12 +75,10 @@ fn replay(rt: &impl Print, list: &[u8], buf: &mut [u8], counts: &mut [u64; COUNT
 fn run(rt: &impl Print, input: &mut impl Read, room: &mut [u8]) {
     let len = read_full(input, room);
     if len == room.len() {
-        print(rt, b"error: the list is too long\n");
+        let _ = println!(rt; "error: the list is too long");
         return;
     }
-    let mut buf = [0u8; 65536];
-    let mut counts = [0u64; COUNTS];
-    replay(rt, &room[..len], &mut buf, &mut counts);
+    replay(rt, &room[..len]);
 }
 
 // By reference the array has its length from its type; a proof that counts so many bytes would be too deep.

@@ -95,7 +95,7 @@ module _ {A : Type 0} (make : Str → A) (h : Head) where
   second_bic l (m ∷ ls) = rw (lt-leb (length (l ∷ m ∷ ls)) 1 (omega arith)) (bic_after l (m ∷ ls) (omega arith))
 
 -- the record with a BIC
-pub bic_party : (o : PartyOption) (n : ℕ) (h : Head) (ls : List Str) → party_of o (nameless h.present h.text (with_bic n h ls).bic) ≡ party_of o (with_bic n h ls)
+pub bic_party : (o : PartyOption) (n : ℕ) (h : Head) (ls : List Str) → party_of o (nameless h (with_bic n h ls).bic) ≡ party_of o (with_bic n h ls)
 unfolding party_of
 bic_party o n h [] = refl
 bic_party o n h (l ∷ ls) = refl

@@ -7,7 +7,7 @@ ghost use Rattle.swift_utils.specs.Bytes.{legal, digit, alphanumeric, all};
 ghost use Rattle.swift_utils.specs.Checks.{parse_swift_chars, parse_length, parse_account, bic_length, parse_bic};
 ghost use Rattle.swift_utils.specs.Classes.{in_classes, class_table, entry_in};
 
-use errors::{Outcome, ParseError};
+use errors::ParseError;
 
 // The classes of bytes, a bit each: the legal ones, those of them that are no LF, the network profile's, letters and digits, letters, digits,
 // small letters.
@@ -27,7 +27,7 @@ pub const SMALL: u8 = 64;
 
 // The classes of each byte: 0 an illegal one, 1 LF, 3 any other legal one outside the network profile, 7 space and the profile's signs, 47 a
 // digit, 31 a capital, 95 a small letter.
-const CLASSES: [u8; 256] = [
+static CLASSES: [u8; 256] = [
     0, // 0
     0, // 1
     0, // 2
@@ -286,20 +286,18 @@ const CLASSES: [u8; 256] = [
     0, // 255
 ];
 
-// The table, for a test of many bytes: each use of the constant writes it out anew.
-pub fn class_table() -> [u8; 256]
-    ensures { result ≡ class_table }
+// The table.
+pub fn class_table() -> &'static [u8; 256]
+    ensures { result.now ≡ class_table }
 {
-    CLASSES
+    &CLASSES
 }
 
 // Whether a byte is in all classes of a mask.
-fn is_in(b: u8, mask: u8) -> bool
+pub fn is_in(b: u8, mask: u8) -> bool
     ensures { result ≡ in_classes mask b }
 {
-    let classes = class_table();
-    let i = b as usize;
-    classes[i] & mask == mask
+    class_table()[b as usize] & mask == mask
 }
 
 // Whether a byte is one of the 93 legal ones.
@@ -322,11 +320,8 @@ pub fn all_in(s: &[u8], classes: &[u8; 256], mask: u8) -> bool
     ensures { result ≡ all (entry_in classes.now mask) s.now }
 {
     let mut common = 255;
-    let mut i = 0;
-    while i < s.len() {
-        let b = s[i] as usize;
-        common = common & classes[b];
-        i += 1;
+    for b in s {
+        common &= classes[*b as usize];
     }
     common & mask == mask
 }
@@ -335,44 +330,46 @@ pub fn all_in(s: &[u8], classes: &[u8; 256], mask: u8) -> bool
 pub fn all_alphanumeric(s: &[u8]) -> bool
     ensures { result ≡ all alphanumeric s.now }
 {
-    let classes = class_table();
-    all_in(s, &classes, ALPHANUMERIC)
+    all_in(s, class_table(), ALPHANUMERIC)
 }
 
 // Legal bytes throughout, or 3 at the line that is handed in.
-pub fn parse_swift_chars(input: &[u8], line: usize) -> Outcome
+pub fn parse_swift_chars(input: &[u8], line: usize) -> Result<(), ParseError>
     ensures { told result ≡ parse_swift_chars line input.now }
 {
-    let classes = class_table();
-    if all_in(input, &classes, LEGAL) {
-        Outcome::Accepted
+    if all_in(input, class_table(), LEGAL) {
+        Ok(())
     } else {
-        Outcome::Refused(ParseError::IllegalByte(line))
+        Err(ParseError::IllegalByte(line))
     }
 }
 
 // A length from shortest to longest, or 2 at the line that is handed in.
-pub fn parse_length(input: &[u8], shortest: usize, longest: usize, line: usize) -> Outcome
+pub fn parse_length(
+    input: &[u8],
+    shortest: usize,
+    longest: usize,
+    line: usize,
+) -> Result<(), ParseError>
     ensures { told result ≡ parse_length shortest longest line input.now }
 {
-    let n = input.len();
-    if n < shortest {
-        return Outcome::Refused(ParseError::PartyIdentifier(line));
+    if (shortest..=longest).contains(&input.len()) {
+        Ok(())
+    } else {
+        Err(ParseError::PartyIdentifier(line))
     }
-    if longest < n {
-        return Outcome::Refused(ParseError::PartyIdentifier(line));
-    }
-    Outcome::Accepted
 }
 
 // An account or identifier: its length, then its bytes. The Rust tests each option's by hand; its `parse_account` is for other fields.
-pub fn parse_account(input: &[u8], shortest: usize, longest: usize, line: usize) -> Outcome
+pub fn parse_account(
+    input: &[u8],
+    shortest: usize,
+    longest: usize,
+    line: usize,
+) -> Result<(), ParseError>
     ensures { told result ≡ parse_account shortest longest line input.now }
 {
-    let outcome = parse_length(input, shortest, longest, line);
-    if let Outcome::Refused(e) = outcome {
-        return Outcome::Refused(e);
-    }
+    parse_length(input, shortest, longest, line)?;
     parse_swift_chars(input, line)
 }
 
@@ -389,26 +386,25 @@ pub fn is_bic_length(n: usize) -> bool
 }
 
 // A BIC, or 9 and then 10 at the line that is handed in.
-pub fn parse_bic(input: &[u8], line: usize) -> Outcome
+pub fn parse_bic(input: &[u8], line: usize) -> Result<(), ParseError>
     ensures { told result ≡ parse_bic line input.now }
 {
     if !is_bic_length(input.len()) {
-        return Outcome::Refused(ParseError::BicLength(line));
+        return Err(ParseError::BicLength(line));
     }
-    let classes = class_table();
     let bank_and_country = &input[..6];
-    if !all_in(bank_and_country, &classes, LETTER) {
-        return Outcome::Refused(ParseError::BicByte(line));
+    if !all_in(bank_and_country, class_table(), LETTER) {
+        return Err(ParseError::BicByte(line));
     }
     // Each part has a fixed length, so that its test can be unrolled.
     let is_rest_good = if input.len() == BIC_SHORT {
-        all_in(&input[6..BIC_SHORT], &classes, ALPHANUMERIC)
+        all_alphanumeric(&input[6..BIC_SHORT])
     } else {
-        all_in(&input[6..BIC_LONG], &classes, ALPHANUMERIC)
+        all_alphanumeric(&input[6..BIC_LONG])
     };
     if is_rest_good {
-        Outcome::Accepted
+        Ok(())
     } else {
-        Outcome::Refused(ParseError::BicByte(line))
+        Err(ParseError::BicByte(line))
     }
 }

@@ -5,7 +5,7 @@ use mathlib.Core.Bool.{Bool, true, false}
 use mathlib.Core.List.{List, [], ◌∷◌, ◌++◌, map, append_assoc, append-nil}
 use native.Mathlib.Omega.{arith}
 use lib.Dec.{ltb, eqb}
-use lib.ListN.{length, get_or}
+use lib.ListN.{length}
 use borrow.Author.Tests.{lt-ltb, eq-eqb, ne_eqb, eqb-true, eqb-false}
 use Rattle.party.specs.declared.PartyOption.{PartyOption}
 use Rattle.party.specs.declared.Party.{Party}
@@ -16,8 +16,7 @@ use Rattle.party.specs.Party.{content, where_limit}
 use Rattle.party.proofs.Options.{by_option}
 use Rattle.field_utils.specs.Tags.{capital, tag_of}
 use Rattle.writer.specs.Writing.{slash_of, head_lines, name_lines, written_lines, joined, written_body, written_field}
-use Rattle.record_bytes.specs.RecordBytes.{party_from}
-use Rattle.writer.specs.Code.{Lent, lead, led, has_head, head_of, names_on, rest_on}
+use Rattle.writer.specs.Code.{lead, led, has_head, head_of, names_on, rest_on}
 
 -- ---- lines with LFs between them are lines with an LF before each but the first
 joined_cons : (l : List ℕ) (ls : List (List ℕ)) → joined (l ∷ ls) ≡ l ++ led true ls
@@ -78,10 +77,9 @@ field_parts p =
 
 -- that of a lent record
 pub lent_parts :
-    (s : List ℕ) {o : PartyOption} {later : Bool} → Lent s o → later ≡ has_head o (eqb (get_or s 1 0) 1) →
-    written_field (content (party_from s)) ≡ tag_of o ++ (head_of o later (used (party_from s).account) ++ rest_on later (party_from s))
-unfolding party_from
-lent_parts s lent e = rw (e, lent.is) (field_parts (party_from s))
+    (p : Party) {o : PartyOption} {later : Bool} → o ≡ p.option → later ≡ has_head p.option p.present →
+    written_field (content p) ≡ tag_of o ++ (head_of p.option later (used p.account) ++ rest_on later p)
+lent_parts p is e = rw (is, e) (field_parts p)
 
 -- ---- what follows the account or identifier: an option has no BIC, or no names
 bic_alone : (o : PartyOption) → ((limits_of o).bic_count ≡ 0 → ⊥) → (limits_of o).max_names ≡ 0
@@ -109,12 +107,6 @@ module _ (o : PartyOption) {l : Limits} (e : l ≡ limits_of o) where
   pub tag_lettered : (l.letter ≡ 0 → ⊥) → (58 ∷ (48 + l.field / 10) ∷ (48 + l.field % 10) ∷ l.letter ∷ 58 ∷ []) ≡ tag_of o
   unfolding tag_of
   tag_lettered h = rw (← e, ne_eqb l.letter 0 h, capital, ← e)
-
-  pub slash_here : l.slash ≡ true → slash_of o ≡ 47 ∷ []
-  slash_here h = let f : (limits_of o).slash ≡ true = sym (ap (λ (m : Limits). m.slash) e) ∙ h in rw (f, slash_of)
-
-  pub slash_none : l.slash ≡ false → slash_of o ≡ []
-  slash_none h = let f : (limits_of o).slash ≡ false = sym (ap (λ (m : Limits). m.slash) e) ∙ h in rw (f, slash_of)
 
 -- a tag has 4 or 5 bytes
 pub tag_sizes : (o : PartyOption) → (4 ≤ length (tag_of o)) × (length (tag_of o) ≤ 5)

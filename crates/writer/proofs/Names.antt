@@ -7,13 +7,11 @@ use native.Mathlib.Nat.{add-zero}
 use native.Mathlib.Numerals.{add-one}
 use native.Mathlib.Omega.{arith}
 use lib.Dec.{ltb}
-use borrow.Author.Tests.{lt-ltb}
 use lib.ListN.{length, take, drop, get_or, length-map, length-append, length-take, drop_of_length-le, get_or-map}
 use lib.Seq.{drop-cons, drop-drop, get_or-drop, get_or-take}
 use Rattle.party.specs.declared.PartyOption.{PartyOption}
 use Rattle.party.specs.declared.Text.{Text}
 use Rattle.party.specs.declared.Party.{Party}
-use Rattle.party.specs.declared.Limits.{Limits}
 use Rattle.party.specs.Limits.{limits_of}
 use Rattle.party.specs.Text.{Used, used}
 use Rattle.party.specs.Party.{content, names_of, where_numbered}
@@ -22,8 +20,7 @@ use Rattle.party.specs.declared.Numbering.TheVariants.{Unnumbered, Numbered, InT
 use Rattle.party.proofs.Laws.{map_take, take_min}
 use Rattle.field_utils.specs.Names.{dropped_prefix}
 use Rattle.writer.specs.Writing.{number_of, name_lines}
-use Rattle.record_bytes.specs.RecordBytes.{party_from}
-use Rattle.writer.specs.Code.{Lent, lead, led, name_count, is_name, all_names}
+use Rattle.writer.specs.Code.{lead, led, name_count, is_name, all_names}
 
 -- the text that stands for one past the end
 abbrev pub none : Text
@@ -65,12 +62,6 @@ pub used_digits : (f : Numbering) (n : ℕ) (ds : List ℕ) (us : List Used) →
 used_digits f n ds us h = lines_agree f (where_numbered f (take n ds)) ds us (λ i k. number_used f n ds i (omega arith))
 
 -- ---- the names that are used
-pub count_none : (o : PartyOption) (count : ℕ) → (limits_of o).max_names ≡ 0 → name_count o count ≡ 0
-count_none o count e = rw (e, name_count)
-
-pub count_some : (o : PartyOption) (count : ℕ) → ((limits_of o).max_names ≡ 0 → ⊥) → name_count o count ≡ min count 4
-count_some o count h = rw (lt-ltb 0 (limits_of o).max_names (omega arith), name_count)
-
 counted : (o : PartyOption) (count : ℕ) → name_count o count ≤ min count 4
 counted o count = go (ltb 0 (limits_of o).max_names)
   where
@@ -157,12 +148,3 @@ module _ (p : Party) (four : length p.name_and_address ≡ 4) where
     pub all_end : (f : Numbering) (longest i : ℕ) → n ≤ i → all_names f longest (suc i) (drop i p.digits) (drop i (names_in n p)) ≡ true
     unfolding all_names
     all_end f longest i h = rw (names_end i h)
-
--- ---- those of a lent record
-module _ (s : List ℕ) {o : PartyOption} (lent : Lent s o) where
-  pub lent_limits : {l : Limits} → l ≡ limits_of o → l ≡ limits_of (party_from s).option
-  lent_limits e = e ∙ ap limits_of lent.is
-
-  pub lent_count : {n : ℕ} → n ≡ name_count o (get_or s 2 0) → n ≡ name_count (party_from s).option (party_from s).count
-  unfolding party_from
-  lent_count e = e ∙ ap (λ (q : PartyOption). name_count q (get_or s 2 0)) lent.is

@@ -7,8 +7,7 @@ use mathlib.Core.Path.{◌≡◌, refl, ◌∙◌, sym, ap}
 use mathlib.Core.List.{List, [], ◌∷◌, ◌++◌, append_assoc, append-nil}
 use borrow.Author.Tests.{le-leb}
 use lib.ListN.{length, take, drop, set, length-append}
-use lib.Seq.{paste, set_split, append_snoc, take-length, take-paste, drop-paste, drop-drop, length-paste, paste-zero}
-use Rattle.record_bytes.proofs.Stores.{stores, stores_paste}
+use lib.Seq.{set_split, append_snoc, take-length, take-paste, drop-paste, drop-drop, length-paste, paste-zero}
 use Rattle.writer.specs.Writing.{put, placed}
 use Rattle.writer.specs.Code.{Puts}
 
@@ -37,13 +36,6 @@ puts_none d at = record { bytes = paste-zero d at []; ends = omega arith }
 -- a byte is stored
 pub puts_byte : (d : List ℕ) (at b : ℕ) → at < length d → Puts d at (b ∷ []) (set d at b) (at + 1)
 puts_byte d at b h = record { bytes = set_split d at b h ∙ rw (add-one at) (sym (append_snoc (take at d) b (drop (suc at) d))); ends = refl }
-
--- a text stored byte by byte
-pub puts_stores : (d : List ℕ) (at : ℕ) (s : List ℕ) (k : ℕ) → length s ≡ suc k → at + suc k ≤ length d → Puts d at s (stores d at s 0 k) (at + suc k)
-puts_stores d at s k e h = record {
-  bytes = stores_paste d at s 0 k (omega arith) (omega arith) ∙ ap (paste d at s) (sym e);
-  ends = ap (◌+◌ at) (sym e);
-}
 
 pub same_length : {d e s : List ℕ} {at m : ℕ} → Puts d at s e m → at + length s ≤ length d → length e ≡ length d
 same_length {d} {e} {s} {at} p room = ap length p.bytes ∙ put_length d at s room

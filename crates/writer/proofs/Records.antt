@@ -4,19 +4,21 @@ use mathlib.Core.Path.{◌≡◌, refl, sym, ◌∙◌, ap}
 use mathlib.Core.Bool.{Bool, true, false, not, ◌&&◌, and-true, and-false, and_assoc, and_comm}
 use mathlib.Core.List.{List, [], ◌∷◌, ◌++◌}
 use native.Mathlib.Omega.{arith}
-use lib.Dec.{leb, ltb, eqb}
+use lib.Dec.{leb, eqb}
 use lib.ListN.{length, take, drop, get_or}
 use borrow.Author.Tests.{lt-ltb, le-leb, lt-leb, eq-eqb, ne_eqb, eqb-true, eqb-false}
-use Rattle.errors.specs.Refusals.{Reply, accepted, refused, must, ◌then◌}
+use Rattle.std.specs.Prelude.{Result, Ok, Err, is_ok}
+use Rattle.errors.specs.declared.ParseError.{ParseError}
+use Rattle.errors.specs.Refusals.{Reply, accepted, refused, must, ◌then◌, told}
 use Rattle.party.specs.declared.PartyOption.{PartyOption}
 use Rattle.party.specs.declared.Text.{Text}
 use Rattle.party.specs.declared.Party.{Party}
 use Rattle.party.specs.Limits.{limits_of}
 use Rattle.party.specs.Text.{Used, used}
-use Rattle.party.specs.Party.{content, where_limit, names_of}
+use Rattle.party.specs.Party.{content, where_limit}
 use Rattle.party.specs.declared.Numbering.{Numbering}
 use Rattle.party.specs.declared.Numbering.TheVariants.{Unnumbered, Numbered, InTurn}
-use Rattle.party.specs.declared.First.TheVariants.{Account, ShortAccount, AnyAccount}
+use Rattle.party.specs.declared.First.TheVariants.{AnyAccount}
 use Rattle.swift_utils.specs.Bytes.{all, among, digit, legal}
 use Rattle.swift_utils.specs.Checks.{parse_swift_chars, parse_account}
 use Rattle.swift_utils.specs.Classes.{plain}
@@ -27,7 +29,7 @@ use Rattle.field_utils.proofs.Tests.{both_left}
 use Rattle.reader.specs.Options.{account_reply, length_reply, ascii}
 use Rattle.writer.specs.Writing.{number_of, name_lines}
 use Rattle.writer.specs.Given.{passes, every, is_line, text_reply, is_presence, is_bic, are_names, is_taken, is_given}
-use Rattle.writer.specs.Code.{line_reply, number_in, is_name, all_names, head_test, names_pass, count_test, texts_test, slash_name}
+use Rattle.writer.specs.Code.{line_reply, number_in, is_name, all_names, head_test, names_pass, count_test, texts_test}
 use Rattle.writer.proofs.Texts.{all_plain}
 use Rattle.writer.proofs.Names.{content_names, content_lines}
 use Rattle.writer.proofs.NamePasses.{passed, written_length_lem}
@@ -40,11 +42,17 @@ pub passes_must : (b : Bool) (k n : ℕ) → passes (must b k n) ≡ b
 passes_must true k n = refl
 passes_must false k n = refl
 
+-- an answer that is accepted passes
+passes_ok : (r : Result (Unit {0}) ParseError) → is_ok r ≡ passes (told r)
+passes_ok (Ok t) = refl
+passes_ok (Err e) = refl
+
+-- so the code's test of an answer says whether its reply passes
+pub ok_passes : (r : Result (Unit {0}) ParseError) {y : Reply} {b : Bool} → told r ≡ y → b ≡ is_ok r → b ≡ passes y
+ok_passes r e f = f ∙ passes_ok r ∙ ap passes e
+
 -- ---- a test of a text that the option has not, and of one that it has
 module _ (f : Used → Bool) (limit : ℕ) (u : Used) where
-  pub every_none : limit ≡ 0 → every f (where_limit limit (u ∷ [])) ≡ true
-  every_none e = rw (e, where_limit)
-
   pub every_one : (limit ≡ 0 → ⊥) → every f (where_limit limit (u ∷ [])) ≡ f u
   every_one h = rw (lt-ltb 0 limit (omega arith), where_limit) (and-true (f u))
 
@@ -182,30 +190,11 @@ module _ (o : PartyOption) (count : ℕ) (ds : List ℕ) (us : List Used) where
         ∙ sym (and_assoc (every is_line us) (passes lines) (passes (parse_count (limits_of o).max_names (length ls))))
         ∙ rw (lines_all f (limits_of o).name_max 1 ds us, written_length_lem f ds us))
 
-pub taken_account : (us : List Used) → is_taken Account us ≡ slash_name us
-taken_account [] = refl
-taken_account (u ∷ us) = refl
-
-pub taken_short : (us : List Used) → is_taken ShortAccount us ≡ slash_name us
-taken_short [] = refl
-taken_short (u ∷ us) = refl
-
 no_more : (f : Numbering) (longest k : ℕ) (ds : List ℕ) {us : List Used} → us ≡ [] → all_names f longest k ds us ≡ true
 unfolding all_names
 no_more f longest k ds e = rw e
 
 -- ---- the record
-no_count : (p : Party) → p.count ≡ 0 → (content p).names ≡ []
-unfolding content
-no_count p e = go (ltb 0 (limits_of p.option).max_names)
-  where
-    go : (t : Bool) → ◌≡◌ {A = List Used} (elim t as (λ x. List Used) [ true ↦ names_of p.count p | false ↦ [] ]) []
-    go true = rw e
-    go false = refl
-
-pub none_pass : (p : Party) → p.count ≡ 0 → true ≡ names_pass p
-none_pass p e = sym (no_more (limits_of p.option).numbering (limits_of p.option).name_max 1 p.digits (no_count p e))
-
 abbrev pub names_test : Party → Bool
 names_test p = are_names p.option p.count (content p).digits (content p).names
 
@@ -272,7 +261,3 @@ module _ (o : PartyOption) (p : Party) where
       by : (e : Bool) → p.present ≡ e → (a && c && k && texts_test o e p) ≡ (a && head_test o e p && c && (k && names_pass p) && not (not e && is_taken (limits_of o).first (content p).names))
       by true j = ap (λ (b : Bool). a && c && k && (b && names_pass p)) (sym (and-true (head_test o true p))) ∙ sym (in_order a (head_test o true p) c k (names_pass p) true)
       by false j = sym (in_order a (head_test o false p) c k (names_pass p) (not (is_taken (limits_of o).first (content p).names)))
-
-  -- the test of texts where there is no account or identifier
-  pub bare_by : {a b : Bool} → head_test o false p ≡ a → is_taken (limits_of o).first (content p).names ≡ b → (a && not b && names_pass p) ≡ texts_test o false p
-  bare_by f g = rw (← f, ← g)

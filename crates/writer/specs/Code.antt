@@ -2,28 +2,16 @@
 use Rattle.std.specs.Prelude.{ℕ, suc, ◌+◌, ◌-◌, ◌≤◌, min, ◌≡◌, Bool, true, false, not, ◌&&◌, List, [], ◌∷◌, ◌++◌, map, ltb, eqb, length, get_or, drop}
 use Rattle.errors.specs.Refusals.{Reply}
 use Rattle.party.specs.declared.PartyOption.{PartyOption}
-use Rattle.party.specs.declared.Text.{Text}
 use Rattle.party.specs.declared.Party.{Party}
 use Rattle.party.specs.Limits.{limits_of}
-use Rattle.party.specs.Text.{text_most, Used, used}
+use Rattle.party.specs.Text.{Used, used}
 use Rattle.party.specs.Party.{where_limit, content}
 use Rattle.party.specs.declared.Numbering.{Numbering}
 use Rattle.swift_utils.specs.Bytes.{among}
 use Rattle.field_utils.specs.Lines.{starts}
 use Rattle.field_utils.specs.Names.{skip_of, dropped_prefix, parse_line, parse_count}
-use Rattle.record_bytes.specs.RecordBytes.{record_size, party_from}
 use Rattle.writer.specs.Writing.{slash_of, number_of, name_lines, put}
 use Rattle.writer.specs.Given.{passes, every, is_line, is_account, is_taken}
-
--- bytes that are enough for a lent record, and its option
-pub record Lent (s : List ℕ) (option : PartyOption) : Type 0 where
-  pub size : record_size ≤ length s
-  pub is : option ≡ (party_from s).option
-
--- the bytes that a text uses, which are at most 38
-pub record Uses (t : Text) (text : List ℕ) : Type 0 where
-  pub is : text ≡ (used t).bytes
-  pub most : length text ≤ text_most
 
 -- the length of a text, which is at most a bound
 pub record Counted (bound : ℕ) (text : List ℕ) (n : ℕ) : Type 0 where

@@ -5,3 +5,4 @@ pub mod ReadBack
 pub mod Sender
 pub mod Longest
 pub mod Code
+pub mod Lent

@@ -1,9 +1,8 @@
 -- Measuring a record's field and placing it in a buffer: 22, then 24 (document 02, Two).
-use Rattle.std.specs.Prelude.{ℕ, ◌≤◌, ◌<◌, ◌≡◌, List, ◌++◌, length, drop}
+use Rattle.std.specs.Prelude.{ℕ, ◌≤◌, ◌<◌, ◌≡◌, List, ◌++◌, Result, Ok, Err, length, drop}
+use Rattle.errors.specs.declared.ParseError.{ParseError}
 use Rattle.errors.specs.Refusals.{Reply, accepted, refused, must, ◌then◌, refusal_of}
 use Rattle.party.specs.Party.{Content}
-use Rattle.writer.specs.declared.Measured.{Measured as MeasuredAs}
-use Rattle.writer.specs.declared.Measured.TheVariants.{Length, Refused}
 use Rattle.writer.specs.Writing.{written_field, field_most, put, fits}
 use Rattle.writer.specs.Given.{is_given}
 
@@ -36,12 +35,12 @@ unfoldable pub place : Content → List ℕ → Placing
 place s buffer = placing (must (is_given s) 22 0 then must (fits buffer 0 (written_field s)) 24 0) (written_field s) buffer
 
 -- what the code's answer says
-abbrev pub told_measured : MeasuredAs → Measured
-told_measured (Length n) = length_is n
-told_measured (Refused e) = refused_with (refusal_of e).number (refusal_of e).line
+abbrev pub told_measured : Result ℕ ParseError → Measured
+told_measured (Ok n) = length_is n
+told_measured (Err e) = refused_with (refusal_of e).number (refusal_of e).line
 
 -- with the buffer that it left
-abbrev pub told_placing : MeasuredAs → List ℕ → Placing
+abbrev pub told_placing : Result ℕ ParseError → List ℕ → Placing
 told_placing r buffer = record { answer = told_measured r; buffer = buffer }
 
 -- a length n that was measured: the field has n bytes; n bytes of space are enough, and the first n are the field then; fewer are 24

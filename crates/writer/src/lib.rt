@@ -8,91 +8,39 @@ ghost use Rattle.party.specs.Limits.{limits_of};
 ghost use Rattle.party.specs.Text.{text_most, used};
 ghost use Rattle.party.specs.Party.{content, where_limit};
 ghost use Rattle.party.specs.declared.First.TheVariants.{Identified, AnyAccount};
-ghost use Rattle.swift_utils.specs.Bytes.{among};
-ghost use Rattle.swift_utils.specs.Classes.{class_table};
+ghost use Rattle.swift_utils.specs.Bytes.{all, among};
+ghost use Rattle.swift_utils.specs.Classes.{plain};
 ghost use Rattle.field_utils.specs.Names.{parse_number};
-ghost use Rattle.field_utils.specs.Tags.{tag_of};
+ghost use Rattle.field_utils.specs.Tags.{capital, tag_of};
 ghost use Rattle.reader.specs.Options.{account_reply};
-ghost use Rattle.record_bytes.specs.RecordBytes.{digits_at, record_size, text_at, party_from, decoded};
-ghost use Rattle.writer.specs.Writing.{slash_of, number_of, written_field, fits, placed};
+ghost use Rattle.record_bytes.specs.RecordBytes.{nth_text, decoded, laid_out};
+ghost use Rattle.writer.specs.Writing.{slash_of, number_of, put, written_field, fits, placed};
 ghost use Rattle.writer.specs.Given.{passes, every, text_reply, is_presence, is_bic, is_taken, is_given};
 ghost use Rattle.writer.specs.Placing.{measure as measure_of, place as place_in, told_measured, told_placing};
-ghost use Rattle.writer.specs.Code.{Lent, Uses, Counted, Puts, lead, has_head, head_of, name_count, names_on, rest_on, line_reply, number_in, is_name, head_test, names_pass, count_test, texts_test, slash_name};
+ghost use Rattle.writer.specs.Code.{Counted, Puts, lead, has_head, head_of, name_count, names_on, rest_on, line_reply, number_in, is_name, head_test, names_pass, count_test, texts_test, slash_name};
 
-use errors::{Outcome, ParseError};
+use errors::ParseError;
 use field_utils::lines::{find_lf, is_ascii};
 use field_utils::{
     dropped_prefix, is_numbered_line, parse_count, parse_remaining, skip_of, starts_with_slash,
 };
-use party::{First, Numbering, Party, PartyOption, TEXT_MOST, limits_of, option_at};
+use party::{First, Limits, Numbering, Party, PartyOption, TEXT_MOST, limits_of};
 use reader::account_length;
 use record_bytes::copies::copy;
-use record_bytes::{DIGITS_AT, RECORD_SIZE, TEXT_SIZE, holds_record, store};
-use swift_utils::{DIGIT, PLAIN, all_in, class_table, parse_bic};
+use record_bytes::{
+    RECORD_SIZE, count_of, digit_of, holds_record, option_of, present_of, store, text_length,
+    used_text,
+};
+use swift_utils::{PLAIN, all_in, class_table, is_digit, parse_bic};
 
 // The most bytes of a written field.
 pub const FIELD_MOST: usize = 187;
-
-// Measuring and placing answer the length of the written field, or a refusal.
-#[derive(Clone, Copy)]
-pub enum Measured {
-    Length(usize),
-    Refused(ParseError),
-}
-
-// Whether a text of a lent record, by its number among the six, is no longer than the 38 bytes that it has.
-fn is_whole(record: &[u8], n: usize) -> bool
-    requires { (record_size ≤ length «record».now) × (n < 6) }
-    ensures { result ≡ leb (text_at n «record».now).len text_most }
-{
-    let at = 3 + TEXT_SIZE * n;
-    record[at] as usize <= TEXT_MOST
-}
-
-// The bytes that it uses: as many as its length says, or all 38 where that passes them.
-fn used_text(record: &[u8], n: usize) -> &[u8]
-    requires { (record_size ≤ length «record».now) × (n < 6) }
-    ensures { Uses (text_at n «record».now) result.now }
-{
-    let at = 3 + TEXT_SIZE * n;
-    let len = record[at] as usize;
-    let from = at + 1;
-    if TEXT_MOST < len {
-        let all = from + TEXT_MOST;
-        return &record[from..all];
-    }
-    let end = from + len;
-    &record[from..end]
-}
-
-// How many names are used: as many as the count says, at most four, and none where the option has none.
-fn name_count(option: PartyOption, count: usize) -> usize
-    ensures { result ≡ name_count option count }
-{
-    let limits = limits_of(option);
-    if limits.max_names == 0 {
-        return 0;
-    }
-    if count < 4 { count } else { 4 }
-}
 
 // How many slashes stand before an account or identifier: one, but for 50F and 50L.
 fn slash_count(option: PartyOption) -> usize
     ensures { Counted 1 (slash_of option) result }
 {
-    let limits = limits_of(option);
-    if limits.slash { 1 } else { 0 }
-}
-
-// Whether an account or identifier is written.
-fn has_head(option: PartyOption, present: bool) -> bool
-    ensures { result ≡ has_head option present }
-{
-    let limits = limits_of(option);
-    if limits.account_max == 0 {
-        return false;
-    }
-    present
+    if limits_of(option).slash { 1 } else { 0 }
 }
 
 // How many LFs stand before a line: one, unless it is the first.
@@ -106,72 +54,7 @@ fn lf_count(later: bool) -> usize
 pub fn tag_length(option: PartyOption) -> usize
     ensures { result ≡ length (tag_of option) }
 {
-    let limits = limits_of(option);
-    if limits.letter == 0 { 4 } else { 5 }
-}
-
-// The length of an account or identifier, where it is written.
-fn head_length(record: &[u8], option: PartyOption, written: bool) -> usize
-    requires { record_size ≤ length «record».now }
-    ensures { Counted 39 (head_of option written (used (party_from «record».now).account)) result }
-{
-    if !written {
-        return 0;
-    }
-    let text = used_text(record, 0);
-    slash_count(option) + text.len()
-}
-
-// The length of the names.
-fn names_length(record: &[u8], option: PartyOption, later: bool) -> usize
-    requires { Lent «record».now option }
-    ensures { Counted 164 (names_on later (party_from «record».now)) result }
-{
-    let n = name_count(option, record[2] as usize);
-    let limits = limits_of(option);
-    let numbering = limits.numbering;
-    let mark = dropped_prefix(numbering);
-    let mut after = later;
-    let mut total = 0;
-    let mut i = 0;
-    while i < n {
-        let text = used_text(record, 2 + i);
-        total += lf_count(after) + mark + text.len();
-        after = true;
-        i += 1;
-    }
-    total
-}
-
-// The length of the BIC, or of the names.
-fn rest_length(record: &[u8], option: PartyOption, later: bool) -> usize
-    requires { Lent «record».now option }
-    ensures { Counted 164 (rest_on later (party_from «record».now)) result }
-{
-    let limits = limits_of(option);
-    if limits.bic_count == 0 {
-        return names_length(record, option, later);
-    }
-    let text = used_text(record, 1);
-    lf_count(later) + text.len()
-}
-
-// The length of the written field.
-fn written_length(record: &[u8], option: PartyOption) -> usize
-    requires { Lent «record».now option }
-    ensures { result ≡ length (written_field (content (party_from «record».now))) }
-{
-    let later = has_head(option, record[1] == 1);
-    tag_length(option) + head_length(record, option, later) + rest_length(record, option, later)
-}
-
-// Puts a slice into the buffer at a place, and gives the place after it, as each function with `Puts` in its contract does.
-fn append_bytes(buf: &mut [u8], at: usize, s: &[u8]) -> usize
-    requires { at + length s.now ≤ length buf.old }
-    ensures { Puts buf.old at s.now buf.new result }
-{
-    copy(s, buf, at);
-    at + s.len()
+    if limits_of(option).letter == 0 { 4 } else { 5 }
 }
 
 // Puts a text at a place, if it fits; if not, no byte changes.
@@ -182,169 +65,107 @@ pub fn put_text(text: &[u8], buf: &mut [u8], at: usize) -> bool
     copy(text, buf, at)
 }
 
-// Puts an LF, where it is asked for.
-fn put_lf(buf: &mut [u8], at: usize, later: bool) -> usize
-    requires { at + length (lead later) ≤ length buf.old }
-    ensures { Puts buf.old at (lead later) buf.new result }
-{
-    if later {
-        buf[at] = b'\n';
-        return at + 1;
-    }
-    at
+// A place in a lent buffer: what is put goes there, and the place after it is the next. The buffer stays the one that was lent, as
+// `same_reference` says.
+#[derive(Drop)]
+struct Cursor<'a> {
+    buf: &'a mut [u8],
+    at: usize,
 }
 
-// Puts a name's number, where the option writes it before the name.
-fn put_number(buf: &mut [u8], at: usize, numbering: Numbering, digit: u8) -> usize
-    requires { at + length (number_of numbering digit) ≤ length buf.old }
-    ensures { Puts buf.old at (number_of numbering digit) buf.new result }
-{
-    match numbering {
-        Numbering::Unnumbered => at,
-        Numbering::Numbered => {
-            buf[at] = digit;
-            buf[at + 1] = b'/';
-            at + 2
+impl Cursor<'_> {
+    // Puts a slice.
+    fn put_bytes(&mut self, s: &[u8])
+        requires { self.old.at + length s.now ≤ length self.old.buf.now }
+        ensures puts { Puts self.old.buf.now self.old.at s.now self.new.buf.now self.new.at }
+        ensures same_reference { self.new.buf.ghost_name ≡ self.old.buf.ghost_name }
+    {
+        copy(s, self.buf, self.at);
+        self.at += s.len();
+    }
+
+    // Puts a byte.
+    fn put(&mut self, byte: u8)
+        requires { self.old.at < length self.old.buf.now }
+        ensures puts { Puts self.old.buf.now self.old.at (byte ∷ []) self.new.buf.now self.new.at }
+        ensures same_reference { self.new.buf.ghost_name ≡ self.old.buf.ghost_name }
+    {
+        self.buf[self.at] = byte;
+        self.at += 1;
+    }
+
+    // Puts an LF, where it is asked for.
+    fn put_lf(&mut self, later: bool)
+        requires { self.old.at + length (lead later) ≤ length self.old.buf.now }
+        ensures puts { Puts self.old.buf.now self.old.at (lead later) self.new.buf.now self.new.at }
+        ensures same_reference { self.new.buf.ghost_name ≡ self.old.buf.ghost_name }
+    {
+        if later {
+            self.put(b'\n');
         }
-        Numbering::InTurn => at,
     }
-}
 
-// Puts a line: an LF unless it is the first line, a number, and a text.
-fn put_line(
-    buf: &mut [u8],
-    at: usize,
-    later: bool,
-    numbering: Numbering,
-    digit: u8,
-    text: &[u8],
-) -> usize
-    requires { at + length (lead later ++ (number_of numbering digit ++ text.now)) ≤ length buf.old }
-    ensures { Puts buf.old at (lead later ++ (number_of numbering digit ++ text.now)) buf.new result }
-{
-    let start = put_lf(buf, at, later);
-    let from = put_number(buf, start, numbering, digit);
-    append_bytes(buf, from, text)
-}
-
-// Puts the option's tag.
-fn put_tag(buf: &mut [u8], at: usize, option: PartyOption) -> usize
-    requires { at + length (tag_of option) ≤ length buf.old }
-    ensures { Puts buf.old at (tag_of option) buf.new result }
-{
-    let limits = limits_of(option);
-    let letter = limits.letter;
-    buf[at] = b':';
-    buf[at + 1] = b'0' + limits.field / 10;
-    buf[at + 2] = b'0' + limits.field % 10;
-    if letter == 0 {
-        buf[at + 3] = b':';
-        return at + 4;
+    // Puts a name's number, where the option writes it before the name.
+    fn put_number(&mut self, numbering: Numbering, digit: u8)
+        requires { self.old.at + length (number_of numbering digit) ≤ length self.old.buf.now }
+        ensures puts { Puts self.old.buf.now self.old.at (number_of numbering digit) self.new.buf.now self.new.at }
+        ensures same_reference { self.new.buf.ghost_name ≡ self.old.buf.ghost_name }
+    {
+        match numbering {
+            Numbering::Unnumbered | Numbering::InTurn => {}
+            Numbering::Numbered => {
+                self.put(digit);
+                self.put(b'/');
+            }
+        }
     }
-    buf[at + 3] = letter;
-    buf[at + 4] = b':';
-    at + 5
-}
 
-// Puts the slash before an account or identifier, where the option has it.
-fn put_slash(buf: &mut [u8], at: usize, option: PartyOption) -> usize
-    requires { at + length (slash_of option) ≤ length buf.old }
-    ensures { Puts buf.old at (slash_of option) buf.new result }
-{
-    let limits = limits_of(option);
-    if limits.slash {
-        buf[at] = b'/';
-        return at + 1;
+    // Puts a line: an LF unless it is the first line, a number, and a text.
+    fn put_line(&mut self, later: bool, numbering: Numbering, digit: u8, text: &[u8])
+        requires { self.old.at + length (lead later ++ (number_of numbering digit ++ text.now)) ≤ length self.old.buf.now }
+        ensures puts { Puts self.old.buf.now self.old.at (lead later ++ (number_of numbering digit ++ text.now)) self.new.buf.now self.new.at }
+        ensures same_reference { self.new.buf.ghost_name ≡ self.old.buf.ghost_name }
+    {
+        self.put_lf(later);
+        self.put_number(numbering, digit);
+        self.put_bytes(text);
     }
-    at
-}
 
-// Puts an account or identifier, where it is written.
-fn put_account(
-    buf: &mut [u8],
-    at: usize,
-    record: &[u8],
-    option: PartyOption,
-    written: bool,
-) -> usize
-    requires record_size_in_bounds { record_size ≤ length «record».now }
-    requires record_in_bounds { at + length (head_of option written (used (party_from «record».now).account)) ≤ length buf.old }
-    ensures { Puts buf.old at (head_of option written (used (party_from «record».now).account)) buf.new result }
-{
-    if !written {
-        return at;
+    // Puts a tag's letter, 0 for none.
+    fn put_letter(&mut self, letter: u8)
+        requires { self.old.at + length (capital letter) ≤ length self.old.buf.now }
+        ensures puts { Puts self.old.buf.now self.old.at (capital letter) self.new.buf.now self.new.at }
+        ensures same_reference { self.new.buf.ghost_name ≡ self.old.buf.ghost_name }
+    {
+        if letter != 0 {
+            self.put(letter);
+        }
     }
-    let from = put_slash(buf, at, option);
-    append_bytes(buf, from, used_text(record, 0))
-}
 
-// Puts the names, each with the digit of its line where the option has it beside the name.
-fn put_names(buf: &mut [u8], at: usize, later: bool, record: &[u8], option: PartyOption) -> usize
-    requires lent { Lent «record».now option }
-    requires record_in_bounds { at + length (names_on later (party_from «record».now)) ≤ length buf.old }
-    ensures { Puts buf.old at (names_on later (party_from «record».now)) buf.new result }
-{
-    let n = name_count(option, record[2] as usize);
-    let limits = limits_of(option);
-    let numbering = limits.numbering;
-    let mut after = later;
-    let mut end = at;
-    let mut i = 0;
-    while i < n {
-        let digit = record[DIGITS_AT + i];
-        let text = used_text(record, 2 + i);
-        end = put_line(buf, end, after, numbering, digit, text);
-        after = true;
-        i += 1;
+    // Puts the option's tag.
+    fn put_tag(&mut self, option: PartyOption)
+        requires { self.old.at + length (tag_of option) ≤ length self.old.buf.now }
+        ensures puts { Puts self.old.buf.now self.old.at (tag_of option) self.new.buf.now self.new.at }
+        ensures same_reference { self.new.buf.ghost_name ≡ self.old.buf.ghost_name }
+    {
+        let limits = limits_of(option);
+        self.put(b':');
+        self.put(b'0' + limits.field / 10);
+        self.put(b'0' + limits.field % 10);
+        self.put_letter(limits.letter);
+        self.put(b':');
     }
-    end
-}
 
-// Puts the BIC, or the names.
-fn put_rest(buf: &mut [u8], at: usize, later: bool, record: &[u8], option: PartyOption) -> usize
-    requires lent { Lent «record».now option }
-    requires record_in_bounds { at + length (rest_on later (party_from «record».now)) ≤ length buf.old }
-    ensures { Puts buf.old at (rest_on later (party_from «record».now)) buf.new result }
-{
-    let limits = limits_of(option);
-    if limits.bic_count == 0 {
-        return put_names(buf, at, later, record, option);
+    // Puts the slash before an account or identifier, where the option has it.
+    fn put_slash(&mut self, option: PartyOption)
+        requires { self.old.at + length (slash_of option) ≤ length self.old.buf.now }
+        ensures puts { Puts self.old.buf.now self.old.at (slash_of option) self.new.buf.now self.new.at }
+        ensures same_reference { self.new.buf.ghost_name ≡ self.old.buf.ghost_name }
+    {
+        if limits_of(option).slash {
+            self.put(b'/');
+        }
     }
-    let from = put_lf(buf, at, later);
-    append_bytes(buf, from, used_text(record, 1))
-}
-
-// Puts the whole field.
-fn put_parts(buf: &mut [u8], at: usize, record: &[u8], option: PartyOption) -> usize
-    requires lent { Lent «record».now option }
-    requires record_in_bounds { at + length (written_field (content (party_from «record».now))) ≤ length buf.old }
-    ensures { Puts buf.old at (written_field (content (party_from «record».now))) buf.new result }
-{
-    let later = has_head(option, record[1] == 1);
-    let head = put_tag(buf, at, option);
-    let rest = put_account(buf, head, record, option, later);
-    put_rest(buf, rest, later, record, option)
-}
-
-// Whether the checks passed.
-fn is_accepted(outcome: Outcome) -> bool
-    ensures { result ≡ passes (told outcome) }
-{
-    match outcome {
-        Outcome::Accepted => true,
-        Outcome::Refused(_) => false,
-    }
-}
-
-// Whether an account or identifier may be there, or may not be.
-fn is_presence(option: PartyOption, present: bool) -> bool
-    ensures { result ≡ is_presence option present }
-{
-    let limits = limits_of(option);
-    if present {
-        return 0 < limits.account_max;
-    }
-    limits.account_min == 0
 }
 
 // Whether no byte is an LF.
@@ -354,124 +175,54 @@ fn is_one_line(text: &[u8]) -> bool
     text.len() <= find_lf(text, 0)
 }
 
-// Whether a line is an account by its length and its bytes. One test of a byte's class says that it is legal and no LF.
-fn is_plain_account(option: PartyOption, text: &[u8], classes: &[u8; 256]) -> bool
-    requires { classes.now ≡ class_table }
+// Whether every byte is legal and no LF. One test of a byte's class says both.
+fn is_plain(text: &[u8]) -> bool
+    ensures { result ≡ all plain text.now }
+{
+    all_in(text, class_table(), PLAIN)
+}
+
+// Whether a line is an account by its length and its bytes.
+fn is_plain_account(option: PartyOption, text: &[u8]) -> bool
     ensures { result ≡ line_reply (account_reply option text.now) text.now }
 {
-    if !is_accepted(account_length(text, option)) {
-        return false;
-    }
-    all_in(text, classes, PLAIN)
+    account_length(text, option).is_ok() && is_plain(text)
 }
 
 // Whether a line is 50H's account: its length, and bytes of any kind up to 127. Most have none but legal ones, which one test says.
-fn is_any_account(option: PartyOption, text: &[u8], classes: &[u8; 256]) -> bool
-    requires { classes.now ≡ class_table }
+fn is_any_account(option: PartyOption, text: &[u8]) -> bool
     ensures { result ≡ line_reply (text_reply AnyAccount option text.now) text.now }
 {
-    if !is_accepted(account_length(text, option)) {
-        return false;
-    }
-    if all_in(text, classes, PLAIN) {
-        return true;
-    }
-    if !is_one_line(text) {
-        return false;
-    }
-    is_ascii(text)
+    account_length(text, option).is_ok() && (is_plain(text) || is_one_line(text) && is_ascii(text))
 }
 
 // Whether a line is an identifier after its slash.
 fn is_identifier(option: PartyOption, text: &[u8]) -> bool
     ensures { result ≡ line_reply (text_reply Identified option text.now) text.now }
 {
-    if !is_one_line(text) {
-        return false;
-    }
-    let limits = limits_of(option);
-    is_accepted(parse_remaining(text, limits.account_max, 1))
+    is_one_line(text) && parse_remaining(text, limits_of(option).account_max, 1).is_ok()
 }
 
 // Whether the option's reader takes a line for an account or identifier.
-fn is_account_text(option: PartyOption, text: &[u8], classes: &[u8; 256]) -> bool
-    requires { classes.now ≡ class_table }
+fn is_account_text(option: PartyOption, text: &[u8]) -> bool
     ensures { result ≡ line_reply (text_reply (limits_of option).first option text.now) text.now }
 {
-    let limits = limits_of(option);
-    let first = limits.first;
-    match first {
+    match limits_of(option).first {
         First::Identified => is_identifier(option, text),
-        First::AnyAccount => is_any_account(option, text, classes),
-        _ => is_plain_account(option, text, classes),
+        First::AnyAccount => is_any_account(option, text),
+        _ => is_plain_account(option, text),
     }
-}
-
-// Whether the account or identifier, where the option has one, is one that its reader gives.
-fn is_account(record: &[u8], option: PartyOption, classes: &[u8; 256]) -> bool
-    requires { (record_size ≤ length «record».now) × (classes.now ≡ class_table) }
-    ensures { result ≡ head_test option true (party_from «record».now) }
-{
-    let limits = limits_of(option);
-    if limits.account_max == 0 {
-        return true;
-    }
-    if !is_whole(record, 0) {
-        return false;
-    }
-    is_account_text(option, used_text(record, 0), classes)
-}
-
-// Whether one that is not there is empty, where the option has one.
-fn is_no_account(record: &[u8], option: PartyOption) -> bool
-    requires { record_size ≤ length «record».now }
-    ensures { result ≡ head_test option false (party_from «record».now) }
-{
-    let limits = limits_of(option);
-    if limits.account_max == 0 {
-        return true;
-    }
-    record[3] == 0
-}
-
-// Whether the BIC, where the option has one, is one. A BIC has no LF.
-fn is_bic(record: &[u8], option: PartyOption) -> bool
-    requires { record_size ≤ length «record».now }
-    ensures { result ≡ every is_bic (where_limit (limits_of option).bic_count (used (party_from «record».now).bic ∷ [])) }
-{
-    let limits = limits_of(option);
-    if limits.bic_count == 0 {
-        return true;
-    }
-    if !is_whole(record, 1) {
-        return false;
-    }
-    is_accepted(parse_bic(used_text(record, 1), 1))
 }
 
 // Whether a name has the number of its turn, where it is kept with its number, or its digit is one, where that stands beside it.
-fn is_in_turn(
-    text: &[u8],
-    turn: usize,
-    digit: u8,
-    numbering: Numbering,
-    classes: &[u8; 256],
-) -> bool
-    requires { (turn ≤ 4) × (classes.now ≡ class_table) }
+fn is_in_turn(text: &[u8], turn: usize, digit: u8, numbering: Numbering) -> bool
+    requires { turn ≤ 4 }
     ensures { result ≡ passes (parse_number numbering turn turn (number_of numbering digit ++ text.now)) }
 {
     match numbering {
         Numbering::Unnumbered => true,
-        Numbering::Numbered => {
-            let i = digit as usize;
-            classes[i] & DIGIT == DIGIT
-        }
-        Numbering::InTurn => {
-            if !is_numbered_line(text) {
-                return false;
-            }
-            text[0] as usize == 48 + turn
-        }
+        Numbering::Numbered => is_digit(digit),
+        Numbering::InTurn => is_numbered_line(text) && text[0] as usize == 48 + turn,
     }
 }
 
@@ -482,194 +233,327 @@ fn number_length(numbering: Numbering) -> usize
     skip_of(numbering) - dropped_prefix(numbering)
 }
 
-// Whether a name of a lent record, by its place from 0 on, is one of an option with such names, as its reader gives them.
-fn is_name(
-    record: &[u8],
-    i: usize,
-    numbering: Numbering,
-    longest: usize,
-    classes: &[u8; 256],
-) -> bool
-    requires { (record_size ≤ length «record».now) × (i < 4) × (classes.now ≡ class_table) }
-    ensures { result ≡ is_name numbering longest (i + 1) (get_or «record».now (digits_at + i) 0) (used (text_at (2 + i) «record».now)) }
-{
-    if !is_whole(record, 2 + i) {
-        return false;
-    }
-    let text = used_text(record, 2 + i);
-    if !is_in_turn(text, i + 1, record[DIGITS_AT + i], numbering, classes) {
-        return false;
-    }
-    if longest < text.len() - number_length(numbering) {
-        return false;
-    }
-    all_in(text, classes, PLAIN)
+// A lent record: its bytes, and what they say of the option, the presence and the count.
+#[derive(Clone, Copy)]
+struct Lent<'a> {
+    bytes: &'a [u8],
+    option: PartyOption,
+    present: bool,
+    count: usize,
+    ghost option_is: { option ≡ (laid_out bytes.now).option },
+    ghost present_is: { present ≡ (laid_out bytes.now).present },
+    ghost count_is: { count ≡ (laid_out bytes.now).count },
 }
 
-// Whether each name is one that the option's reader gives.
-fn all_names(record: &[u8], option: PartyOption, classes: &[u8; 256]) -> bool
-    requires lent { Lent «record».now option }
-    requires classes_value { classes.now ≡ class_table }
-    ensures { result ≡ names_pass (party_from «record».now) }
-{
-    let limits = limits_of(option);
-    let numbering = limits.numbering;
-    let n = name_count(option, record[2] as usize);
-    let mut i = 0;
-    while i < n {
-        if !is_name(record, i, numbering, limits.name_max, classes) {
+impl Lent<'_> {
+    ghost use Rattle.writer.specs.Lent.{lent_party};
+
+    // The limits of its option.
+    fn limits(&self) -> &'static Limits
+        ensures { result.now ≡ limits_of (lent_party self.now).option }
+    {
+        limits_of(self.option)
+    }
+
+    // Whether a text, by its number among the six, is no longer than the 38 bytes that it has.
+    fn is_whole(&self, n: usize) -> bool
+        ensures { result ≡ leb (nth_text n (lent_party self.now)).len text_most }
+    {
+        text_length(self.bytes, n) <= TEXT_MOST
+    }
+
+    // How many names are used: as many as the count says, at most four, and none where the option has none.
+    fn name_count(&self) -> usize
+        ensures value { result ≡ name_count (lent_party self.now).option (lent_party self.now).count }
+        ensures few { result ≤ 4 }
+    {
+        if self.limits().max_names == 0 {
+            return 0;
+        }
+        self.count.min(4)
+    }
+
+    // Whether an account or identifier is written.
+    fn has_head(&self) -> bool
+        ensures { result ≡ has_head (lent_party self.now).option (lent_party self.now).present }
+    {
+        self.present && 0 < self.limits().account_max
+    }
+
+    // The length of an account or identifier, where it is written.
+    fn head_length(&self, written: bool) -> usize
+        ensures { Counted 39 (head_of (lent_party self.now).option written (used (lent_party self.now).account)) result }
+    {
+        if !written {
+            return 0;
+        }
+        slash_count(self.option) + used_text(self.bytes, 0).len()
+    }
+
+    // The length of the names.
+    fn names_length(&self, later: bool) -> usize
+        ensures { Counted 164 (names_on later (lent_party self.now)) result }
+    {
+        let mark = dropped_prefix(self.limits().numbering);
+        let n = self.name_count();
+        let mut after = later;
+        let mut total = 0;
+        for i in 0..n {
+            let text = used_text(self.bytes, 2 + i);
+            total += lf_count(after) + mark + text.len();
+            after = true;
+        }
+        total
+    }
+
+    // The length of the BIC, or of the names.
+    fn rest_length(&self, later: bool) -> usize
+        ensures { Counted 164 (rest_on later (lent_party self.now)) result }
+    {
+        if self.limits().bic_count == 0 {
+            return self.names_length(later);
+        }
+        lf_count(later) + used_text(self.bytes, 1).len()
+    }
+
+    // The length of the written field.
+    fn written_length(&self) -> usize
+        ensures { result ≡ length (written_field (content (lent_party self.now))) }
+    {
+        let later = self.has_head();
+        tag_length(self.option) + self.head_length(later) + self.rest_length(later)
+    }
+
+    // Puts an account or identifier, where it is written.
+    fn put_account(&self, out: &mut Cursor, written: bool)
+        requires { out.old.at + length (head_of (lent_party self.now).option written (used (lent_party self.now).account)) ≤ length out.old.buf.now }
+        ensures puts { Puts out.old.buf.now out.old.at (head_of (lent_party self.now).option written (used (lent_party self.now).account)) out.new.buf.now out.new.at }
+        ensures same_reference { out.new.buf.ghost_name ≡ out.old.buf.ghost_name }
+    {
+        if written {
+            out.put_slash(self.option);
+            out.put_bytes(used_text(self.bytes, 0));
+        }
+    }
+
+    // Puts the names, each with the digit of its line where the option has it beside the name.
+    fn put_names(&self, out: &mut Cursor, later: bool)
+        requires { out.old.at + length (names_on later (lent_party self.now)) ≤ length out.old.buf.now }
+        ensures puts { Puts out.old.buf.now out.old.at (names_on later (lent_party self.now)) out.new.buf.now out.new.at }
+        ensures same_reference { out.new.buf.ghost_name ≡ out.old.buf.ghost_name }
+    {
+        let numbering = self.limits().numbering;
+        let n = self.name_count();
+        let mut after = later;
+        for i in 0..n {
+            let text = used_text(self.bytes, 2 + i);
+            out.put_line(after, numbering, digit_of(self.bytes, i), text);
+            after = true;
+        }
+    }
+
+    // Puts the BIC, or the names.
+    fn put_rest(&self, out: &mut Cursor, later: bool)
+        requires { out.old.at + length (rest_on later (lent_party self.now)) ≤ length out.old.buf.now }
+        ensures puts { Puts out.old.buf.now out.old.at (rest_on later (lent_party self.now)) out.new.buf.now out.new.at }
+        ensures same_reference { out.new.buf.ghost_name ≡ out.old.buf.ghost_name }
+    {
+        if self.limits().bic_count == 0 {
+            self.put_names(out, later);
+        } else {
+            out.put_lf(later);
+            out.put_bytes(used_text(self.bytes, 1));
+        }
+    }
+
+    // Puts the whole field.
+    fn put_parts(&self, out: &mut Cursor)
+        requires { out.old.at + length (written_field (content (lent_party self.now))) ≤ length out.old.buf.now }
+        ensures puts { Puts out.old.buf.now out.old.at (written_field (content (lent_party self.now))) out.new.buf.now out.new.at }
+        ensures same_reference { out.new.buf.ghost_name ≡ out.old.buf.ghost_name }
+    {
+        let later = self.has_head();
+        out.put_tag(self.option);
+        self.put_account(out, later);
+        self.put_rest(out, later);
+    }
+
+    // Puts the field at the start of a buffer.
+    fn put_field(&self, buf: &mut [u8])
+        requires { length (written_field (content (lent_party self.now))) ≤ length buf.old }
+        ensures { buf.new ≡ put buf.old 0 (written_field (content (lent_party self.now))) }
+    {
+        let mut out = Cursor { buf, at: 0 };
+        self.put_parts(&mut out);
+    }
+
+    // Whether an account or identifier may be there, or may not be.
+    fn is_presence(&self) -> bool
+        ensures { result ≡ is_presence (lent_party self.now).option (lent_party self.now).present }
+    {
+        let limits = self.limits();
+        if self.present {
+            0 < limits.account_max
+        } else {
+            limits.account_min == 0
+        }
+    }
+
+    // Whether the account or identifier, where the option has one, is one that its reader gives.
+    fn is_account(&self) -> bool
+        ensures { result ≡ head_test (lent_party self.now).option true (lent_party self.now) }
+    {
+        self.limits().account_max == 0
+            || self.is_whole(0) && is_account_text(self.option, used_text(self.bytes, 0))
+    }
+
+    // Whether one that is not there is empty, where the option has one.
+    fn is_no_account(&self) -> bool
+        ensures { result ≡ head_test (lent_party self.now).option false (lent_party self.now) }
+    {
+        self.limits().account_max == 0 || text_length(self.bytes, 0) == 0
+    }
+
+    // Whether the BIC, where the option has one, is one. A BIC has no LF.
+    fn is_bic(&self) -> bool
+        ensures { result ≡ every is_bic (where_limit (limits_of (lent_party self.now).option).bic_count (used (lent_party self.now).bic ∷ [])) }
+    {
+        self.limits().bic_count == 0
+            || self.is_whole(1) && parse_bic(used_text(self.bytes, 1), 1).is_ok()
+    }
+
+    // Whether a name, by its place from 0 on, is one of an option with such names, as its reader gives them.
+    fn is_name(&self, i: usize, numbering: Numbering, longest: usize) -> bool
+        requires { i < 4 }
+        ensures { result ≡ is_name numbering longest (i + 1) (get_or (lent_party self.now).digits i 0) (used (nth_text (2 + i) (lent_party self.now))) }
+    {
+        if !self.is_whole(2 + i) {
             return false;
         }
-        i += 1;
+        let text = used_text(self.bytes, 2 + i);
+        if !is_in_turn(text, i + 1, digit_of(self.bytes, i), numbering) {
+            return false;
+        }
+        if longest < text.len() - number_length(numbering) {
+            return false;
+        }
+        is_plain(text)
     }
-    true
-}
 
-// Whether the names are as many as the count says, and as many as the option may have.
-fn is_counted(record: &[u8], option: PartyOption) -> bool
-    requires { Lent «record».now option }
-    ensures { result ≡ count_test (party_from «record».now) }
-{
-    let limits = limits_of(option);
-    let count = record[2] as usize;
-    let n = name_count(option, count);
-    if n != count {
-        return false;
+    // Whether each name is one that the option's reader gives.
+    fn all_names(&self) -> bool
+        ensures { result ≡ names_pass (lent_party self.now) }
+    {
+        let limits = self.limits();
+        let n = self.name_count();
+        for i in 0..n {
+            if !self.is_name(i, limits.numbering, limits.name_max) {
+                return false;
+            }
+        }
+        true
     }
-    if limits.max_names == 0 {
-        return true;
-    }
-    is_accepted(parse_count(n, limits.max_names))
-}
 
-// Whether there is a first name, and it starts with a slash.
-fn has_slash_name(record: &[u8], option: PartyOption) -> bool
-    requires { Lent «record».now option }
-    ensures { result ≡ slash_name (content (party_from «record».now)).names }
-{
-    if name_count(option, record[2] as usize) == 0 {
-        return false;
+    // Whether the names are as many as the count says, and as many as the option may have.
+    fn is_counted(&self) -> bool
+        ensures { result ≡ count_test (lent_party self.now) }
+    {
+        let n = self.name_count();
+        let most = self.limits().max_names;
+        n == self.count && (most == 0 || parse_count(n, most).is_ok())
     }
-    starts_with_slash(used_text(record, 2))
-}
 
-// Whether the first name would be taken for an account.
-fn is_taken(record: &[u8], option: PartyOption) -> bool
-    requires { Lent «record».now option }
-    ensures { result ≡ is_taken (limits_of option).first (content (party_from «record».now)).names }
-{
-    let limits = limits_of(option);
-    let first = limits.first;
-    match first {
-        First::NoAccount => false,
-        First::Identified => false,
-        First::Account => has_slash_name(record, option),
-        First::ShortAccount => has_slash_name(record, option),
-        First::SlashAccount => false,
-        First::AnyAccount => false,
-        First::WholeLine => false,
+    // Whether there is a first name, and it starts with a slash.
+    fn has_slash_name(&self) -> bool
+        ensures { result ≡ slash_name (content (lent_party self.now)).names }
+    {
+        self.name_count() != 0 && starts_with_slash(used_text(self.bytes, 2))
     }
-}
 
-// Whether the account or identifier and the names are such that the option's reader gives.
-fn are_texts(record: &[u8], option: PartyOption) -> bool
-    requires { Lent «record».now option }
-    ensures { result ≡ texts_test option true (party_from «record».now) }
-{
-    let classes = class_table();
-    if !is_account(record, option, &classes) {
-        return false;
+    // Whether the first name would be taken for an account.
+    fn is_taken(&self) -> bool
+        ensures { result ≡ is_taken (limits_of (lent_party self.now).option).first (content (lent_party self.now)).names }
+    {
+        match self.limits().first {
+            First::Account | First::ShortAccount => self.has_slash_name(),
+            _ => false,
+        }
     }
-    if record[2] == 0 {
-        return true;
-    }
-    all_names(record, option, &classes)
-}
 
-// The same where there is no account or identifier. The table is not taken where there is no name to test either.
-fn are_bare_texts(record: &[u8], option: PartyOption) -> bool
-    requires { Lent «record».now option }
-    ensures { result ≡ texts_test option false (party_from «record».now) }
-{
-    if !is_no_account(record, option) {
-        return false;
+    // Whether the account or identifier and the names are such that the option's reader gives.
+    fn are_texts(&self) -> bool
+        ensures { result ≡ texts_test (lent_party self.now).option true (lent_party self.now) }
+    {
+        self.is_account() && self.all_names()
     }
-    if is_taken(record, option) {
-        return false;
-    }
-    if record[2] == 0 {
-        return true;
-    }
-    let classes = class_table();
-    all_names(record, option, &classes)
-}
 
-// Whether a lent record is the same as one that an accepted body gives.
-fn is_given(record: &[u8], option: PartyOption) -> bool
-    requires { Lent «record».now option }
-    ensures { result ≡ is_given (content (party_from «record».now)) }
-{
-    let present = record[1] == 1;
-    if !is_presence(option, present) {
-        return false;
+    // The same where there is no account or identifier.
+    fn are_bare_texts(&self) -> bool
+        ensures { result ≡ texts_test (lent_party self.now).option false (lent_party self.now) }
+    {
+        self.is_no_account() && !self.is_taken() && self.all_names()
     }
-    if !is_bic(record, option) {
-        return false;
+
+    // Whether a lent record is the same as one that an accepted body gives.
+    fn is_given(&self) -> bool
+        ensures { result ≡ is_given (content (lent_party self.now)) }
+    {
+        if !self.is_presence() || !self.is_bic() || !self.is_counted() {
+            return false;
+        }
+        if self.present {
+            self.are_texts()
+        } else {
+            self.are_bare_texts()
+        }
     }
-    if !is_counted(record, option) {
-        return false;
-    }
-    if present {
-        return are_texts(record, option);
-    }
-    are_bare_texts(record, option)
 }
 
 // Measures a lent record, and puts its field at the start of the buffer where it fits. The answer is that of measuring, whatever the space.
-fn put_measured(record: &[u8], buf: &mut [u8]) -> Measured
+fn put_measured(record: &[u8], buf: &mut [u8]) -> Result<usize, ParseError>
     ensures result_value { told_measured result ≡ measure_of (content (decoded «record».now)) }
     ensures buf_after { buf.new ≡ (place_in (content (decoded «record».now)) buf.old).buffer }
 {
     if !holds_record(record) {
-        return Measured::Refused(ParseError::NoSuchRecord);
+        return Err(ParseError::NoSuchRecord);
     }
-    let option = option_at(record[0] as usize);
-    if !is_given(record, option) {
-        return Measured::Refused(ParseError::NoSuchRecord);
+    let lent = Lent {
+        bytes: record,
+        option: option_of(record),
+        present: present_of(record),
+        count: count_of(record),
+    };
+    if !lent.is_given() {
+        return Err(ParseError::NoSuchRecord);
     }
-    let n = written_length(record, option);
+    let n = lent.written_length();
     if n <= buf.len() {
-        put_parts(buf, 0, record, option);
+        lent.put_field(buf);
     }
-    Measured::Length(n)
+    Ok(n)
 }
 
 // Measures a lent record, as crate record_bytes lays it out: the length of its written field, or 22 for one that no reader gives. No space is
 // lent for it.
-pub fn measure_record(record: &[u8]) -> Measured
+pub fn measure_record(record: &[u8]) -> Result<usize, ParseError>
     ensures { told_measured result ≡ measure_of (content (decoded «record».now)) }
 {
-    let mut none = [0u8; 0];
-    put_measured(record, &mut none)
+    put_measured(record, &mut [])
 }
 
 // Places the field of a lent record at the start of the buffer, and measures for itself: 22, 24. A refusal changes no byte.
-pub fn place_record(record: &[u8], buf: &mut [u8]) -> Measured
+pub fn place_record(record: &[u8], buf: &mut [u8]) -> Result<usize, ParseError>
     ensures { told_placing result buf.new ≡ place_in (content (decoded «record».now)) buf.old }
 {
-    match put_measured(record, buf) {
-        Measured::Length(n) => {
-            if buf.len() < n {
-                return Measured::Refused(ParseError::NoSpace);
-            }
-            Measured::Length(n)
-        }
-        Measured::Refused(e) => Measured::Refused(e),
+    let n = put_measured(record, buf)?;
+    if buf.len() < n {
+        return Err(ParseError::NoSpace);
     }
+    Ok(n)
 }
 
 // Measures a record, through its bytes.
-pub fn measure(p: Party) -> Measured
+pub fn measure(p: Party) -> Result<usize, ParseError>
     ensures { told_measured result ≡ measure_of (content p) }
 {
     let mut record = [0u8; RECORD_SIZE];
@@ -678,7 +562,7 @@ pub fn measure(p: Party) -> Measured
 }
 
 // Places the field of a record, through its bytes.
-pub fn place(p: Party, buf: &mut [u8]) -> Measured
+pub fn place(p: Party, buf: &mut [u8]) -> Result<usize, ParseError>
     ensures { told_placing result buf.new ≡ place_in (content p) buf.old }
 {
     let mut record = [0u8; RECORD_SIZE];

@@ -7,23 +7,24 @@ use native.Mathlib.Omega.{arith}
 use lib.Dec.{leb}
 use lib.ListN.{length}
 use borrow.Author.Tests.{leb-true}
-use Rattle.errors.specs.declared.Outcome.{Outcome}
+use Rattle.std.specs.Prelude.{Option, Result, Ok, Err, ok_or}
+use Rattle.std.specs.Bool.{then_some}
+use Rattle.std.specs.Result.{result_and}
+use Rattle.errors.specs.declared.ParseError.{ParseError}
 use Rattle.errors.specs.Refusals.{Reply, accepted, refused, must, ◌then◌, told}
 use Rattle.errors.proofs.Replies.{refused≢accepted, must_held, then_first}
 use Rattle.party.specs.declared.PartyOption.{PartyOption}
 use Rattle.party.specs.declared.Party.{Party}
 use Rattle.party.specs.Party.{content}
-use Rattle.reader.specs.declared.Answer.{Answer}
 use Rattle.swift_utils.specs.Bytes.{all}
 use Rattle.field_utils.specs.Lines.{lines}
-use Rattle.reader.specs.Reading.{Reading, told_answer, Into, storing, room_reply, read_into, told_into}
+use Rattle.reader.specs.Reading.{Reading, Into, storing, room_reply, read_into, told_into}
 use Rattle.reader.specs.Options.{ascii, body_most, body_reply, read}
 use Rattle.reader.proofs.LineCounts.{lines_most}
 use Rattle.reader.specs.declared.choices.Choice.{Choice}
 use Rattle.reader.specs.Choices.{tried_text, refusing, parse, options_of, parse_with_variant}
 use Rattle.reader.proofs.Every.{each, parse_by, variant_by, every_parse, every_variant}
 use Rattle.profile.specs.Profile.{holds_bic, is_inside, lines_reply, profile_reply, profiled, read_profiled, parse_profiled, parse_with_variant_profiled}
-use Rattle.writer.specs.declared.Measured.{Measured as MeasuredAs}
 use Rattle.writer.specs.Writing.{field_most, written_field, fits}
 use Rattle.writer.specs.Given.{is_given}
 use Rattle.writer.specs.Placing.{Placing, measuring, placing, measure, place, told_measured, told_placing}
@@ -32,45 +33,43 @@ use Rattle.writer.proofs.Theorems.{given_exact, written_most}
 use Rattle.page_writer.specs.IndexState.{IndexState}
 use Rattle.record_bytes.specs.RecordBytes.{record_size, decoded}
 use Rattle.yewdome.specs.Interface.{Called, code_of, arguments_reply, argument_reply, after_checks, index_after_checks, stored_call, given, measured_code, code_or, party_measure, placed_call, party_place}
-use Rattle.yewdome.specs.Code.{Named, Measurable}
+use Rattle.yewdome.specs.Code.{Named, allowed, checked, Measurable, Small, answer_code}
 use Rattle.yewdome.proofs.LineBounds.{must_line, must_then, giving_line, read_line}
 
--- ---- the tests of a lent record
-pub empty_lent : (bytes : List ℕ) → length bytes ≡ 0 → code_of (refused 42 0) ≡ code_of (argument_reply bytes)
-empty_lent [] e = refl
-empty_lent (b ∷ bytes) e = absurd (omega (arith, e))
+-- ---- the tests of what is lent
+-- a call that does not pass them answers their refusal
+pub refuses : {T : Type 0} (t : Reply) (x : T) {r : ℕ} → allowed t x ≡ Err r → (c : Called) (bytes : List ℕ) → (record { code = r; bytes = bytes }) ≡ after_checks t c bytes
+refuses accepted x e c bytes = cc
+refuses (refused k n) x e c bytes = cc
 
-pub refuses : (t : Reply) {r : ℕ} → r ≡ code_of t → (r ≡ 0 → ⊥) → (c : Called) (bytes : List ℕ) → (record { code = r; bytes = bytes }) ≡ after_checks t c bytes
-refuses accepted e h c bytes = absurd (h e)
-refuses (refused k n) e h c bytes = ap {B = Called} (λ (r : ℕ). record { code = r; bytes = bytes }) e
+pub refuses_index : {T : Type 0} (t : Reply) (x : T) {r : ℕ} → allowed t x ≡ Err r → (after b : IndexState) → b ≡ index_after_checks t after b
+refuses_index accepted x e after b = cc
+refuses_index (refused k n) x e after b = refl
 
-pub refuses_index : (t : Reply) {r : ℕ} → r ≡ code_of t → (r ≡ 0 → ⊥) → (after b : IndexState) → b ≡ index_after_checks t after b
-refuses_index accepted e h after b = absurd (h e)
-refuses_index (refused k n) e h after b = refl
+pub refuses_code : {T : Type 0} (t : Reply) (x : T) {r : ℕ} → allowed t x ≡ Err r → (n : ℕ) → r ≡ code_or t n
+refuses_code accepted x e n = cc
+refuses_code (refused k l) x e n = cc
 
-pub refuses_code : (t : Reply) {r : ℕ} → r ≡ code_of t → (r ≡ 0 → ⊥) → (n : ℕ) → r ≡ code_or t n
-refuses_code accepted e h n = absurd (h e)
-refuses_code (refused k l) e h n = e
+-- and one that does has what it asks for
+pub passes : {T : Type 0} (t : Reply) {x y : T} → allowed t x ≡ Ok y → (t ≡ accepted) × (y ≡ x)
+passes accepted e = (refl, cc)
+passes (refused k n) e = cc
 
-pub passes : (len : ℕ) (known : Bool) {r : ℕ} → r ≡ code_of (arguments_reply len known) → r ≡ 0 → arguments_reply len known ≡ accepted
-passes len known e z = go (leb record_size len) known (sym e ∙ z)
+pub asked : {T : Type 0} (len : ℕ) (known : Bool) (x : T) → checked len (then_some known x) ≡ allowed (arguments_reply len known) x
+asked len known x = go (leb record_size len) known
   where
-    go : (a b : Bool) → code_of (must a 42 0 then must b 41 0) ≡ 0 → (must a 42 0 then must b 41 0) ≡ accepted
-    go true true h = refl
-    go true false h = absurd (omega (arith, h))
-    go false b h = absurd (omega (arith, h))
+    go : (a b : Bool) → (elim a [ true ↦ ok_or (then_some b x) (code_of (refused 41 0)) | false ↦ Err (code_of (refused 42 0)) ]) ≡ allowed (must a 42 0 then must b 41 0) x
+    go true true = refl
+    go true false = refl
+    go false b = refl
 
 -- ---- reading
-pub stores : (known : Bool) (a : Answer) (bytes : List ℕ) {o : Outcome} → arguments_reply (length bytes) known ≡ accepted → a.outcome ≡ o
-    → stored_call (told o) a.party bytes ≡ given known (told_answer a) bytes
-stores known a bytes p e = rw (p, e)
-
 -- a reading into lent bytes, after the tests of the lent record
 into : (r : Reply) (p : Party) (bytes : List ℕ) → ◌≡◌ {A = Called} (record { code = code_of (storing r p bytes).reply; bytes = (storing r p bytes).bytes }) (stored_call r p bytes)
 into accepted p bytes = refl
 into (refused k n) p bytes = refl
 
-pub reads : (known : Bool) (r : Reading) (bytes : List ℕ) (o : Outcome) {out : List ℕ} {n : ℕ} → arguments_reply (length bytes) known ≡ accepted → told_into o out ≡ read_into r bytes → n ≡ code_of (told o)
+pub reads : (known : Bool) (r : Reading) (bytes : List ℕ) (o : Result (Unit {0}) ParseError) {out : List ℕ} {n : ℕ} → arguments_reply (length bytes) known ≡ accepted → told_into o out ≡ read_into r bytes → n ≡ code_of (told o)
     → ◌≡◌ {A = Called} (record { code = n; bytes = out }) (given known r bytes)
 reads known r bytes o {out} {n} e i c =
     ap {B = Called} (λ (k : ℕ). record { code = k; bytes = out }) c
@@ -80,7 +79,7 @@ reads known r bytes o {out} {n} e i c =
     ∙ sym (ap (λ (t : Reply). after_checks t (stored_call r.reply r.party bytes) bytes) e)
 
 -- and what is said of it is 42, or what the reading says
-pub reads_named : (r : Reading) (bytes : List ℕ) (o : Outcome) {out : List ℕ} → told_into o out ≡ read_into r bytes → Named r.reply → Named (told o)
+pub reads_named : (r : Reading) (bytes : List ℕ) (o : Result (Unit {0}) ParseError) {out : List ℕ} → told_into o out ≡ read_into r bytes → Named r.reply → Named (told o)
 reads_named r bytes o i h =
     subst Named (sym (ap (λ (x : Into). x.reply) i ∙ by (room_reply (length bytes) then r.reply)))
     (must_then (leb record_size (length bytes)) 42 0 r.reply (omega arith) (omega arith) h)
@@ -88,6 +87,38 @@ reads_named r bytes o i h =
     by : (t : Reply) → (storing t r.party bytes).reply ≡ t
     by accepted = refl
     by (refused k n) = refl
+
+-- a call that reads by what a place names: `R` is the reading, and `g` is what the tests gave
+module _ {T : Type 0} (known : Bool) (x : T) (R : T → Reading) (bytes : List ℕ) {o : Option T} {g : Result T ℕ} (k : o ≡ then_some known x) (h : g ≡ checked (length bytes) o) where
+  is_allowed : g ≡ allowed (arguments_reply (length bytes) known) x
+  is_allowed = h ∙ ap (checked (length bytes)) k ∙ asked (length bytes) known x
+
+  pub not_read : {n : ℕ} → g ≡ Err n → (record { code = n; bytes = bytes }) ≡ given known (R x) bytes
+  not_read e = refuses (arguments_reply (length bytes) known) x (sym is_allowed ∙ e) (stored_call (R x).reply (R x).party bytes) bytes
+
+  module _ {y : T} (e : g ≡ Ok y) where
+    has_passed : (arguments_reply (length bytes) known ≡ accepted) × (y ≡ x)
+    has_passed = passes (arguments_reply (length bytes) known) (sym is_allowed ∙ e)
+
+    -- into the lent record
+    module _ (d : Result (Unit {0}) ParseError) (out : List ℕ) (i : told_into d out ≡ read_into (R y) bytes) {m : Result ℕ ParseError} (a : m ≡ result_and d (Ok 0)) where
+      pub read_small : Named (R y).reply → Small m
+      read_small n = rw a (go d (reads_named (R y) bytes d i n))
+        where
+          go : (d : Result (Unit {0}) ParseError) → Named (told d) → Small (result_and d (Ok 0))
+          go (Ok t) w = omega arith
+          go (Err e) w = w
+
+      pub was_read : {n : ℕ} → n ≡ answer_code m → (record { code = n; bytes = out }) ≡ given known (R x) bytes
+      was_read q = reads known (R x) bytes d has_passed.0 (i ∙ ap (λ (z : T). read_into (R z) bytes) has_passed.1) (q ∙ ap answer_code a ∙ go d)
+        where
+          go : (d : Result (Unit {0}) ParseError) → answer_code (result_and d (Ok 0)) ≡ code_of (told d)
+          go (Ok t) = refl
+          go (Err e) = refl
+
+    -- and where a record by value is stored there
+    pub was_stored : (d : Reading) → d ≡ R y → {c : Called} → c ≡ stored_call d.reply d.party bytes → c ≡ given known (R x) bytes
+    was_stored d i q = q ∙ ap (λ (r : Reading). stored_call r.reply r.party bytes) (i ∙ ap R has_passed.1) ∙ rw has_passed.0
 
 pub parse_line_lem : (choice : Choice) (body : List ℕ) → Named (parse choice body).reply
 parse_line_lem = every_parse (λ r. Named r.reply) read_line (λ k h. (h, omega arith))
@@ -177,6 +208,21 @@ module _ (record_bytes : List ℕ) (a : argument_reply record_bytes ≡ accepted
   pub places : (buffer : List ℕ) → placed_call (place (content (decoded record_bytes)) buffer) ≡ party_place record_bytes buffer
   places buffer = rw a
 
--- what placing answered is told
-pub placed_told : (r : MeasuredAs) {last : List ℕ} {c : Placing} {code : ℕ} → told_placing r last ≡ c → code ≡ measured_code (told_measured r) → (record { code = code; bytes = last }) ≡ placed_call c
-placed_told r {last = last} e q = ap {B = Called} (λ (k : ℕ). record { code = k; bytes = last }) q ∙ ap placed_call e
+-- what they answered is within, and is told
+module _ (r : Result ℕ ParseError) where
+  pub measured_small : Measurable (told_measured r) → Small r
+  measured_small = go r
+    where
+      go : (r : Result ℕ ParseError) → Measurable (told_measured r) → Small r
+      go (Ok n) h = omega (arith, h)
+      go (Err e) h = h
+
+  pub measured_told : answer_code r ≡ measured_code (told_measured r)
+  measured_told = go r
+    where
+      go : (r : Result ℕ ParseError) → answer_code r ≡ measured_code (told_measured r)
+      go (Ok n) = refl
+      go (Err e) = refl
+
+  pub placed_told : {last : List ℕ} {c : Placing} {code : ℕ} → told_placing r last ≡ c → code ≡ answer_code r → (record { code = code; bytes = last }) ≡ placed_call c
+  placed_told {last = last} e q = ap {B = Called} (λ (k : ℕ). record { code = k; bytes = last }) (q ∙ measured_told) ∙ ap placed_call e

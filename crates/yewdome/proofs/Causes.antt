@@ -5,13 +5,14 @@ use mathlib.Core.Bool.{Bool, true, false, not, ◌||◌}
 use mathlib.Core.List.{List, [], ◌∷◌}
 use native.Mathlib.Omega.{arith}
 use lib.Dec.{ltb, eqb}
-use lib.ListN.{length, drop, get_or, length-append}
+use lib.ListN.{length, drop, length-append}
 use lib.Seq.{length-take-le}
 use borrow.Author.Tests.{eqb-true, ne_eqb}
+use Rattle.std.specs.Prelude.{Option, Some, None}
+use Rattle.std.specs.Bool.{then_some}
 use Rattle.errors.specs.Refusals.{Reply, accepted, refused}
 use Rattle.party.specs.declared.PartyOption.{PartyOption}
 use Rattle.party.specs.declared.Party.{Party}
-use Rattle.party.specs.Limits.{option_at}
 use Rattle.party.specs.Party.{content}
 use Rattle.reader.specs.Reading.{Reading}
 use Rattle.writer.specs.Writing.{written_field}
@@ -22,9 +23,9 @@ use Rattle.kept.specs.declared.Causes.{Causes}
 use Rattle.kept.specs.Kept.{causes_of, is_none, Kept, keeping, kept_of}
 use Rattle.kept.specs.Fields.{field_causes, causes_by}
 use Rattle.kept.proofs.FieldExact.{field_less}
-use Rattle.record_bytes.specs.RecordBytes.{bit}
+use Rattle.record_bytes.specs.RecordBytes.{bit, decoded}
 use Rattle.record_bytes.proofs.Theorems.{bit_small, bit_back}
-use Rattle.yewdome.specs.Interface.{code_of, cause, causes_code, kept_code}
+use Rattle.yewdome.specs.Interface.{position_room, cause, causes_code, code_or, kept_code}
 use Rattle.yewdome.specs.Code.{Named, WasRead, WasFiled}
 
 -- ---- the number
@@ -83,16 +84,21 @@ causes_one c d e =
     told : (c : Causes) → bit c.inner_cr + 2 * (bit c.last_lf + 2 * (bit c.after_bic + 2 * (bit c.blanks + 2 * bit c.closing_cr))) ≡ causes_code c
     told c = omega (arith, cause_bit c.inner_cr 1, cause_bit c.last_lf 2, cause_bit c.after_bic 4, cause_bit c.blanks 8, cause_bit c.closing_cr 16)
 
--- what is told of a body: 41, a refusal, or the causes
-module _ (known : Bool) (k : Kept) where
-  pub unknown_code : known ≡ false → 41 * 65536 ≡ kept_code known k
-  unknown_code n = rw n
+-- a call that tells it of what a place names: `R` is what is told
+module _ {T : Type 0} (known : Bool) (x : T) (R : T → Kept) {o : Option T} (k : o ≡ then_some known x) where
+  pub kept_none_such : o ≡ None → 41 * position_room ≡ kept_code known (R x)
+  kept_none_such e = go known (sym k ∙ e)
+    where
+      go : (b : Bool) → then_some b x ≡ None → 41 * position_room ≡ kept_code b (R x)
+      go true h = cc
+      go false h = refl
 
-  pub refused_code : {a n : ℕ} → known ≡ true → k.reply ≡ refused a n → code_of (refused a n) ≡ kept_code known k
-  refused_code t e = rw (t, e)
-
-  pub accepted_code : known ≡ true → k.reply ≡ accepted → causes_code k.causes ≡ kept_code known k
-  accepted_code t e = rw (t, e)
+  pub kept_some_such : {y : T} → o ≡ Some y → {n : ℕ} → n ≡ code_or (R y).reply (causes_code (R y).causes) → n ≡ kept_code known (R x)
+  kept_some_such {y} e q = q ∙ go known (sym k ∙ e)
+    where
+      go : (b : Bool) → then_some b x ≡ Some y → code_or (R y).reply (causes_code (R y).causes) ≡ kept_code b (R x)
+      go true h = let s : x ≡ y = cc in ap (λ (z : T). code_or (R z).reply (causes_code (R z).causes)) (sym s)
+      go false h = cc
 
 -- its reply is the reading's
 pub kept_named : (r : Reading) (text body : List ℕ) → Named r.reply → Named (kept_of r text body).reply
@@ -107,9 +113,10 @@ kept_named r text body = go r.reply
     go (refused k n) h = h
 
 -- ---- the causes of the record in the bytes that it was read into
-pub read_told : (page : List ℕ) (at : ℕ) (bytes : List ℕ) → WasRead page at bytes → {o : PartyOption} {b : Bool} → o ≡ option_at (get_or bytes 0 0) → b ≡ eqb (get_or bytes 1 0) 1
+pub read_told : (page : List ℕ) (at : ℕ) (bytes : List ℕ) → WasRead page at bytes → {o : PartyOption} {b : Bool} → o ≡ (decoded bytes).option → b ≡ (decoded bytes).present
     → field_causes o b page at ≡ causes_by page at (read_at page at).outcome
-read_told page at bytes w q r = (λ i. field_causes ((q ∙ w.option) i) ((r ∙ w.present) i) page at) ∙ ap (causes_by page at) (sym w.read)
+read_told page at bytes w q r =
+    (λ i. field_causes ((q ∙ ap (λ (p : Party). p.option) w.loads) i) ((r ∙ ap (λ (p : Party). p.present) w.loads) i) page at) ∙ ap (causes_by page at) (sym w.read)
 
 -- ---- a field that was filed with as many bytes as the read moved past, where more follows it
 module _ (page : List ℕ) (at : ℕ) (bytes : List ℕ) (moved written : ℕ) (f : WasFiled page at bytes moved written) where

@@ -27,7 +27,7 @@ use Rattle.page_writer.proofs.Fold.{run_map, alike, accepted_map}
 use Rattle.page_writer.proofs.Theorems.{whole_page}
 use Rattle.record_bytes.specs.RecordBytes.{record_size, holds_record, decoded}
 use Rattle.record_bytes.proofs.Laws.{loaded_not}
-use Rattle.yewdome.specs.Interface.{Called, code_of, argument_reply, after_checks, code_or, read_code, read_call, page_read, filed_code, filed, page_add, page_add_index, page_close}
+use Rattle.yewdome.specs.Interface.{position_room, Called, code_of, argument_reply, after_checks, code_or, read_code, read_call, page_read, filed_code, filed, page_add, page_add_index, page_close}
 use Rattle.yewdome.specs.Code.{Named, Within}
 use Rattle.yewdome.specs.Demand3.{is_position, last_given, add_step, adds, records, closing, page, moved_by, Gives, Reads, ExportedIndexState, answers_of, ExportedPage}
 use Rattle.yewdome.proofs.Pages.{add_within, close_within, onward_from}
@@ -40,11 +40,11 @@ abbrev Tells : ℕ → Filed → Type 0
 Tells code (position_after n) = (is_position code ≡ true) × (code ≡ n)
 Tells code (refusal k n) = is_position code ≡ false
 
-below : (n : ℕ) → n < 65536 → is_position n ≡ true
-below n h = le-leb (suc n) 65536 h
+below : (n : ℕ) → n < position_room → is_position n ≡ true
+below n h = le-leb (suc n) position_room h
 
-above : (n : ℕ) → 65536 ≤ n → is_position n ≡ false
-above n h = lt-leb (suc n) 65536 (omega (arith, h))
+above : (n : ℕ) → position_room ≤ n → is_position n ≡ false
+above n h = lt-leb (suc n) position_room (omega (arith, h))
 
 code_tells : (a : Filed) → Within a → Tells (filed_code a) a
 code_tells (position_after n) w = (below n (omega (arith, w)), refl)

@@ -19,7 +19,7 @@ use Rattle.page_writer.specs.Demand3.{adds, accepted_adds, ListedPage}
 use Rattle.page_writer.proofs.Theorems.{whole_page}
 use Rattle.kept.specs.Fields.{causes_by}
 use Rattle.yewdome.specs.Filing.{record_of, records_in, records_of, filed_as, file_outcome, open_page}
-use Rattle.yewdome.specs.Interface.{caused_number, number_step, file_numbers}
+use Rattle.yewdome.specs.Interface.{pack_unit, caused_number, number_step, file_numbers}
 use Rattle.yewdome.specs.Code.{Within}
 use Rattle.yewdome.specs.FiledRecords.{tells_filing, filed_in, FiledRecords}
 use Rattle.yewdome.proofs.Causes.{causes_most}
@@ -57,11 +57,11 @@ module _ (page : List ℕ) where
     unfolding accepted_of
     by_add p (position_after n) w e =
         let number = caused_number page (read_here page at) (a_record p) in
-        let small : tells_filing number ≡ true = lt-ltb number 4294967296 (omega (arith, causes_most (causes_by page at (a_record p)), next_most page at)) in
+        let small : tells_filing number ≡ true = lt-ltb number pack_unit (omega (arith, causes_most (causes_by page at (a_record p)), next_most page at)) in
         rw small (ap (◌∷◌ p) (later (add_step s p).state))
     by_add p (refusal k n) w e =
         let number = caused_number page (read_here page at) (a_refusal k n) in
-        let large : tells_filing number ≡ false = le-ltb number 4294967296 (omega (arith, w.0)) in
+        let large : tells_filing number ≡ false = le-ltb number pack_unit (omega (arith, w.0)) in
         rw large (later (add_step s p).state)
 
     by : (x : ReadOutcome) → By x

@@ -44,7 +44,7 @@ use Rattle.kept.specs.Fields.{came_at, causes_by, is_record, is_kept_at}
 use Rattle.kept.proofs.Laws.{ends_by}
 use Rattle.kept.proofs.FieldExact.{field_decided}
 use Rattle.yewdome.specs.Filing.{record_of, records_in, records_of, filed_as, file_outcome, file_step, open_page}
-use Rattle.yewdome.specs.Interface.{causes_code, caused_number, number_step, file_numbers}
+use Rattle.yewdome.specs.Interface.{position_room, causes_unit, causes_code, caused_number, number_step, file_numbers}
 use Rattle.yewdome.specs.Code.{Named}
 use Rattle.yewdome.specs.KeptPage.{FiledStep, FiledExact, are_kept, is_stray, from_opening, first_at, last_at, between, party_lines, FiledAsCame, KeptPage, KeptSpace, are_plain, answers_from, ToldPage}
 use Rattle.yewdome.proofs.Pages.{add_taken, reply_of, page_line}
@@ -374,7 +374,7 @@ module _ (page : List ℕ) (s : OpenPage) (at : ℕ) (p : Party) where
       let k = causes_code (causes_by page at (a_record p)) in
       record {
         puts = t.puts;
-        tells = ap (λ (x : ReadOutcome). caused_number page (read_here page at) x / 131072) e ∙ high 131072 k ((read_at page at).next - at) (omega (arith, next_most page at));
+        tells = ap (λ (x : ReadOutcome). caused_number page (read_here page at) x / causes_unit) e ∙ high causes_unit k ((read_at page at).next - at) (omega (arith, next_most page at));
         exact = subst (λ (b : Bool). Decides b (written_field (content p) ≡ came_at page at)) (sym (code_none (causes_by page at (a_record p)))) (field_decided page at p t.reads);
       }
 
@@ -408,7 +408,7 @@ module _ (page : List ℕ) where
       }
 
   -- a number below 65,536 is that of a record that was filed, and has no cause
-  plain_step : (s : OpenPage) (at : ℕ) → (number_step page s (read_here page at)).answer < 65536 → (p : Party) × Took page s at p × (is_kept_at page at ≡ true)
+  plain_step : (s : OpenPage) (at : ℕ) → (number_step page s (read_here page at)).answer < position_room → (p : Party) × Took page s at p × (is_kept_at page at ≡ true)
   plain_step s at h = go (file_step s (read_here page at)).answer refl
     where
       number : {x : ReadOutcome} → (file_step s (read_here page at)).answer ≡ x → (number_step page s (read_here page at)).answer ≡ caused_number page (read_here page at) x
@@ -424,10 +424,10 @@ module _ (page : List ℕ) where
       go the_end e = absurd (omega (arith, h, number e))
       go (a_refusal k n) e = absurd (omega (arith, h, number e, (subst (λ (x : ReadOutcome). Named (reply_of x)) e (named_by true s (read_at page at).outcome (page_line page at))).0))
 
-  plain_end : (s : OpenPage) (at : ℕ) → eqb ((number_step page s (read_here page at)).answer / 65536) 1 ≡ true → is_the_end (read_at page at).outcome ≡ true
+  plain_end : (s : OpenPage) (at : ℕ) → eqb ((number_step page s (read_here page at)).answer / position_room) 1 ≡ true → is_the_end (read_at page at).outcome ≡ true
   plain_end s at h =
       sym (ended_by true s (read_at page at).outcome)
-      ∙ answer_end page at true (file_step s (read_here page at)).answer (named_by true s (read_at page at).outcome (page_line page at)) (eqb-true ((number_step page s (read_here page at)).answer / 65536) 1 h)
+      ∙ answer_end page at true (file_step s (read_here page at)).answer (named_by true s (read_at page at).outcome (page_line page at)) (eqb-true ((number_step page s (read_here page at)).answer / position_room) 1 h)
 
   -- the numbers of a run over reads
   abbrev numbers : OpenPage → List Read → List ℕ
@@ -447,8 +447,8 @@ module _ (page : List ℕ) where
       more : (r : Read) (rs : List Read) → ((t : OpenPage) → are_plain (numbers t (r ∷ rs)) ≡ true → Plain t (r ∷ rs)) → are_plain (numbers s (read_here page at ∷ r ∷ rs)) ≡ true → Plain s (read_here page at ∷ r ∷ rs)
       more r rs ih k =
           let c = number_step page s (read_here page at) in
-          let w = plain_step s at (ltb-true c.answer 65536 (both_left (ltb c.answer 65536) (are_plain (numbers c.state (r ∷ rs))) k)) in
-          let later = ih c.state (both_right (ltb c.answer 65536) (are_plain (numbers c.state (r ∷ rs))) k) in
+          let w = plain_step s at (ltb-true c.answer position_room (both_left (ltb c.answer position_room) (are_plain (numbers c.state (r ∷ rs))) k)) in
+          let later = ih c.state (both_right (ltb c.answer position_room) (are_plain (numbers c.state (r ∷ rs))) k) in
           plain_next s at w.0 w.1.reads w.2 w.1.adds_it r rs (subst (λ (t : OpenPage). Plain t (r ∷ rs)) (ap (λ (x : ReadOutcome). (file_outcome s x).state) w.1.reads) later)
 
       go : (l : Bool) → is_last (read_at page at) at ≡ l → (rs : List Read) → reads_from n page next ≡ rs → ((t : OpenPage) → are_plain (numbers t (reads_from n page next)) ≡ true → Plain t (reads_from n page next))

@@ -5,22 +5,22 @@ use mathlib.Core.List.{List}
 use native.Mathlib.Omega.{arith}
 use lib.Dec.{leb}
 use lib.ListN.{length}
+use Rattle.std.specs.Prelude.{Option, Some, Result, Ok, Err}
+use Rattle.std.specs.Result.{result_and}
+use Rattle.errors.specs.declared.ParseError.{ParseError}
 use Rattle.errors.specs.Refusals.{Reply, accepted, refused, must, ◌then◌, refusal_of}
-use Rattle.party.specs.declared.Party.{Party}
 use Rattle.record_bytes.specs.RecordBytes.{record_size}
 use Rattle.reader.specs.Reading.{room_reply}
-use Rattle.page_reader.specs.declared.ReadOutcome.TheVariants.{Record as AtRecord, Refused as AtRefused}
-use Rattle.page_reader.specs.declared.index.LookOutcome.{LookOutcome}
-use Rattle.page_reader.specs.declared.index.LookOutcome.TheVariants.{Record, Refused, NotFound}
-use Rattle.page_reader.specs.Pages.{page_most, a_record, a_refusal, PageRead, read_at, lent_by, a_record_given, a_refusal_given, Outline, outline}
+use Rattle.page_reader.specs.declared.index.FieldRead.{FieldRead}
+use Rattle.page_reader.specs.Pages.{page_most, PageRead, read_at, lent_by, Kind, kind_of, Outline, outline, refusal_given, told_kind}
 use Rattle.page_reader.specs.Reads.{Read}
-use Rattle.page_reader.specs.Index.{Looked, found, not_found, field_at, is_there, has_entry, entry_of, look_up, body_of, looked_by, look_lent, look_bytes, party_looked, look_outline, told_looked}
+use Rattle.page_reader.specs.Index.{Looked, found, not_found, field_at, is_there, has_entry, entry_of, look_up, looked_by, look_lent, look_bytes, look_outline, told_body, told_looked}
 use Rattle.page_reader.proofs.Moves.{next_most}
 use Rattle.page_reader.proofs.Entries.{found_here, refusal_of_lem}
 use Rattle.yewdome.specs.Interface.{packed, Called, code_of, read_call, page_read, looked_into, page_look_up}
-use Rattle.yewdome.specs.Code.{Named}
+use Rattle.yewdome.specs.Code.{Named, IsMove, move_code}
 use Rattle.yewdome.proofs.LineBounds.{must_line, must_then}
-use Rattle.yewdome.proofs.Pages.{told_outcome, reply_of, page_line, onward_from}
+use Rattle.yewdome.proofs.Pages.{kind_code, kind_within, reply_of, page_line, onward_from}
 
 -- a lookup that gives a read gives its number and bytes
 pub look_read : (page index : List ℕ) (k : ℕ) (into : List ℕ) (r : Read) → look_up page index k ≡ found r → page_look_up page index k into ≡ page_read page r.at into
@@ -37,33 +37,45 @@ look_bytes_lem : (x : Looked) (bytes : List ℕ) → look_bytes x bytes ≡ (loo
 look_bytes_lem (found r) bytes = refl
 look_bytes_lem (not_found k n) bytes = refl
 
--- an answer of the code, with the record and the body beside it
-abbrev pub looked_as : LookOutcome → Party → List ℕ → Looked
-looked_as (Record at next) p body = found (record { at = at; gave = record { outcome = a_record p; body = body; next = next } })
-looked_as (Refused e at next) p body =
-    found (record { at = at; gave = record { outcome = a_refusal (refusal_of e).number (refusal_of e).line; body = body; next = next } })
-looked_as (NotFound e) p body = not_found (refusal_of e).number (refusal_of e).line
-
-told_look : (c : LookOutcome) (x : Looked) → told_looked c ≡ look_outline x → x ≡ looked_as c (party_looked x) (body_of x)
-told_look (Record at next) (found r) h =
-    let a : r.at ≡ at = cc in
-    let o : outline r.gave ≡ record { kind = a_record_given; next = next } = cc in
-    let k = told_outcome AtRecord r.gave.outcome (sym (ap (λ (y : Outline). y.kind) o)) in
-    λ i. found (record { at = a i; gave = record { outcome = k i; body = r.gave.body; next = (o i).next } })
-told_look (Refused e at next) (found r) h =
-    let a : r.at ≡ at = cc in
-    let o : outline r.gave ≡ record { kind = a_refusal_given (refusal_of e).number (refusal_of e).line; next = next } = cc in
-    let k = told_outcome (AtRefused e) r.gave.outcome (sym (ap (λ (y : Outline). y.kind) o)) in
-    λ i. found (record { at = a i; gave = record { outcome = k i; body = r.gave.body; next = (o i).next } })
-told_look (NotFound e) (found r) h = absurd (let z : ◌≡◌ {A = ℕ} 0 1 = cc in omega arith)
-told_look (Record at next) (not_found k n) h = absurd (let z : ◌≡◌ {A = ℕ} 0 1 = cc in omega arith)
-told_look (Refused e at next) (not_found k n) h = absurd (let z : ◌≡◌ {A = ℕ} 0 1 = cc in omega arith)
-told_look (NotFound e) (not_found k n) h = let a : k ≡ (refusal_of e).number = cc in let b : n ≡ (refusal_of e).line = cc in λ i. not_found (a i) (b i)
-
 -- what a lookup's number and line are within, and where its read leads
 abbrev pub Bounded : Looked → Type 0
 Bounded (found r) = Named (reply_of r.gave.outcome) × (r.at ≤ r.gave.next) × (r.gave.next ≤ r.at + page_most)
 Bounded (not_found k n) = Named (refused k n)
+
+-- what the code says of a field's body, as what a read gave
+module _ (f : FieldRead (Unit {0})) where
+  abbrev pub said : Kind
+  said = told_kind (result_and {U = Option (Unit {0})} f.outcome (Ok (Some tt)))
+
+  said_as : said ≡ told_body f.outcome
+  said_as = go f.outcome
+    where
+      go : (c : Result (Unit {0}) ParseError) → told_kind (result_and {U = Option (Unit {0})} c (Ok (Some tt))) ≡ told_body c
+      go (Ok t) = refl
+      go (Err e) = refl
+
+  -- its field is found: what it says, with how far the read moved
+  told_field : (x : Looked) (bytes : List ℕ) → Bounded x → told_looked (Ok f) ≡ look_outline x
+      → (f.at ≤ f.next) × IsMove said (f.next - f.at) × (move_code said (f.next - f.at) ≡ (looked_into x bytes).code)
+  told_field (found r) bytes b h =
+      let a : r.at ≡ f.at = cc in
+      let o : outline r.gave ≡ record { kind = told_body f.outcome; next = f.next } = cc in
+      let k : outline r.gave ≡ record { kind = said; next = f.next } = o ∙ (λ i. record { kind = sym said_as i; next = f.next }) in
+      let m = kind_within r.gave.outcome (r.gave.next - r.at) b.0 (omega (arith, b.2)) in (
+        omega (arith, a, ap (λ (y : Outline). y.next) o, b.1),
+        subst (λ (y : Outline). IsMove y.kind (y.next - f.at)) k (subst (λ (n : ℕ). IsMove (kind_of r.gave.outcome) (r.gave.next - n)) a m),
+        (λ i. move_code (sym k i).kind ((sym k i).next - sym a i)) ∙ kind_code r.gave.outcome (r.gave.next - r.at),
+      )
+  told_field (not_found k n) bytes b h = absurd cc
+
+-- and where no field is found
+told_none : (e : ParseError) (x : Looked) (bytes : List ℕ) → Bounded x → told_looked {T = Unit {0}} (Err e) ≡ look_outline x
+    → IsMove (refusal_given e) 0 × (move_code (refusal_given e) 0 ≡ (looked_into x bytes).code)
+told_none e (found r) bytes b h = absurd cc
+told_none e (not_found k n) bytes b h =
+    let a : (refusal_of e).number ≡ k = cc in
+    let l : (refusal_of e).line ≡ n = cc in
+    (((omega (arith, a, b.0), omega (arith, l, b.1)), omega arith), λ i. packed (code_of (refused (a i) (l i))) 0)
 
 module _ (page index : List ℕ) (k : ℕ) where
   bounded : Bounded (look_up page index k)
@@ -92,13 +104,13 @@ module _ (page index : List ℕ) (k : ℕ) where
         go accepted h = bounded
         go (refused i n) h = h
 
-    -- the answer of the code and what it stored, by its outcome
-    module _ (x : LookOutcome) {out : List ℕ} (e : told_looked x ≡ look_outline lent) (o : out ≡ look_bytes lent bytes) where
-      abbrev told : Looked
-      told = looked_as x (party_looked lent) (body_of lent)
+    -- the answer of the code and what it stored
+    pub field_told : (f : FieldRead (Unit {0})) → told_looked (Ok f) ≡ look_outline lent
+        → (f.at ≤ f.next) × IsMove (said f) (f.next - f.at) × (move_code (said f) (f.next - f.at) ≡ (looked_into lent bytes).code)
+    field_told f = told_field f lent bytes lent_bounded
 
-      pub told_bounded : Bounded told
-      told_bounded = subst Bounded (told_look x lent e) lent_bounded
+    pub none_told : (e : ParseError) → told_looked {T = Unit {0}} (Err e) ≡ look_outline lent → IsMove (refusal_given e) 0 × (move_code (refusal_given e) 0 ≡ (looked_into lent bytes).code)
+    none_told e = told_none e lent bytes lent_bounded
 
-      pub looks : (record { code = (looked_into told bytes).code; bytes = out }) ≡ page_look_up page index k bytes
-      looks = let z = o ∙ look_bytes_lem lent bytes in λ i. record { code = (looked_into (sym (told_look x lent e) i) bytes).code; bytes = z i }
+    pub looks : {out : List ℕ} {code : ℕ} → out ≡ look_bytes lent bytes → code ≡ (looked_into lent bytes).code → (record { code = code; bytes = out }) ≡ page_look_up page index k bytes
+    looks o q = let z = o ∙ look_bytes_lem lent bytes in λ i. record { code = q i; bytes = z i }

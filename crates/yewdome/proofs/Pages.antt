@@ -6,8 +6,10 @@ use mathlib.Core.Logic.{⊎_elim}
 use native.Mathlib.Omega.{arith}
 use borrow.Author.Tests.{leb-true}
 use lib.Dec.{leb}
+use Rattle.std.specs.Prelude.{Result, Ok, Err}
+use Rattle.errors.specs.declared.ParseError.{ParseError}
 use lib.ListN.{length}
-use Rattle.errors.specs.Refusals.{Reply, accepted, refused, must, ◌then◌, refusal_of}
+use Rattle.errors.specs.Refusals.{Reply, accepted, refused, must, ◌then◌}
 use Rattle.errors.proofs.Replies.{must_held, then_second, then_assoc}
 use Rattle.party.specs.declared.Party.{Party}
 use Rattle.party.specs.Party.{Content, content}
@@ -15,18 +17,14 @@ use Rattle.reader.specs.Reading.{room_reply}
 use Rattle.reader.specs.Options.{read}
 use Rattle.writer.specs.Writing.{written_field, put}
 use Rattle.writer.specs.Given.{is_given}
-use Rattle.page_reader.specs.declared.ReadInto.{ReadInto}
-use Rattle.page_reader.specs.declared.ReadOutcome.{ReadOutcome as OutcomeAt}
-use Rattle.page_reader.specs.declared.ReadOutcome.TheVariants.{Record, End, Refused}
-use Rattle.page_reader.specs.Pages.{page_most, ReadOutcome, a_record, the_end, a_refusal, outcome_of, read_at, lent_by, read_lent, read_bytes, party_beside, kind_of, Outline, outline, told_kind, told_read_into}
+use Rattle.page_reader.specs.Pages.{page_most, ReadOutcome, a_record, the_end, a_refusal, outcome_of, read_at, lent_by, read_lent, read_bytes, PageRead, Kind, kind_of, Outline, outline}
 use Rattle.page_reader.proofs.Moves.{stays_or_moves, next_most, every_read}
-use Rattle.page_writer.specs.declared.Filed.{Filed as FiledAt}
 use Rattle.page_writer.specs.IndexState.{IndexState, is_indexed}
 use Rattle.page_writer.specs.Adding.{is_carried, writable, has_space, with_lf, end_line, position_after, Call, putting, record_space, asked, record_reply, tally_of, has_free_entry, add_reply, add, add_index, close, told_filed, told_call}
 use Rattle.page_writer.proofs.Addings.{position≢refusal, reply_space}
 use Rattle.record_bytes.specs.RecordBytes.{record_size, decoded}
 use Rattle.yewdome.specs.Interface.{Called, argument_reply, read_code, page_read, filed_code, filed, page_add, page_add_index}
-use Rattle.yewdome.specs.Code.{Named, Within}
+use Rattle.yewdome.specs.Code.{Named, Within, Small, answer_code, IsMove, move_code}
 use Rattle.yewdome.proofs.LineBounds.{must_line, must_then, read_line}
 
 -- ---- adding and closing: a refusal names no line, and a position is within a page
@@ -68,12 +66,20 @@ close_within buffer at =
     (λ e. omega (arith, leb-true (at + 2) (min (length buffer) page_most) (must_held space 24 0 (then_second (must (writable buffer at) 21 0) _ e))))
 
 -- what the code answers is within, and its number is told
-module _ (r : FiledAt) {last : List ℕ} {f : Call} (e : told_call r last ≡ f) where
-  pub told_within : Within f.answer → Within (told_filed r)
-  told_within h = subst (λ (x : Call). Within x.answer) (sym e) h
+module _ (r : Result ℕ ParseError) {last : List ℕ} {f : Call} (e : told_call r last ≡ f) where
+  pub filed_small : Within f.answer → Small r
+  filed_small h = go r (subst (λ (x : Call). Within x.answer) (sym e) h)
+    where
+      go : (r : Result ℕ ParseError) → Within (told_filed r) → Small r
+      go (Ok n) w = omega (arith, w)
+      go (Err x) w = w
 
-  pub filed_told : {code : ℕ} → code ≡ filed_code (told_filed r) → (record { code = code; bytes = last }) ≡ filed f
-  filed_told q = ap {B = Called} (λ (k : ℕ). record { code = k; bytes = last }) q ∙ ap filed e
+  pub filed_told : {code : ℕ} → code ≡ answer_code r → (record { code = code; bytes = last }) ≡ filed f
+  filed_told q = ap {B = Called} (λ (k : ℕ). record { code = k; bytes = last }) (q ∙ go r) ∙ ap filed e
+    where
+      go : (r : Result ℕ ParseError) → answer_code r ≡ filed_code (told_filed r)
+      go (Ok n) = refl
+      go (Err x) = refl
 
 -- the record that was loaded is the one that was added
 module _ (record_bytes buffer : List ℕ) (at : ℕ) (b : IndexState) {p : Party} (a : argument_reply record_bytes ≡ accepted) (l : p ≡ decoded record_bytes) where
@@ -84,28 +90,22 @@ module _ (record_bytes buffer : List ℕ) (at : ℕ) (b : IndexState) {p : Party
   adds_index = ap (λ (x : Party). add_index buffer at b (content x)) l ∙ rw a
 
 -- ---- reading
--- an outcome of the code, with the record beside it
-abbrev pub outcome_as : OutcomeAt → Party → ReadOutcome
-outcome_as Record p = a_record p
-outcome_as End p = the_end
-outcome_as (Refused e) p = a_refusal (refusal_of e).number (refusal_of e).line
-
-pub told_outcome : (c : OutcomeAt) (o : ReadOutcome) → told_kind c ≡ kind_of o → o ≡ outcome_as c (party_beside o)
-told_outcome Record (a_record p) h = refl
-told_outcome Record the_end h = absurd (let z : ◌≡◌ {A = ℕ} 0 1 = cc in omega arith)
-told_outcome Record (a_refusal k n) h = absurd (let z : ◌≡◌ {A = ℕ} 0 1 = cc in omega arith)
-told_outcome End (a_record p) h = absurd (let z : ◌≡◌ {A = ℕ} 0 1 = cc in omega arith)
-told_outcome End the_end h = refl
-told_outcome End (a_refusal k n) h = absurd (let z : ◌≡◌ {A = ℕ} 0 1 = cc in omega arith)
-told_outcome (Refused e) (a_record p) h = absurd (let z : ◌≡◌ {A = ℕ} 0 1 = cc in omega arith)
-told_outcome (Refused e) the_end h = absurd (let z : ◌≡◌ {A = ℕ} 0 1 = cc in omega arith)
-told_outcome (Refused e) (a_refusal k n) h = let a : k ≡ (refusal_of e).number = cc in let b : n ≡ (refusal_of e).line = cc in λ i. a_refusal (a i) (b i)
-
 -- a read's refusal
 abbrev pub reply_of : ReadOutcome → Reply
 reply_of (a_record p) = accepted
 reply_of the_end = accepted
 reply_of (a_refusal k n) = refused k n
+
+-- what a read gave, without its record, tells its number and its refusal
+pub kind_code : (o : ReadOutcome) (moved : ℕ) → move_code (kind_of o) moved ≡ read_code o moved
+kind_code (a_record p) moved = refl
+kind_code the_end moved = refl
+kind_code (a_refusal k n) moved = refl
+
+pub kind_within : (o : ReadOutcome) (moved : ℕ) → Named (reply_of o) → moved ≤ page_most → IsMove (kind_of o) moved
+kind_within (a_record p) moved n m = m
+kind_within the_end moved n m = m
+kind_within (a_refusal k l) moved n m = (n, m)
 
 outcome_line : (r : Reply) (p : Party) → Named r → Named (reply_of (outcome_of r p))
 outcome_line accepted p h = tt
@@ -129,19 +129,17 @@ module _ (page : List ℕ) (at : ℕ) where
     lent_bounded = by_lent (room_reply (length bytes)) (must_line (leb record_size (length bytes)) 42 0 (omega arith) (omega arith))
 
     -- the read of the code, and what it stored
-    module _ (r : ReadInto) {out : List ℕ} (e : told_read_into r ≡ outline (read_lent page at bytes)) (o : out ≡ read_bytes (read_lent page at bytes).outcome bytes) where
-      abbrev p : Party
-      p = party_beside (read_lent page at bytes).outcome
+    module _ {k : Kind} {next : ℕ} (e : (record { kind = k; next = next }) ≡ outline (read_lent page at bytes)) where
+      abbrev r : PageRead
+      r = read_lent page at bytes
 
-      -- its outcome, with the record that was stored
-      outcome_is : (x : OutcomeAt) → r.outcome ≡ x → (read_lent page at bytes).outcome ≡ outcome_as x p
-      outcome_is x q = told_outcome x (read_lent page at bytes).outcome (sym (ap told_kind q) ∙ ap (λ (y : Outline). y.kind) e)
-
-      pub answer_line : (x : OutcomeAt) → r.outcome ≡ x → Named (reply_of (outcome_as x p))
-      answer_line x q = subst (λ (y : ReadOutcome). Named (reply_of y)) (outcome_is x q) lent_bounded.0
-
-      pub answer_next : (at ≤ r.next) × (r.next ≤ at + page_most)
+      pub answer_next : (at ≤ next) × (next ≤ at + page_most)
       answer_next = subst (λ (n : ℕ). (at ≤ n) × (n ≤ at + page_most)) (sym (ap (λ (y : Outline). y.next) e)) (lent_bounded.1, lent_bounded.2)
 
-      pub reads : (x : OutcomeAt) → r.outcome ≡ x → (record { code = read_code (outcome_as x p) (r.next - at); bytes = out }) ≡ page_read page at bytes
-      reads x q = λ i. record { code = read_code (sym (outcome_is x q) i) ((e i).next - at); bytes = o i }
+      pub answer_move : IsMove k (next - at)
+      answer_move = subst (λ (y : Outline). IsMove y.kind (y.next - at)) (sym e) (kind_within r.outcome (r.next - at) lent_bounded.0 (omega (arith, lent_bounded)))
+
+      pub reads : {code : ℕ} {out : List ℕ} → code ≡ move_code k (next - at) → out ≡ read_bytes r.outcome bytes → (record { code = code; bytes = out }) ≡ page_read page at bytes
+      reads q o =
+          let told = q ∙ ap (λ (y : Outline). move_code y.kind (y.next - at)) e ∙ kind_code r.outcome (r.next - at) in
+          λ i. record { code = told i; bytes = o i }

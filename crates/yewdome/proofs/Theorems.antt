@@ -25,7 +25,7 @@ use Rattle.page_reader.specs.Pages.{page_most, ReadOutcome, a_record, the_end, a
 use Rattle.page_reader.proofs.Moves.{every_read}
 use Rattle.page_reader.proofs.Bodies.{body_there, body_most_lem}
 use Rattle.record_bytes.specs.RecordBytes.{record_size, stored, decoded}
-use Rattle.yewdome.specs.Interface.{Called, code_of, arguments_reply, argument_reply, after_checks, stored_call, given, party_read, choice_at, party_parse, party_parse_with_variant, measured_code, code_or, party_measure, placed_call, party_place, read_code, page_read, page_body}
+use Rattle.yewdome.specs.Interface.{position_room, pack_unit, Called, code_of, arguments_reply, argument_reply, after_checks, stored_call, given, party_read, choice_at, party_parse, party_parse_with_variant, measured_code, code_or, party_measure, placed_call, party_place, read_code, page_read, page_body}
 use Rattle.yewdome.specs.Code.{Named, Measurable}
 use Rattle.yewdome.proofs.LineBounds.{must_line, must_then, read_line}
 use Rattle.reader.proofs.Loading.{Loads, blank_loads, read_loads, stored_loads}
@@ -39,18 +39,18 @@ pub variant_loads : (choice : Choice) (body : List ℕ) (letter : ℕ) → Loads
 variant_loads = every_variant (λ r. Loads r.party) read_loads (λ k h. blank_loads)
 
 -- ---- a number below 65,536 is no refusal's
-pub no_refusal : (r : Reply) → Named r → code_of r < 65536 → r ≡ accepted
+pub no_refusal : (r : Reply) → Named r → code_of r < position_room → r ≡ accepted
 no_refusal accepted n h = refl
 no_refusal (refused k l) n h = absurd (omega (arith, n.0, h))
 
 pub lent_named : (len : ℕ) (known : Bool) → Named (arguments_reply len known)
 lent_named len known = must_then (leb record_size len) 42 0 (must known 41 0) (omega arith) (omega arith) (must_line known 41 0 (omega arith) (omega arith))
 
-pub asked_passed : (r : Reply) (c : Called) (bytes : List ℕ) → Named r → (after_checks r c bytes).code < 65536 → r ≡ accepted
+pub asked_passed : (r : Reply) (c : Called) (bytes : List ℕ) → Named r → (after_checks r c bytes).code < position_room → r ≡ accepted
 asked_passed accepted c bytes n h = refl
 asked_passed (refused k l) c bytes n h = no_refusal (refused k l) n h
 
-code_passed : (r : Reply) (code : ℕ) → Named r → code_or r code < 65536 → r ≡ accepted
+code_passed : (r : Reply) (code : ℕ) → Named r → code_or r code < position_room → r ≡ accepted
 code_passed accepted code n h = refl
 code_passed (refused k l) code n h = no_refusal (refused k l) n h
 
@@ -107,7 +107,7 @@ page_loads page at bytes p h e =
     ap decoded is ∙ stored_loads p bytes l h
 
 -- ---- what was measured and written
-told_length : (m : Measured) → Measurable m → measured_code m < 65536 → m ≡ length_is (measured_code m)
+told_length : (m : Measured) → Measurable m → measured_code m < position_room → m ≡ length_is (measured_code m)
 told_length (length_is n) w h = refl
 told_length (refused_with k l) w h = absurd (omega (arith, w.0, h))
 
@@ -116,7 +116,7 @@ pub record Writes (record_bytes buffer : List ℕ) : Type 0 where
   pub passes : argument_reply record_bytes ≡ accepted
   pub accepts : (place (content (decoded record_bytes)) buffer).answer ≡ length_is (party_place record_bytes buffer).code
 
-pub write_accepts : (record_bytes buffer : List ℕ) → (party_place record_bytes buffer).code < 65536 → Writes record_bytes buffer
+pub write_accepts : (record_bytes buffer : List ℕ) → (party_place record_bytes buffer).code < position_room → Writes record_bytes buffer
 write_accepts record_bytes buffer h =
     let p = decoded record_bytes in
     let c = place (content p) buffer in
@@ -133,7 +133,7 @@ pub record Measures (record_bytes buffer : List ℕ) : Type 0 where
       → party_place record_bytes buffer ≡ record { code = party_measure record_bytes; bytes = written_field (content (decoded record_bytes)) ++ drop (party_measure record_bytes) buffer }
   pub short : length buffer < party_measure record_bytes → party_place record_bytes buffer ≡ record { code = code_of (refused 24 0); bytes = buffer }
 
-pub measure_accepts : (record_bytes buffer : List ℕ) → party_measure record_bytes < 65536 → Measures record_bytes buffer
+pub measure_accepts : (record_bytes buffer : List ℕ) → party_measure record_bytes < position_room → Measures record_bytes buffer
 measure_accepts record_bytes buffer h =
     let p = decoded record_bytes in
     let a : argument_reply record_bytes ≡ accepted = code_passed (argument_reply record_bytes) (measured_code (measure (content p))) (lent_named (length record_bytes) (leb (get_or record_bytes 0 0) 10)) h in
@@ -155,27 +155,27 @@ pub low : (w k n : ℕ) → n < w → (k * w + n) % w ≡ n
 low w k n h = ap (λ (m : ℕ). m % w) (add_comm (k * w) n) ∙ (add-mul-mod_self_right n k w ∙ mod-eq_of_lt h)
 
 -- a refusal's number and line are told by its code: the line is below 65,536
-pub code_number : (k n : ℕ) → n < 65536 → code_of (refused k n) / 65536 ≡ k
-code_number k n h = high 65536 k n h
+pub code_number : (k n : ℕ) → n < position_room → code_of (refused k n) / position_room ≡ k
+code_number k n h = high position_room k n h
 
-pub code_line : (k n : ℕ) → n < 65536 → code_of (refused k n) % 65536 ≡ n
-code_line k n h = low 65536 k n h
+pub code_line : (k n : ℕ) → n < position_room → code_of (refused k n) % position_room ≡ n
+code_line k n h = low position_room k n h
 
 -- a read's refusal and how far it moved are told by its number: it moves past at most 32,768 bytes (`next_most`)
-pub read_code_lem : (k n moved : ℕ) → moved ≤ page_most → read_code (a_refusal k n) moved / 4294967296 ≡ code_of (refused k n)
-read_code_lem k n moved h = high 4294967296 (code_of (refused k n)) moved (omega (arith, h))
+pub read_code_lem : (k n moved : ℕ) → moved ≤ page_most → read_code (a_refusal k n) moved / pack_unit ≡ code_of (refused k n)
+read_code_lem k n moved h = high pack_unit (code_of (refused k n)) moved (omega (arith, h))
 
-pub read_moved : (o : ReadOutcome) (moved : ℕ) → moved ≤ page_most → read_code o moved % 65536 ≡ moved
+pub read_moved : (o : ReadOutcome) (moved : ℕ) → moved ≤ page_most → read_code o moved % position_room ≡ moved
 read_moved (a_record p) moved h = mod-eq_of_lt (omega (arith, h))
-read_moved the_end moved h = low 65536 1 moved (omega (arith, h))
+read_moved the_end moved h = low position_room 1 moved (omega (arith, h))
 read_moved (a_refusal k n) moved h =
-    let e : read_code (a_refusal k n) moved ≡ code_of (refused k n) * 65536 * 65536 + moved = omega arith in
-    ap (λ (m : ℕ). m % 65536) e ∙ low 65536 (code_of (refused k n) * 65536) moved (omega (arith, h))
+    let e : read_code (a_refusal k n) moved ≡ code_of (refused k n) * position_room * position_room + moved = omega arith in
+    ap (λ (m : ℕ). m % position_room) e ∙ low position_room (code_of (refused k n) * position_room) moved (omega (arith, h))
 
 -- a body's place and its length are told by their number, and the bytes there are the body that the read hands back
-pub page_body_lem : (page : List ℕ) (at : ℕ) → let n = page_body page at in take (n % 4294967296) (drop (n / 4294967296) page) ≡ (read_at page at).body
+pub page_body_lem : (page : List ℕ) (at : ℕ) → let n = page_body page at in take (n % pack_unit) (drop (n / pack_unit) page) ≡ (read_at page at).body
 page_body_lem page at =
     let place = body_place page at in
-    let small : place.len < 4294967296 = omega (arith, body_most_lem page at) in
-    ap (λ (k : ℕ). take k (drop (page_body page at / 4294967296) page)) (low 4294967296 place.start place.len small)
-    ∙ (ap (λ (k : ℕ). take place.len (drop k page)) (high 4294967296 place.start place.len small) ∙ (body_there page at).bytes)
+    let small : place.len < pack_unit = omega (arith, body_most_lem page at) in
+    ap (λ (k : ℕ). take k (drop (page_body page at / pack_unit) page)) (low pack_unit place.start place.len small)
+    ∙ (ap (λ (k : ℕ). take place.len (drop k page)) (high pack_unit place.start place.len small) ∙ (body_there page at).bytes)

@@ -6,7 +6,7 @@ use mathlib.Core.List.{List, [], ◌∷◌, map}
 use native.Mathlib.Nat.{div-eq_of_lt}
 use native.Mathlib.Omega.{arith}
 use borrow.Author.Tests.{eq-eqb, ne_eqb, lt-ltb, le-ltb}
-use lib.ListN.{length, set, length-append}
+use lib.ListN.{length, set}
 use Rattle.errors.specs.Refusals.{accepted, refused}
 use Rattle.party.specs.declared.Party.{Party}
 use Rattle.party.specs.Party.{content}
@@ -20,10 +20,8 @@ use Rattle.page_writer.specs.Fold.{Step, Run, run}
 use Rattle.page_writer.specs.WholePage.{OpenPage}
 use Rattle.page_writer.proofs.Fold.{run_length}
 use Rattle.kept.specs.Fields.{causes_by}
-use Rattle.yewdome.specs.declared.Stepped.{Stepped}
-use Rattle.yewdome.specs.declared.Walked.{Walked}
 use Rattle.yewdome.specs.Filing.{filed_as, open_page}
-use Rattle.yewdome.specs.Interface.{code_of, read_code, causes_code, page_close, read_number, listing, page_answers, file_numbers, filing, page_file}
+use Rattle.yewdome.specs.Interface.{position_room, causes_unit, pack_unit, code_of, read_code, causes_code, page_close, read_number, listing, page_answers, file_numbers, filing, page_file}
 use Rattle.yewdome.specs.Code.{Named, Within, outcome_by, answer_by, step_by, walk_by, told_step, Walks}
 use Rattle.yewdome.proofs.Pages.{add_within, reply_of, page_line, onward_from}
 use Rattle.yewdome.proofs.Theorems.{high, low, read_moved}
@@ -53,18 +51,18 @@ ended_by false s x = refl
 
 -- its number tells whether it is the end
 module _ (moved : ℕ) (h : moved ≤ page_most) where
-  code_end : (x : ReadOutcome) → Named (reply_of x) → read_code x moved / 65536 ≡ 1 → is_the_end x ≡ true
+  code_end : (x : ReadOutcome) → Named (reply_of x) → read_code x moved / position_room ≡ 1 → is_the_end x ≡ true
   code_end (a_record p) n e =
-      let z : moved / 65536 ≡ 0 = div-eq_of_lt (omega (arith, h)) in
+      let z : moved / position_room ≡ 0 = div-eq_of_lt (omega (arith, h)) in
       absurd (omega (arith, sym z ∙ e))
   code_end the_end n e = refl
   code_end (a_refusal k l) n e =
-      let c : read_code (a_refusal k l) moved ≡ code_of (refused k l) * 65536 * 65536 + moved = omega arith in
-      absurd (omega (arith, sym (high 65536 (code_of (refused k l) * 65536) moved (omega (arith, h))) ∙ ap (λ (m : ℕ). m / 65536) (sym c) ∙ e, n.0))
+      let c : read_code (a_refusal k l) moved ≡ code_of (refused k l) * position_room * position_room + moved = omega arith in
+      absurd (omega (arith, sym (high position_room (code_of (refused k l) * position_room) moved (omega (arith, h))) ∙ ap (λ (m : ℕ). m / position_room) (sym c) ∙ e, n.0))
 
-  code_on : (x : ReadOutcome) → (read_code x moved / 65536 ≡ 1 → ⊥) → is_the_end x ≡ false
+  code_on : (x : ReadOutcome) → (read_code x moved / position_room ≡ 1 → ⊥) → is_the_end x ≡ false
   code_on (a_record p) e = refl
-  code_on the_end e = absurd (e (high 65536 1 moved (omega (arith, h))))
+  code_on the_end e = absurd (e (high position_room 1 moved (omega (arith, h))))
   code_on (a_refusal k l) e = refl
 
 -- so does a filed one's, and both tell the bytes moved past
@@ -76,29 +74,29 @@ module _ (page : List ℕ) (at : ℕ) where
   past_few = omega (arith, next_most page at)
 
   -- a record's, with its causes
-  caused_high : (k : ℕ) → (k * 131072 + past) / 65536 ≡ 2 * k
+  caused_high : (k : ℕ) → (k * causes_unit + past) / position_room ≡ 2 * k
   caused_high k =
-      let e : k * 131072 + past ≡ 2 * k * 65536 + past = omega arith in
-      ap (λ (m : ℕ). m / 65536) e ∙ high 65536 (2 * k) past (omega (arith, past_few))
+      let e : k * causes_unit + past ≡ 2 * k * position_room + past = omega arith in
+      ap (λ (m : ℕ). m / position_room) e ∙ high position_room (2 * k) past (omega (arith, past_few))
 
-  caused_low : (k : ℕ) → (k * 131072 + past) % 65536 ≡ past
+  caused_low : (k : ℕ) → (k * causes_unit + past) % position_room ≡ past
   caused_low k =
-      let e : k * 131072 + past ≡ 2 * k * 65536 + past = omega arith in
-      ap (λ (m : ℕ). m % 65536) e ∙ low 65536 (2 * k) past (omega (arith, past_few))
+      let e : k * causes_unit + past ≡ 2 * k * position_room + past = omega arith in
+      ap (λ (m : ℕ). m % position_room) e ∙ low position_room (2 * k) past (omega (arith, past_few))
 
-  answer_moved : (files : Bool) (x : ReadOutcome) → answer_by files page (read_here page at) x % 65536 ≡ past
+  answer_moved : (files : Bool) (x : ReadOutcome) → answer_by files page (read_here page at) x % position_room ≡ past
   answer_moved true (a_record p) = caused_low (causes_code (causes_by page at (a_record p)))
   answer_moved true the_end = read_moved the_end past past_few
   answer_moved true (a_refusal k n) = read_moved (a_refusal k n) past past_few
   answer_moved false x = read_moved x past past_few
 
-  pub answer_end : (files : Bool) (x : ReadOutcome) → Named (reply_of x) → answer_by files page (read_here page at) x / 65536 ≡ 1 → is_the_end x ≡ true
+  pub answer_end : (files : Bool) (x : ReadOutcome) → Named (reply_of x) → answer_by files page (read_here page at) x / position_room ≡ 1 → is_the_end x ≡ true
   answer_end true (a_record p) n e = let k = causes_code (causes_by page at (a_record p)) in absurd (omega (arith, sym (caused_high k) ∙ e))
   answer_end true the_end n e = refl
   answer_end true (a_refusal k l) n e = code_end past past_few (a_refusal k l) n e
   answer_end false x n e = code_end past past_few x n e
 
-  answer_on : (files : Bool) (x : ReadOutcome) → (answer_by files page (read_here page at) x / 65536 ≡ 1 → ⊥) → is_the_end x ≡ false
+  answer_on : (files : Bool) (x : ReadOutcome) → (answer_by files page (read_here page at) x / position_room ≡ 1 → ⊥) → is_the_end x ≡ false
   answer_on true (a_record p) e = refl
   answer_on true the_end e = code_on past past_few the_end e
   answer_on true (a_refusal k l) e = refl
@@ -139,18 +137,25 @@ module _ (files : Bool) (page : List ℕ) where
           stored = subst (λ (r : Run OpenPage ℕ). Partway answers 0 (walk_by files page buffer).answers answers 0 r.answers) (sym e) (begun answers 0 (walk_by files page buffer).answers);
         }
 
-    -- the code's step at a position, in a turn of the loop: the buffer is as it left it
-    pub record Turn (s : OpenPage) (numbers : List ℕ) (at count : ℕ) (r : Stepped) (now : List ℕ) : Type 0 where
+    -- while the page is not read to its last, there is a number lent for the next answer
+    pub there : length page < length answers → {s : OpenPage} {numbers : List ℕ} {at count : ℕ} → Partly s numbers at count → count < length answers
+    there room {s} {numbers} {at} v =
+        let w = v.stored in
+        let fits : 0 + length (walk_by files page buffer).answers ≤ length answers = omega (arith, run_length (step_by files page) (open_page buffer 0) (reads page), reads_most page, room) in
+        omega (arith, kept w fits, space w.done (left s at).answers w.puts (rw w.left fits), run_length (step_by files page) s (rest page at), rest_some page at)
+
+    -- the code's step at a position, in a turn of the loop: its answer, with the position and the buffer that it left
+    pub record Turn (s : OpenPage) (numbers : List ℕ) (at count answer position : ℕ) (now : List ℕ) : Type 0 where
       pub room : length page < length answers
       pub inv : Partly s numbers at count
-      pub step : told_step r now ≡ turn s at
+      pub step : told_step answer now position ≡ turn s at
 
     pub count_few : length (walk_by files page buffer).answers ≤ suc page_most
     count_few = omega (arith, run_length (step_by files page) (open_page buffer 0) (reads page), reads_few page)
 
 module _
-    {files : Bool} {page buffer answers : List ℕ} {s : OpenPage} {numbers : List ℕ} {at count : ℕ} {r : Stepped} {now : List ℕ}
-    (t : Turn files page buffer answers s numbers at count r now)
+    {files : Bool} {page buffer answers : List ℕ} {s : OpenPage} {numbers : List ℕ} {at count answer position : ℕ} {now : List ℕ}
+    (t : Turn files page buffer answers s numbers at count answer position now)
   where
     abbrev whole : List ℕ
     whole = (walk_by files page buffer).answers
@@ -158,56 +163,42 @@ module _
     fits : 0 + length whole ≤ length answers
     fits = omega (arith, run_length (step_by files page) (open_page buffer 0) (reads page), reads_most page, t.room)
 
-    -- what is stored so far is no more than a page has answers, and there is a number lent for the next
-    pub few : count ≤ suc page_most
-    few =
-        let w = t.inv.stored in
-        omega (arith, w.puts.ends, length-append w.done (left files page s at).answers, ap length w.left, count_few files page buffer answers)
-
-    pub there : count < length numbers
-    there =
-        let w = t.inv.stored in
-        omega (arith, space w.done (left files page s at).answers w.puts (rw w.left fits), run_length (step_by files page) s (rest page at), rest_some page at)
-
-    pub same_numbers : length numbers ≡ length answers
-    same_numbers = kept t.inv.stored fits
-
     -- the answer, and what it tells: the bytes moved past, and the end
     abbrev c : Step OpenPage ReadOutcome
     c = outcome_by files s (read_at page at).outcome
 
-    number : r.answer ≡ answer_by files page (read_here page at) c.answer
+    number : answer ≡ answer_by files page (read_here page at) c.answer
     number = ap (λ (x : Step OpenPage ℕ). x.answer) t.step
 
-    pub to_next : at + r.answer % 65536 ≡ (read_at page at).next
-    to_next = omega (arith, ap (λ (n : ℕ). n % 65536) number ∙ answer_moved page at files c.answer, onward_from page at)
+    pub to_next : at + answer % position_room ≡ (read_at page at).next
+    to_next = omega (arith, ap (λ (n : ℕ). n % position_room) number ∙ answer_moved page at files c.answer, onward_from page at)
 
     end_by : {b : Bool} → is_the_end c.answer ≡ b → is_the_end (read_at page at).outcome ≡ b
     end_by e = sym (ended_by files s (read_at page at).outcome) ∙ e
 
     -- the last read, which is the end or stays, and any other
-    pub at_end : r.answer / 65536 ≡ 1 → is_last (read_at page at) at ≡ true
-    at_end e = rw (end_by (answer_end page at files c.answer (named_by files s (read_at page at).outcome (page_line page at)) (ap (λ (n : ℕ). n / 65536) (sym number) ∙ e)))
+    pub at_end : answer / position_room ≡ 1 → is_last (read_at page at) at ≡ true
+    at_end e = rw (end_by (answer_end page at files c.answer (named_by files s (read_at page at).outcome (page_line page at)) (ap (λ (n : ℕ). n / position_room) (sym number) ∙ e)))
 
-    no_end : (r.answer / 65536 ≡ 1 → ⊥) → is_the_end (read_at page at).outcome ≡ false
-    no_end e = end_by (answer_on page at files c.answer (λ q. e (ap (λ (n : ℕ). n / 65536) number ∙ q)))
+    no_end : (answer / position_room ≡ 1 → ⊥) → is_the_end (read_at page at).outcome ≡ false
+    no_end e = end_by (answer_on page at files c.answer (λ q. e (ap (λ (n : ℕ). n / position_room) number ∙ q)))
 
-    pub at_stay : (r.answer / 65536 ≡ 1 → ⊥) → r.answer % 65536 ≡ 0 → is_last (read_at page at) at ≡ true
+    pub at_stay : (answer / position_room ≡ 1 → ⊥) → answer % position_room ≡ 0 → is_last (read_at page at) at ≡ true
     at_stay e f = rw (no_end e, eq-eqb (read_at page at).next at (omega (arith, to_next, f)))
 
-    pub goes_on : (r.answer / 65536 ≡ 1 → ⊥) → (r.answer % 65536 ≡ 0 → ⊥) → is_last (read_at page at) at ≡ false
+    pub goes_on : (answer / position_room ≡ 1 → ⊥) → (answer % position_room ≡ 0 → ⊥) → is_last (read_at page at) at ≡ false
     goes_on e f = rw (no_end e, ne_eqb (read_at page at).next at (λ g. f (omega (arith, to_next, g))))
 
-    pub next_within : is_last (read_at page at) at ≡ false → (at < at + r.answer % 65536) × (at + r.answer % 65536 ≤ length page)
+    pub next_within : is_last (read_at page at) at ≡ false → (at < at + answer % position_room) × (at + answer % position_room ≤ length page)
     next_within e = let d = read_moves page at e in (omega (arith, to_next, d.0), omega (arith, to_next, d.1))
 
     -- it is stored, whatever is left
-    stores : (later : List ℕ) → (left files page s at).answers ≡ (turn files page s at).answer ∷ later → Partway answers 0 whole (set numbers count r.answer) (count + 1) later
+    stores : (later : List ℕ) → (left files page s at).answers ≡ (turn files page s at).answer ∷ later → Partway answers 0 whole (set numbers count answer) (count + 1) later
     stores later e =
-        let w : Partway answers 0 whole numbers count (r.answer ∷ later) = subst (Partway answers 0 whole numbers count) (e ∙ ap (λ (x : Step OpenPage ℕ). x.answer ∷ later) (sym t.step)) t.inv.stored in
-        next (r.answer ∷ []) later w fits (puts_byte numbers count r.answer there)
+        let w : Partway answers 0 whole numbers count (answer ∷ later) = subst (Partway answers 0 whole numbers count) (e ∙ ap (λ (x : Step OpenPage ℕ). x.answer ∷ later) (sym t.step)) t.inv.stored in
+        next (answer ∷ []) later w fits (puts_byte numbers count answer (omega (arith, kept w fits, there files page buffer answers t.room t.inv)))
 
-    pub finishes : is_last (read_at page at) at ≡ true → Walks files page buffer answers (record { count = count + 1; position = r.position }) now (set numbers count r.answer)
+    pub finishes : is_last (read_at page at) at ≡ true → Walks files page buffer answers (count + 1) position now (set numbers count answer)
     finishes e =
         let l = left_last files page s at e in
         record {
@@ -215,16 +206,15 @@ module _
           puts = finished (stores [] (ap (λ (x : Run OpenPage ℕ). x.answers) l));
         }
 
-    pub continues : is_last (read_at page at) at ≡ false → Partly files page buffer answers (open_page now r.position) (set numbers count r.answer) (at + r.answer % 65536) (count + 1)
+    pub continues : is_last (read_at page at) at ≡ false → Partly files page buffer answers (open_page now position) (set numbers count answer) (at + answer % position_room) (count + 1)
     continues e =
-        let o : OpenPage = open_page now r.position in
-        let later : left files page (turn files page s at).state (read_at page at).next ≡ left files page o (at + r.answer % 65536) = sym (λ j. left files page (t.step j).state (to_next j)) in
+        let later : left files page (turn files page s at).state (read_at page at).next ≡ left files page (open_page now position) (at + answer % position_room) = sym (λ j. left files page (t.step j).state (to_next j)) in
         let l = left_next files page s at e in
-        let state : (left files page s at).state ≡ (left files page o (at + r.answer % 65536)).state = ap (λ (x : Run OpenPage ℕ). x.state) l ∙ ap (λ (x : Run OpenPage ℕ). x.state) later in
+        let state : (left files page s at).state ≡ (left files page (open_page now position) (at + answer % position_room)).state = ap (λ (x : Run OpenPage ℕ). x.state) l ∙ ap (λ (x : Run OpenPage ℕ). x.state) later in
         record {
           within = (next_within e).1;
           state = sym state ∙ t.inv.state;
-          stored = stores (left files page o (at + r.answer % 65536)).answers
+          stored = stores (left files page (open_page now position) (at + answer % position_room)).answers
               (ap (λ (x : Run OpenPage ℕ). x.answers) l ∙ ap (λ (x : Run OpenPage ℕ). (turn files page s at).answer ∷ x.answers) later);
         }
 
@@ -237,29 +227,29 @@ read_numbers page s (r ∷ rs) = ap (◌∷◌ (read_number r)) (read_numbers pa
 module _ (page answers : List ℕ) where
   -- 43
   module _ (short : length answers ≤ length page) where
-    pub answers_short : (record { code = 43 * 65536; answers = answers }) ≡ page_answers page answers
+    pub answers_short : (record { code = 43 * position_room; answers = answers }) ≡ page_answers page answers
     answers_short = rw (le-ltb (length page) (length answers) short)
 
-    pub file_short : (buffer : List ℕ) → (record { code = 43 * 65536; bytes = buffer; answers = answers }) ≡ page_file page buffer answers
+    pub file_short : (buffer : List ℕ) → (record { code = 43 * position_room; bytes = buffer; answers = answers }) ≡ page_file page buffer answers
     file_short buffer = rw (le-ltb (length page) (length answers) short)
 
-  module _ {files : Bool} {buffer bytes numbers : List ℕ} {r : Walked} (w : Walks files page buffer answers r bytes numbers) where
-    counted : r.count ≡ length (walk_by files page buffer).answers
+  module _ {files : Bool} {buffer bytes numbers : List ℕ} {count position : ℕ} (w : Walks files page buffer answers count position bytes numbers) where
+    counted : count ≡ length (walk_by files page buffer).answers
     counted = omega (arith, w.puts.ends)
 
-    pub walked_few : r.count ≤ suc page_most
+    pub walked_few : count ≤ suc page_most
     walked_few = omega (arith, counted, count_few files page buffer answers)
 
-  module _ (room : length page < length answers) {buffer bytes numbers : List ℕ} {r : Walked} where
-    pub lists : Walks false page buffer answers r bytes numbers → (record { code = r.count; answers = numbers }) ≡ page_answers page answers
+  module _ (room : length page < length answers) {buffer bytes numbers : List ℕ} {count position : ℕ} where
+    pub lists : Walks false page buffer answers count position bytes numbers → (record { code = count; answers = numbers }) ≡ page_answers page answers
     lists w =
-        let tells : (record { code = r.count; answers = numbers }) ≡ listing accepted (walk_by false page buffer).answers answers = λ j. record { code = counted w j; answers = w.puts.bytes j } in
+        let tells : (record { code = count; answers = numbers }) ≡ listing accepted (walk_by false page buffer).answers answers = λ j. record { code = counted w j; answers = w.puts.bytes j } in
         tells ∙ ap (λ (ns : List ℕ). listing accepted ns answers) (read_numbers page (open_page buffer 0) (reads page)) ∙ rw (lt-ltb (length page) (length answers) room)
 
-    pub files_all : Walks true page buffer answers r bytes numbers → {last : List ℕ} {code : ℕ} → (record { code = code; bytes = last }) ≡ page_close bytes r.position
-        → (record { code = r.count * 4294967296 + code; bytes = last; answers = numbers }) ≡ page_file page buffer answers
+    pub files_all : Walks true page buffer answers count position bytes numbers → {last : List ℕ} {code : ℕ} → (record { code = code; bytes = last }) ≡ page_close bytes position
+        → (record { code = count * pack_unit + code; bytes = last; answers = numbers }) ≡ page_file page buffer answers
     files_all w {last} {code} e =
         let d : (record { code = code; bytes = last }) ≡ page_close (walk_by true page buffer).state.buffer (walk_by true page buffer).state.position = e ∙ ap (λ (s : OpenPage). page_close s.buffer s.position) w.state in
-        let closes : (record { code = r.count * 4294967296 + code; bytes = last; answers = numbers }) ≡ filing accepted (file_numbers page buffer) buffer answers =
-        λ j. record { code = counted w j * 4294967296 + (d j).code; bytes = (d j).bytes; answers = w.puts.bytes j } in
+        let closes : (record { code = count * pack_unit + code; bytes = last; answers = numbers }) ≡ filing accepted (file_numbers page buffer) buffer answers =
+        λ j. record { code = counted w j * pack_unit + (d j).code; bytes = (d j).bytes; answers = w.puts.bytes j } in
         closes ∙ rw (lt-ltb (length page) (length answers) room)

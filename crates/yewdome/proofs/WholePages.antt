@@ -21,7 +21,7 @@ use Rattle.page_writer.proofs.Fold.{run_length}
 use Rattle.page_writer.proofs.Theorems.{closing_within, whole_page}
 use Rattle.record_bytes.specs.RecordBytes.{record_size}
 use Rattle.yewdome.specs.Filing.{file_step, open_page, records_of}
-use Rattle.yewdome.specs.Interface.{read_number, page_read, filed_code, number_step, file_numbers, Filing, filing, page_file}
+use Rattle.yewdome.specs.Interface.{pack_unit, read_number, page_read, filed_code, number_step, file_numbers, Filing, filing, page_file}
 use Rattle.yewdome.specs.Code.{Within}
 use Rattle.yewdome.proofs.Pages.{close_within}
 use Rattle.yewdome.proofs.Whole.{filed_closing}
@@ -60,33 +60,33 @@ module _ (page buffer answers : List ℕ) (room : length page < length answers) 
   c = closing no_index (records_of page) buffer
 
   pub filed_page : page_file page buffer answers
-      ≡ record { code = length (reads page) * 4294967296 + filed_code c.answer; bytes = c.buffer; answers = put answers 0 (file_numbers page buffer).answers }
+      ≡ record { code = length (reads page) * pack_unit + filed_code c.answer; bytes = c.buffer; answers = put answers 0 (file_numbers page buffer).answers }
   filed_page =
       let w = file_numbers page buffer in
       let n : length w.answers ≡ length (reads page) = run_length (number_step page) (open_page buffer 0) (reads page) in
       let d : close w.state.buffer w.state.position ≡ c = filed_closing page buffer w.state (same_state page (open_page buffer 0) (reads page)) in
-      let told : filing accepted w buffer answers ≡ record { code = length (reads page) * 4294967296 + filed_code c.answer; bytes = c.buffer; answers = put answers 0 w.answers } =
-      λ i. record { code = n i * 4294967296 + filed_code (d i).answer; bytes = (d i).buffer; answers = put answers 0 w.answers } in
+      let told : filing accepted w buffer answers ≡ record { code = length (reads page) * pack_unit + filed_code c.answer; bytes = c.buffer; answers = put answers 0 w.answers } =
+      λ i. record { code = n i * pack_unit + filed_code (d i).answer; bytes = (d i).buffer; answers = put answers 0 w.answers } in
       rw (lt-ltb (length page) (length answers) room) told
 
-  small : filed_code c.answer < 4294967296
+  small : filed_code c.answer < pack_unit
   small = go c.answer refl
     where
-      go : (f : Filed) → c.answer ≡ f → filed_code c.answer < 4294967296
+      go : (f : Filed) → c.answer ≡ f → filed_code c.answer < pack_unit
       go (position_after n) e =
           let w : Within c.answer = close_within (adds no_index (records_of page) buffer).state.buffer (adds no_index (records_of page) buffer).state.position in
           rw e (omega (arith, subst Within e w))
       go (refusal k n) e = rw ((whole_page no_index tt (records_of page) buffer).listed.unclosed e).0 (omega arith)
 
   -- how many answers there are, and what closing gave, are told by the number
-  pub filed_count : (page_file page buffer answers).code / 4294967296 ≡ length (reads page)
-  filed_count = ap (λ (f : Filing). f.code / 4294967296) filed_page ∙ high 4294967296 (length (reads page)) (filed_code c.answer) small
+  pub filed_count : (page_file page buffer answers).code / pack_unit ≡ length (reads page)
+  filed_count = ap (λ (f : Filing). f.code / pack_unit) filed_page ∙ high pack_unit (length (reads page)) (filed_code c.answer) small
 
-  pub filed_code_lem : (page_file page buffer answers).code % 4294967296 ≡ filed_code c.answer
-  filed_code_lem = ap (λ (f : Filing). f.code % 4294967296) filed_page ∙ low 4294967296 (length (reads page)) (filed_code c.answer) small
+  pub filed_code_lem : (page_file page buffer answers).code % pack_unit ≡ filed_code c.answer
+  filed_code_lem = ap (λ (f : Filing). f.code % pack_unit) filed_page ∙ low pack_unit (length (reads page)) (filed_code c.answer) small
 
   -- both lie within what was lent, where closing is not refused
-  pub filed_within : 2 ≤ length buffer → let f = page_file page buffer answers in (f.code / 4294967296 ≤ length f.answers) × (f.code % 4294967296 ≤ length f.bytes)
+  pub filed_within : 2 ≤ length buffer → let f = page_file page buffer answers in (f.code / pack_unit ≤ length f.answers) × (f.code % pack_unit ≤ length f.bytes)
   filed_within h =
       let w = file_numbers page buffer in
       let n = run_length (number_step page) (open_page buffer 0) (reads page) in

@@ -1,24 +1,33 @@
 -- The working forms of the private functions: what keeps a number within 32 bits, and the loop over a page.
-use Rattle.std.specs.Prelude.{ℕ, ◌+◌, ◌≤◌, ◌≡◌, Bool, true, false, List, eqb, length, get_or}
-use Rattle.errors.specs.Refusals.{Reply, accepted, refused}
+use Rattle.std.specs.Prelude.{ℕ, ◌+◌, ◌≤◌, ◌<◌, ◌≡◌, Bool, true, false, List, Option, Result, Ok, Err, leb, length, ok_or}
+use Rattle.errors.specs.declared.ParseError.{ParseError}
+use Rattle.errors.specs.Refusals.{Reply, accepted, refused, told_error}
 use Rattle.party.specs.declared.Party.{Party}
-use Rattle.party.specs.Limits.{option_at}
 use Rattle.party.specs.Party.{content}
 use Rattle.reader.specs.Options.{body_most}
 use Rattle.writer.specs.Writing.{written_field, field_most}
 use Rattle.writer.specs.Placing.{Measured, length_is, refused_with}
 use Rattle.writer.specs.Code.{Puts}
-use Rattle.page_reader.specs.Pages.{page_most, ReadOutcome, a_record, read_at}
+use Rattle.page_reader.specs.Pages.{page_most, ReadOutcome, a_record, read_at, Kind, a_record_given, the_end_given, a_refusal_given}
 use Rattle.page_reader.specs.Reads.{Read, reads}
 use Rattle.page_writer.specs.Adding.{with_lf, Filed, position_after, refusal}
 use Rattle.page_writer.specs.Fold.{Step, Run, run}
 use Rattle.page_writer.specs.WholePage.{OpenPage}
-use Rattle.record_bytes.specs.RecordBytes.{record_size}
-use Rattle.yewdome.specs.declared.Stepped.{Stepped}
-use Rattle.yewdome.specs.declared.Walked.{Walked}
+use Rattle.record_bytes.specs.RecordBytes.{record_size, decoded}
 use Rattle.yewdome.specs.Filing.{file_outcome, open_page}
-use Rattle.yewdome.specs.Interface.{answer_number, caused_number}
+use Rattle.yewdome.specs.Interface.{position_room, packed, code_of, answer_number, caused_number}
 
+-- ---- the tests of what is lent
+-- what passes them, or their refusal as a number
+abbrev pub allowed : {T : Type 0} → Reply → T → Result T ℕ
+allowed accepted x = Ok x
+allowed (refused k n) x = Err (code_of (refused k n))
+
+-- what is asked for by a place that names it or nothing, where a lent record has so many bytes
+abbrev pub checked : {T : Type 0} → ℕ → Option T → Result T ℕ
+checked len o = elim (leb record_size len) [ true ↦ ok_or o (code_of (refused 41 0)) | false ↦ Err (code_of (refused 42 0)) ]
+
+-- ---- numbers within 32 bits
 -- a refusal has a number from 1 on, and a line of at most 2,048
 abbrev pub Named : Reply → Type 0
 Named accepted = Unit {0}
@@ -34,7 +43,30 @@ abbrev pub Within : Filed → Type 0
 Within (position_after n) = n ≤ page_most
 Within (refusal k n) = Named (refused k n)
 
--- a read as the loop over a page takes it: its record is filed, or it is read alone
+-- a value is below 65,536
+abbrev pub Small : Result ℕ ParseError → Type 0
+Small (Ok n) = n < position_room
+Small (Err e) = Named (told_error e)
+
+-- the answer as a number
+abbrev pub answer_code : Result ℕ ParseError → ℕ
+answer_code (Ok n) = n
+answer_code (Err e) = code_of (told_error e)
+
+-- a read of a page: its refusal is named, and it moves past at most 32,768 bytes
+abbrev pub IsMove : Kind → ℕ → Type 0
+IsMove a_record_given moved = moved ≤ page_most
+IsMove the_end_given moved = moved ≤ page_most
+IsMove (a_refusal_given k n) moved = Named (refused k n) × (moved ≤ page_most)
+
+-- as a number
+abbrev pub move_code : Kind → ℕ → ℕ
+move_code a_record_given moved = moved
+move_code the_end_given moved = position_room + moved
+move_code (a_refusal_given k n) moved = packed (code_of (refused k n)) moved
+
+-- ---- the loop over a page
+-- a read as the loop takes it: its record is filed, or it is read alone
 abbrev pub outcome_by : Bool → OpenPage → ReadOutcome → Step OpenPage ReadOutcome
 outcome_by true s x = file_outcome s x
 outcome_by false s x = record { state = s; answer = x }
@@ -58,9 +90,7 @@ walk_by files page buffer = run (step_by files page) (open_page buffer 0) (reads
 pub record WasRead (page : List ℕ) (at : ℕ) (bytes : List ℕ) : Type 0 where
   pub party : Party
   pub read : (read_at page at).outcome ≡ a_record party
-  pub room : record_size ≤ length bytes
-  pub option : option_at (get_or bytes 0 0) ≡ party.option
-  pub present : eqb (get_or bytes 1 0) 1 ≡ party.present
+  pub loads : decoded bytes ≡ party
 
 -- and filed: the bytes that the read moved past, and those that were written
 pub record WasFiled (page : List ℕ) (at : ℕ) (bytes : List ℕ) (moved written : ℕ) : Type 0 where
@@ -68,11 +98,11 @@ pub record WasFiled (page : List ℕ) (at : ℕ) (bytes : List ℕ) (moved writt
   pub moves : (read_at page at).next ≡ at + moved
   pub writes : written ≡ length (with_lf (written_field (content was.party)))
 
--- a step of the code, with the buffer that it left
-abbrev pub told_step : Stepped → List ℕ → Step OpenPage ℕ
-told_step r buffer = record { state = open_page buffer r.position; answer = r.answer }
+-- a step of the code: its answer, with the buffer and the position that it left
+abbrev pub told_step : ℕ → List ℕ → ℕ → Step OpenPage ℕ
+told_step answer buffer position = record { state = open_page buffer position; answer = answer }
 
 -- the loop leaves the open page of the definition, and its answers at the start of the lent numbers
-pub record Walks (files : Bool) (page buffer answers : List ℕ) (r : Walked) (bytes numbers : List ℕ) : Type 0 where
-  pub state : open_page bytes r.position ≡ (walk_by files page buffer).state
-  pub puts : Puts answers 0 (walk_by files page buffer).answers numbers r.count
+pub record Walks (files : Bool) (page buffer answers : List ℕ) (count position : ℕ) (bytes numbers : List ℕ) : Type 0 where
+  pub state : open_page bytes position ≡ (walk_by files page buffer).state
+  pub puts : Puts answers 0 (walk_by files page buffer).answers numbers count

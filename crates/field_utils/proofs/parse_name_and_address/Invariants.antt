@@ -8,15 +8,12 @@ use Rattle.field_utils.proofs.NameTexts.{Passed}
 use Rattle.field_utils.proofs.NamePlaces.{Marked}
 use Rattle.field_utils.proofs.parse_name_and_address.Given as goal
 
-abbrev pub invariant-loop-i : goal.invariant-loop-i
-invariant-loop-i l = all legal l.input ≡ all legal (part l.i (length l.input) l.input)
-
-abbrev pub decreases-loop-i : goal.decreases-loop-i
-decreases-loop-i l = length l.input - l.i
+abbrev pub invariant-loop-b : goal.invariant-loop-b
+invariant-loop-b l = all legal l.input ≡ all legal (part l.b-index (length l.b-items) l.b-items)
 
 abbrev pub invariant-lines : goal.invariant-lines
 invariant-lines l =
-    (l.count ≤ l.cursor.at) × Passed l.body l.numbering l.limits.name_max l.start_idx l.kept (lines (drop l.initial.cursor.at l.body)) l.count l.parts l.digits (lines (drop l.cursor.at l.body))
+    (l.count ≤ l.cursor.at) × Passed l.body l.limits.numbering l.limits.name_max l.start_idx l.kept (lines (drop l.initial.cursor.at l.body)) l.count l.parts l.digits (lines (drop l.cursor.at l.body))
     × Marked l.body l.kept l.initial.cursor.at l.count l.cursor.at l.parts × (l.initial.cursor.at ≤ l.cursor.at)
 
 abbrev pub decreases-lines : goal.decreases-lines

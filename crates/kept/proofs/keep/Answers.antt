@@ -1,18 +1,13 @@
 -- `kept::keep` meets its contract: a refusal has no causes. Assumes nothing.
-use mathlib.Core.Path.{sym, ◌∙◌, ap}
-use Rattle.errors.specs.Refusals.{told}
-use Rattle.reader.specs.Reading.{told_answer}
-use Rattle.kept.proofs.Laws.{kept_refused, kept_accepted}
+use Rattle.std.proofs.lemmas.Result.{err_from_is_err_and}
+use Rattle.kept.specs.Kept.{kept_of}
 use Rattle.kept.proofs.keep.Goals as goal
 
-pub returns-in-Refused : goal.returns-in-Refused
-returns-in-Refused c =
-    let a = c.args in
-    let e = ap told c.in-Refused.is in
-    (λ i. record { reply = e i; causes = c.no_causes.ensures i }) ∙ sym (kept_refused (told_answer a.answer) a.text.now a.body.now e)
+pub returns-in_err-party : goal.returns-in_err-party
+unfolding kept_of
+returns-in_err-party c =
+    let p = err_from_is_err_and c.from_residual.result c.from_residual.ensures.1 in rw (p.1, p.2, c.in_err-party.was)
 
 pub returns : goal.returns
-returns c =
-    let a = c.args in
-    let e = ap told c.in_default.is in
-    (λ i. record { reply = e i; causes = c.causes_of.ensures i }) ∙ sym (kept_accepted (told_answer a.answer) a.text.now a.body.now e)
+unfolding kept_of
+returns c = rw (c.in_ok-party.was, c.causes_of.ensures)

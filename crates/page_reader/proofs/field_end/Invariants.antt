@@ -6,8 +6,8 @@ use lib.ListN.{length, drop}
 use Rattle.page_reader.specs.Pages.{runs}
 use Rattle.page_reader.proofs.field_end.Given as goal
 
-abbrev pub invariant-loop-at : goal.invariant-loop-at
-invariant-loop-at l = (l.at + runs (drop l.at l.page) ≡ l.i + runs (drop l.i l.page)) × (l.i ≤ length l.page)
+abbrev pub invariant-loop-i : goal.invariant-loop-i
+invariant-loop-i l = (l.at + runs (drop l.at l.page) ≡ l.i + runs (drop l.i l.page)) × (l.i ≤ length l.page)
 
-abbrev pub decreases-loop-at : goal.decreases-loop-at
-decreases-loop-at l = length l.page - l.i
+abbrev pub decreases-loop-i : goal.decreases-loop-i
+decreases-loop-i l = length l.page - l.i

@@ -2,7 +2,7 @@
 use mathlib.Core.Path.{◌≡◌, refl, sym, ◌∙◌}
 use mathlib.Core.Bool.{Bool, not, ◌&&◌, ◌||◌}
 use mathlib.Core.List.{List}
-use Prim.Native.Nat.{ℕ, ◌+◌, ◌≤◌, ◌<◌}
+use Prim.Native.Nat.{ℕ, ◌+◌, ◌<◌}
 use native.Mathlib.Omega.{arith}
 use lib.ListN.{length, drop, length-drop}
 use Rattle.swift_utils.proofs.Parts.{part}
@@ -13,7 +13,7 @@ use Rattle.page_reader.specs.Pages.{line_at, opens, ends_at}
 use Rattle.page_writer.specs.Adding.{lines_carried}
 use Rattle.page_writer.proofs.Carried.{carried_last, carried_lf, carried_cr, empty_is}
 use Rattle.page_writer.proofs.are_carried.Goals as goal
-use Rattle.page_writer.proofs.are_carried.Goals.{After-ends_cr, After-find_lf-lf}
+use Rattle.page_writer.proofs.are_carried.Goals.{After-find_lf-lf, then-opens_at-via-then-opens_at, then-opens_at-via-else-opens_at+then-ends_at}
 
 module _ (f : After-find_lf-lf) where
   abbrev b : List ℕ
@@ -34,45 +34,31 @@ module _ (f : After-find_lf-lf) where
       → lines_carried (pieces (drop f.args.start b)) ≡ (not x && not (y || z) && lines_carried (pieces (drop (lf + 1) b)))
   by_lf h p q r = from_there (carried_lf b i lf f.find_lf-lf.ensures f.loop-start.invariant.1 h ∙ rw (p, q, r))
 
-  lf_most : lf ≤ length b
-  lf_most = omega (arith, f.find_lf-lf.ensures, f.loop-start.invariant.1, upto_length 10 (drop i b), length-drop i b)
-
--- whether the piece ends in CR
-cr_is : (e : After-ends_cr) {t : Bool} → e.ends_cr.result ≡ t → ends_cr (part (i (goal.at.After-ends_cr e).After-find_lf-lf) (lf (goal.at.After-ends_cr e).After-find_lf-lf) (b (goal.at.After-ends_cr e).After-find_lf-lf)) ≡ t
-cr_is e q = sym e.ends_cr.ensures ∙ q
-
-pub loop-start-init : goal.loop-start-init
-loop-start-init c = (refl, c.requires)
-
-pub ends_cr-requires : goal.ends_cr-requires
-ends_cr-requires c = lf_most c
+pub slice_bounds-ends_cr-end : goal.slice_bounds-ends_cr-end
+slice_bounds-ends_cr-end c = omega (arith, c.find_lf-lf.ensures, c.loop-start.invariant.1, upto_length 10 (drop (i c) (b c)), length-drop (i c) (b c))
 
 pub returns-then-ends_cr : goal.returns-then-ends_cr
 returns-then-ends_cr c =
-    let at = goal.at.returns-then-ends_cr c in
-    sym (from_there at.After-find_lf-lf (carried_cr (b at.After-find_lf-lf) (i at.After-find_lf-lf) (lf at.After-find_lf-lf) c.find_lf-lf.ensures c.loop-start.invariant.1 (cr_is at.After-ends_cr c.if-ends_cr.true)))
+    let f = (goal.at.returns-then-ends_cr c).After-find_lf-lf in
+    sym (from_there f (carried_cr (b f) (i f) (lf f) c.find_lf-lf.ensures c.loop-start.invariant.1 (sym c.ends_cr.ensures ∙ c.if-ends_cr.true)))
 
 pub returns-then-field-lf : goal.returns-then-field-lf
 returns-then-field-lf c =
-    let at = goal.at.returns-then-field-lf c in
-    sym (from_there at.After-find_lf-lf (carried_last (b at.After-find_lf-lf) (i at.After-find_lf-lf) (lf at.After-find_lf-lf) c.find_lf-lf.ensures c.loop-start.invariant.1 (omega arith) ∙ rw (cr_is at.After-ends_cr c.if-ends_cr.false) (empty_is (b at.After-find_lf-lf) (i at.After-find_lf-lf))))
+    let f = (goal.at.returns-then-field-lf c).After-find_lf-lf in
+    sym (from_there f (carried_last (b f) (i f) (lf f) c.find_lf-lf.ensures c.loop-start.invariant.1 (omega arith) ∙ rw (sym c.ends_cr.ensures ∙ c.if-ends_cr.false) (empty_is (b f) (i f))))
 
 pub returns-then-opens_at : goal.returns-then-opens_at
 returns-then-opens_at c =
-    let at = goal.at.returns-then-opens_at c in
-    sym (by_lf at.After-find_lf-lf (omega arith) (cr_is at.After-ends_cr c.if-ends_cr.false) (sym c.opens_at.ensures ∙ c.if-opens_at.true) refl)
-
-pub returns-then-ends_at : goal.returns-then-ends_at
-returns-then-ends_at c =
-    let at = goal.at.returns-then-ends_at c in
-    sym (by_lf at.After-find_lf-lf (omega arith) (cr_is at.After-ends_cr c.if-ends_cr.false) (sym c.opens_at.ensures ∙ c.if-opens_at.false) (sym c.ends_at.ensures ∙ c.if-ends_at.true))
-
-pub loop-start-smaller : goal.loop-start-smaller
-loop-start-smaller c = omega (arith, c.find_lf-lf.ensures, c.loop-start.invariant.1)
+    let f = (goal.at.returns-then-opens_at c).After-find_lf-lf in
+    let cr = sym c.ends_cr.ensures ∙ c.if-ends_cr.false in
+    elim c.then-opens_at.branch [
+      | then-opens_at-via-then-opens_at w ↦ sym (by_lf f (omega arith) cr (sym c.opens_at.ensures ∙ w.if-opens_at.true) refl)
+      | then-opens_at-via-else-opens_at+then-ends_at w ↦ sym (by_lf f (omega arith) cr (sym c.opens_at.ensures ∙ w.if-opens_at.false) (sym w.ends_at.ensures ∙ w.if-ends_at.true))
+    ]
 
 pub loop-start-preserved : goal.loop-start-preserved
 loop-start-preserved c =
-    let at = goal.at.loop-start-preserved c in (
-      by_lf at.After-find_lf-lf (omega arith) (cr_is at.After-ends_cr c.if-ends_cr.false) (sym c.opens_at.ensures ∙ c.if-opens_at.false) (sym c.ends_at.ensures ∙ c.if-ends_at.false),
+    let f = (goal.at.loop-start-preserved c).After-find_lf-lf in (
+      by_lf f (omega arith) (sym c.ends_cr.ensures ∙ c.if-ends_cr.false) (sym c.opens_at.ensures ∙ c.if-opens_at.false) (sym c.ends_at.ensures ∙ c.if-ends_at.false),
       omega arith,
     )

@@ -4,12 +4,8 @@ use Prim.Native.Nat.{ℕ, ◌+◌, ◌*◌, ◌-◌}
 use lib.ListN.{set}
 use mathlib.Core.Path.{◌∙◌, ap}
 use Rattle.party.specs.Limits.{place_of}
-use Rattle.party.proofs.Options.{place_most}
 use Rattle.page_writer.proofs.Noting.{stored}
 use Rattle.page_writer.proofs.note.Goals as goal
-
-pub overflow_cast-index : goal.overflow_cast-index
-overflow_cast-index c = omega (arith, c.index_of.ensures, place_most c.args.option)
 
 pub returns : goal.returns
 returns c =

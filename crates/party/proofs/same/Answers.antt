@@ -2,10 +2,11 @@
 use Rattle.std.proofs.Common.{◌∙◌, sym, ap}
 use borrow.Author.Tests.{not-true, not-false}
 use Rattle.party.specs.Decides.{Decides}
-use Rattle.party.specs.Limits.{limits_of, place_of}
+use Rattle.party.specs.Limits.{limits_of}
 use Rattle.party.specs.Party.{where_limit}
 use Rattle.party.proofs.Laws.{holds, fails, decides_as, equal_true, equal_false, where_none, where_same}
-use Rattle.party.proofs.Options.{place_one}
+use denote.Enum.Bare.{differs_true, differs_false}
+use Rattle.party.specs.contracts.PartyOption.{the_type}
 use Rattle.party.proofs.Content.{SameHead, SameAccount, SameBic, SameNames, SameDigits, head, account, bic, names, digits, same}
 use Rattle.party.proofs.same.Goals as goal
 use Rattle.party.proofs.same.Goals.{After-limits_of-limits, After-same_where, After-same_where-2, After-same_numbers}
@@ -13,9 +14,9 @@ use Rattle.party.proofs.same.Goals.{After-limits_of-limits, After-same_where, Af
 -- past the tests of option, presence and count
 headed : (c : After-limits_of-limits) → SameHead c.args.p c.args.q
 headed c = record {
-  option = place_one _ _ (sym c.index_of.ensures ∙ (c.if-index_of.false ∙ c.index_of-2.ensures));
-  present = equal_true _ _ (not-false _ c.if-present-other_present.false);
-  count = c.if-count-other_count.false;
+  option = differs_false the_type tt _ _ (sym c.ne.ensures ∙ c.if-ne.false);
+  present = equal_true _ _ (not-false _ c.if-p-q.false);
+  count = c.if-p-q-2.false;
 }
 
 -- the tests of account, BIC and digits
@@ -28,15 +29,14 @@ with_bic c = rw c.limits_of-limits.ensures at c.same_where-2.ensures
 with_digits : (c : After-same_numbers) → Decides c.same_numbers.result (SameDigits c.args.p c.args.q)
 with_digits c = rw c.limits_of-limits.ensures at c.same_numbers.ensures
 
-pub returns-then-index_of : goal.returns-then-index_of
-returns-then-index_of c =
-    fails (λ e. c.if-index_of.true (c.index_of.ensures ∙ (ap place_of (head e).option ∙ sym c.index_of-2.ensures)))
+pub returns-then-ne : goal.returns-then-ne
+returns-then-ne c = fails (λ e. differs_true the_type _ _ (sym c.ne.ensures ∙ c.if-ne.true) (head e).option)
 
-pub returns-then-present-other_present : goal.returns-then-present-other_present
-returns-then-present-other_present c = fails (λ e. equal_false _ _ (not-true _ c.if-present-other_present.true) (head e).present)
+pub returns-then-p-q : goal.returns-then-p-q
+returns-then-p-q c = fails (λ e. equal_false _ _ (not-true _ c.if-p-q.true) (head e).present)
 
-pub returns-then-count-other_count : goal.returns-then-count-other_count
-returns-then-count-other_count c = fails (λ e. c.if-count-other_count.true (head e).count)
+pub returns-then-p-q-2 : goal.returns-then-p-q-2
+returns-then-p-q-2 c = fails (λ e. c.if-p-q-2.true (head e).count)
 
 pub returns-then-not-same_where : goal.returns-then-not-same_where
 returns-then-not-same_where c =

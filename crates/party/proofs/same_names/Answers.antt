@@ -1,12 +1,10 @@
 -- What the tests of the texts say of the records' names.
-use Rattle.std.proofs.Common.{◌≡◌, ◌∙◌, ℕ, ◌<◌, List, [], map, take, min, length, get_or, sym, arith}
-use borrow.Author.Tests.{ltb-true, ltb-false}
+use Rattle.std.proofs.Common.{◌≡◌, ◌∙◌, ℕ, List, [], map, take, length, get_or, sym, arith}
 use lib.ListN.{length-map, get_or-map}
 use Rattle.party.specs.declared.Text.{Text}
 use Rattle.party.specs.declared.Party.{Party}
 use Rattle.party.specs.Text.{Used, used}
 use Rattle.party.specs.Party.{names_of, IsParty}
-use Rattle.party.proofs.Values.{is_party}
 use Rattle.party.proofs.Laws.{holds, map_take, agree_more, agree_not, agree_all, fails}
 use Rattle.party.proofs.same_names.Goals as goal
 
@@ -29,39 +27,32 @@ texts_size p h = length-map p.name_and_address used ∙ h.size
 
 pub returns-then-not-same_text : goal.returns-then-not-same_text
 returns-then-not-same_text c =
-    let p = c.args.p in
-    let q = c.args.q in
+    let p = c.args.p.now in
+    let q = c.args.q.now in
     let n = c.args.count in
     let i = c.loop-i.i in
     let differ = c.same_text.ensures.no c.if-not-same_text.true in
     fails
-    (λ e. agree_not (texts p) (texts q) n i (used none) (omega (arith, ltb-true))
+    (λ e. agree_not (texts p) (texts q) n i (used none) (omega arith)
     (λ f. differ (sym (text_at p i) ∙ (f ∙ text_at q i))) (sym (named n p) ∙ (e ∙ named n q)))
 
 pub loop-i-preserved : goal.loop-i-preserved
 loop-i-preserved c =
-    let p = c.args.p in
-    let q = c.args.q in
+    let p = c.args.p.now in
+    let q = c.args.q.now in
     let i = c.loop-i.i in
-    let inside : i < c.args.count = omega (arith, ltb-true) in
     let same = c.same_text.ensures.yes c.if-not-same_text.false in
-    let agree =
-    agree_more (texts p) (texts q) i (used none) (omega (arith, texts_size p (is_party p _ c.well_formed.0))) (omega (arith, texts_size q (is_party q _ c.well_formed.1.0))) c.loop-i.invariant.2
-    (text_at p i ∙ (same ∙ sym (text_at q i))) in
-    (omega arith, omega arith, agree)
+    let h : length p.name_and_address ≡ 4 = omega arith in
+    let k : length q.name_and_address ≡ 4 = omega arith in
+    agree_more (texts p) (texts q) i (used none) (omega (arith, length-map p.name_and_address used)) (omega (arith, length-map q.name_and_address used)) c.loop-i.invariant
+    (text_at p i ∙ (same ∙ sym (text_at q i)))
 
--- where the loop is left, all names are passed
-ended :
-    (p q : Party) (n i : ℕ) → IsParty p → IsParty q → take i (texts p) ≡ take i (texts q) → i ≡ min n 4 →
-    names_of n p ≡ names_of n q
-ended p q n i hp hq agree h =
-    let sizes : length (texts p) ≡ length (texts q) = texts_size p hp ∙ sym (texts_size q hq) in
-    named n p ∙ (agree_all (texts p) (texts q) n i sizes (rw (texts_size p hp) h) agree ∙ sym (named n q))
-
-pub returns-else-i-count : goal.returns-else-i-count
-returns-else-i-count c =
-    holds (ended c.args.p c.args.q c.args.count c.loop-i.i (is_party _ _ c.well_formed.0) (is_party _ _ c.well_formed.1.0) c.loop-i.invariant.2 (omega (arith, ltb-false)))
-
-pub returns-after-loop-i : goal.returns-after-loop-i
-returns-after-loop-i c =
-    holds (ended c.args.p c.args.q c.args.count c.loop-i.i (is_party _ _ c.well_formed.0) (is_party _ _ c.well_formed.1.0) c.loop-i.invariant.2 (omega arith))
+pub returns : goal.returns
+returns c =
+    let p = c.args.p.now in
+    let q = c.args.q.now in
+    let n = c.args.count in
+    let h : length p.name_and_address ≡ 4 = omega arith in
+    let k : length q.name_and_address ≡ 4 = omega arith in
+    let sizes : length (texts p) ≡ length (texts q) = length-map p.name_and_address used ∙ (h ∙ sym (length-map q.name_and_address used ∙ k)) in
+    holds (named n p ∙ (agree_all (texts p) (texts q) n c.loop-i.i sizes (omega (arith, length-map p.name_and_address used)) c.loop-i.invariant ∙ sym (named n q)))

@@ -1,10 +1,7 @@
 -- The names passed hold the same.
-use Rattle.std.proofs.Common.{◌≡◌, ◌-◌, ◌≤◌, take, map}
+use Rattle.std.proofs.Common.{◌≡◌, take, map}
 use Rattle.party.specs.Text.{used}
 use Rattle.party.proofs.same_names.Given as goal
 
 abbrev pub invariant-loop-i : goal.invariant-loop-i
-invariant-loop-i l = (l.i ≤ 4) × (l.i ≤ l.count) × (take l.i (map used l.p.name_and_address) ≡ take l.i (map used l.q.name_and_address))
-
-abbrev pub decreases-loop-i : goal.decreases-loop-i
-decreases-loop-i l = 4 - l.i
+invariant-loop-i l = take l.i (map used l.p.name_and_address) ≡ take l.i (map used l.q.name_and_address)

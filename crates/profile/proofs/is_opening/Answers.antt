@@ -1,22 +1,8 @@
 -- `profile::is_opening` meets its contract: the first line, an empty one, or its first byte. Assumes nothing.
-use mathlib.Core.Path.{sym, ◌∙◌}
-use borrow.Author.Tests.{eq-eqb, ne_eqb}
-use Rattle.profile.proofs.Laws.{opening_none, opening_by}
+use native.Mathlib.Omega.{arith}
+use Rattle.std.proofs.lemmas.Grind.{common_steps}
+use Rattle.profile.proofs.Laws.{opening_by}
 use Rattle.profile.proofs.is_opening.Goals as goal
 
-pub returns-then-n-eq1 : goal.returns-then-n-eq1
-returns-then-n-eq1 c = rw c.if-n-eq1.true
-
-pub returns-then-line-eq0 : goal.returns-then-line-eq0
-returns-then-line-eq0 c =
-    let a = c.args in sym (opening_none a.n a.line.now c.if-line-eq0.true)
-
-pub returns-then-line-eq58 : goal.returns-then-line-eq58
-returns-then-line-eq58 c =
-    let a = c.args in
-    sym (opening_by a.n a.line.now c.if-n-eq1.false c.if-line-eq0.false ∙ rw (eq-eqb _ _ c.if-line-eq58.true))
-
-pub returns : goal.returns
-returns c =
-    let a = c.args in
-    sym (opening_by a.n a.line.now c.if-n-eq1.false c.if-line-eq0.false ∙ rw (ne_eqb _ _ c.if-line-eq58.false))
+pub returns-else-n-eq1 : goal.returns-else-n-eq1
+returns-else-n-eq1 c = grind (arith, common_steps, opening_by)

@@ -6,8 +6,8 @@ use Rattle.field_utils.specs.Lines.{lines}
 use Rattle.profile.specs.Profile.{lines_reply, profile_reply}
 use Rattle.profile.proofs.parse_lines.Given as goal
 
-abbrev pub invariant-loop-start : goal.invariant-loop-start
-invariant-loop-start l = (l.n ≤ suc l.cursor.at) × (l.cursor.at ≤ length l.body) × (profile_reply l.party l.body ≡ lines_reply l.party l.n l.after (lines (drop l.cursor.at l.body)))
+abbrev pub invariant-loop-found : goal.invariant-loop-found
+invariant-loop-found l = (l.n ≤ suc l.cursor.at) × (l.cursor.at ≤ length l.body) × (profile_reply l.party l.body ≡ lines_reply l.party l.n l.after (lines (drop l.cursor.at l.body)))
 
-abbrev pub decreases-loop-start : goal.decreases-loop-start
-decreases-loop-start l = length l.body - l.cursor.at
+abbrev pub decreases-loop-found : goal.decreases-loop-found
+decreases-loop-found l = length l.body - l.cursor.at

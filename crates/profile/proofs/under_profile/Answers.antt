@@ -1,22 +1,20 @@
 -- `profile::under_profile` meets its contract: a refusal stands, a line is at fault, or the answer is as it was. Assumes nothing.
-use mathlib.Core.Path.{sym, ◌∙◌, ap}
-use Rattle.errors.specs.Refusals.{told}
-use Rattle.reader.specs.Reading.{told_answer}
-use Rattle.profile.proofs.Laws.{profiled_refused, profiled_fault, profiled_pass}
+use mathlib.Core.Path.{refl, sym}
+use Rattle.std.proofs.lemmas.Result.{err_from_is_err_and}
+use Rattle.profile.specs.Profile.{profiled}
+use Rattle.profile.proofs.Laws.{profiled_fault, profiled_pass}
 use Rattle.profile.proofs.under_profile.Goals as goal
 
-pub returns-in-Refused : goal.returns-in-Refused
-returns-in-Refused c =
-    let a = c.args in
-    ap told_answer c.refuse.ensures ∙ sym (profiled_refused (told_answer a.answer) a.body.now (ap told c.in-Refused.is))
+pub returns-in_err-party : goal.returns-in_err-party
+unfolding profiled
+returns-in_err-party c =
+    let p = err_from_is_err_and c.from_residual.result c.from_residual.ensures.1 in rw (p.1, p.2, c.in_err-party.was)
 
-pub returns-in-Refused-outcome : goal.returns-in-Refused-outcome
-returns-in-Refused-outcome c =
-    let a = c.args in
-    ap told_answer c.refuse-in-Refused-outcome.ensures
-    ∙ sym (profiled_fault (told_answer a.answer) a.body.now (ap told c.in_default.is) (sym c.parse_lines-outcome.ensures ∙ ap told c.in-Refused-outcome.is))
+pub returns-in_err-parse_lines : goal.returns-in_err-parse_lines
+returns-in_err-parse_lines c =
+    let r = c.from_residual-in_err-parse_lines in
+    let p = err_from_is_err_and r.result r.ensures.1 in
+    rw (p.1, p.2, c.in_ok-party.was) (sym (profiled_fault _ c.args.body.now refl (sym c.in_err-parse_lines.ensures)))
 
 pub returns : goal.returns
-returns c =
-    let a = c.args in
-    sym (profiled_pass (told_answer a.answer) a.body.now (ap told c.in_default.is) (sym c.parse_lines-outcome.ensures ∙ ap told c.in_default-outcome.is))
+returns c = rw c.in_ok-party.was (sym (profiled_pass _ c.args.body.now refl (sym c.in_ok-parse_lines.ensures)))

@@ -4,33 +4,33 @@ use native.Mathlib.Omega.{arith}
 use mathlib.Core.Bool.{true}
 use mathlib.Core.List.{List, []}
 use Prim.Native.Nat.{ℕ}
+use Rattle.errors.specs.declared.ParseError.TheVariants.{LineCount}
 use lib.Seq.{take-length}
-use Rattle.errors.specs.Refusals.{told}
 use Rattle.reader.specs.Reading.{party_of}
 use Rattle.reader.specs.Options.{text_only}
 use Rattle.reader.proofs.LineCounts.{among_found, among_none}
-use Rattle.reader.specs.Code.{nameless}
+use Rattle.reader.specs.Code.{passed_head, nameless}
 use Rattle.reader.proofs.Readings.{refusing, accepting, text_lf, text_line}
+use Rattle.reader.proofs.Into.{exits}
 use Rattle.reader.proofs.read_text_only.Goals as goal
 
 pub returns-then-find_lf-body : goal.returns-then-find_lf-body
 returns-then-find_lf-body c =
     let a = c.args in
-    refusing a.option (text_only a.option a.body.now) a.body.now c.reject.result c.reject.ensures
+    refusing a.option (text_only a.option a.body.now) a.body.now LineCount
     (text_lf a.option a.body.now (among_found a.body.now (omega (arith, c.find_lf.ensures, c.if-find_lf-body.true))))
 
-pub returns-in-Refused : goal.returns-in-Refused
-returns-in-Refused c =
+pub returns-in_err-account : goal.returns-in_err-account
+returns-in_err-account c =
     let a = c.args in
-    refusing a.option (text_only a.option a.body.now) a.body.now c.reject-in-Refused.result c.reject-in-Refused.ensures
-    (text_line a.option a.body.now (among_none a.body.now (omega (arith, c.find_lf.ensures, c.if-find_lf-body.false)))
-    ∙ sym c.account-outcome.ensures ∙ ap told c.in-Refused.is)
+    rw (exits c.from_residual.ensures.1)
+    (refusing a.option (text_only a.option a.body.now) a.body.now c.in_err-account.field-0.0
+    (text_line a.option a.body.now (among_none a.body.now (omega (arith, c.find_lf.ensures, c.if-find_lf-body.false))) ∙ sym c.in_err-account.ensures))
 
 pub returns : goal.returns
 unfolding party_of
 returns c =
     let a = c.args in
-    accepting a.option (text_only a.option a.body.now) a.body.now c.accept.result _ c.accept.ensures
-    (text_line a.option a.body.now (among_none a.body.now (omega (arith, c.find_lf.ensures, c.if-find_lf-body.false)))
-    ∙ sym c.account-outcome.ensures ∙ ap told c.in_default.is)
-    (c.nameless_parts.ensures a.body.now ∙ ap (λ (l : List ℕ). party_of a.option (nameless true l [])) (take-length a.body.now))
+    accepting a.option (text_only a.option a.body.now) a.body.now _
+    (text_line a.option a.body.now (among_none a.body.now (omega (arith, c.find_lf.ensures, c.if-find_lf-body.false))) ∙ sym c.in_ok-account.ensures)
+    (c.nameless_parts.ensures a.body.now ∙ ap (λ (l : List ℕ). party_of a.option (nameless (passed_head true l) [])) (take-length a.body.now))

@@ -2,8 +2,7 @@
 -- of their places. Assumes nothing.
 use mathlib.Core.Path.{◌≡◌}
 use mathlib.Core.List.{List, [], ◌∷◌}
-use Prim.Native.Nat.{ℕ, ◌-◌, ◌≤◌}
-use lib.ListN.{length}
+use Prim.Native.Nat.{ℕ}
 use lib.Seq.{paste}
 use Rattle.party.specs.declared.Text.{Text}
 use Rattle.record_bytes.specs.RecordBytes.{text_at}
@@ -14,7 +13,4 @@ abbrev pub texts : List ℕ → List Text
 texts s = text_at 2 s ∷ text_at 3 s ∷ text_at 4 s ∷ text_at 5 s ∷ []
 
 abbrev pub invariant-loop-i : goal.invariant-loop-i
-invariant-loop-i l = (l.i ≤ 4) × (length l.names ≡ 4) × (l.names ≡ paste l.initial.names 0 (texts l.s) l.i)
-
-abbrev pub decreases-loop-i : goal.decreases-loop-i
-decreases-loop-i l = 4 - l.i
+invariant-loop-i l = l.names ≡ paste l.initial.names 0 (texts l.record) l.i

@@ -1,18 +1,12 @@
--- `record_bytes::option_of` meets its contract, by the test of the bytes.
--- Assumes nothing.
-use mathlib.Core.Path.{◌∙◌, sym, ap}
-use native.Mathlib.Omega.{arith}
+-- `record_bytes::option_of` meets its contract, by the test of the bytes. Assumes nothing.
+use mathlib.Core.Path.{sym, ◌∙◌, ap}
 use Rattle.party.specs.declared.Party.{Party}
 use Rattle.record_bytes.specs.RecordBytes.{party_from}
-use Rattle.record_bytes.proofs.Laws.{holds_size, loaded, loaded_not}
 use Rattle.record_bytes.proofs.option_of.Goals as goal
 
-pub returns-then-not-holds_record : goal.returns-then-not-holds_record
-returns-then-not-holds_record c = sym (ap (λ (p : Party). p.option) (loaded_not _ (sym c.holds_record.ensures ∙ c.if-not-holds_record.true)))
-
-pub bounds-s-0 : goal.bounds-s-0
-bounds-s-0 c = omega (arith, holds_size _ (sym c.holds_record.ensures ∙ c.if-not-holds_record.false))
-
-pub returns : goal.returns
+pub returns-in-Some : goal.returns-in-Some
 unfolding party_from
-returns c = c.option_at.ensures ∙ sym (ap (λ (p : Party). p.option) (loaded _ (sym c.holds_record.ensures ∙ c.if-not-holds_record.false)))
+returns-in-Some c = c.option_at.ensures ∙ sym (ap (λ (p : Party). p.option) c.in-Some.ensures)
+
+pub returns-in-None : goal.returns-in-None
+returns-in-None c = sym (ap (λ (p : Party). p.option) c.in-None.ensures)

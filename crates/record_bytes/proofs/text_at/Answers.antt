@@ -5,4 +5,4 @@ use Rattle.record_bytes.proofs.Laws.{text_here}
 use Rattle.record_bytes.proofs.text_at.Goals as goal
 
 pub returns : goal.returns
-returns c = text_here c.args.s.now c.args.n c.text_of-text.result (omega arith) c.text_of-text.ensures
+returns c = text_here c.args.record.now c.args.n c.text_of.result (omega arith) c.text_of.ensures

@@ -6,4 +6,4 @@ use Rattle.swift_utils.proofs.Table.{by_entries}
 use Rattle.swift_utils.proofs.all_alphanumeric.Goals as goal
 
 pub returns : goal.returns
-returns c = c.all_in.ensures ∙ by_entries 8 alphanumeric class_alphanumeric c.class_table-classes.result c.args.s.now c.class_table-classes.ensures
+returns c = c.all_in.ensures ∙ by_entries 8 alphanumeric class_alphanumeric c.class_table.result.now c.args.s.now c.class_table.ensures

@@ -8,4 +8,4 @@ use Rattle.swift_utils.proofs.Table.{classes_at}
 use Rattle.swift_utils.proofs.is_in.Goals as goal
 
 pub returns : goal.returns
-returns c = ap (λ (l : List ℕ). has_bits c.args.mask (get_or l c.args.b 0)) c.class_table-classes.ensures ∙ ap (has_bits c.args.mask) (classes_at c.args.b)
+returns c = ap (λ (l : List ℕ). has_bits c.args.mask (get_or l c.args.b 0)) c.class_table.ensures ∙ ap (has_bits c.args.mask) (classes_at c.args.b)

@@ -4,13 +4,12 @@ use mathlib.Core.Bool.{Bool, true}
 use mathlib.Core.List.{List}
 use Prim.Native.Nat.{ℕ, ◌≤◌}
 use native.Mathlib.Omega.{arith}
-use lib.ListN.{length, take, drop}
+use lib.ListN.{length, take}
 use lib.Seq.{length-take-le}
 use Rattle.errors.specs.Refusals.{must}
 use Rattle.swift_utils.specs.Bytes.{all, letter, alphanumeric}
-use Rattle.swift_utils.specs.Classes.{entry_in}
 use Rattle.swift_utils.specs.Checks.{bic_length, parse_bic}
-use Rattle.swift_utils.proofs.Classes.{class_letter, class_alphanumeric}
+use Rattle.swift_utils.proofs.Classes.{class_letter}
 use Rattle.swift_utils.proofs.Table.{by_entries}
 use Rattle.swift_utils.proofs.Checks.{bic_length_least, bic_length_other, bic_length_lem, bic_bank, bic_rest}
 use Rattle.swift_utils.proofs.Parts.{part, part_end}
@@ -35,22 +34,18 @@ module _ (c : Else-not-is_bic_length) where
 module _ (c : After-all_in) where
   bank : {t : Bool} → c.all_in.result ≡ t → all letter (take 6 (input (goal.at.After-all_in c).Else-not-is_bic_length)) ≡ t
   bank e =
-      sym (by_entries 16 letter class_letter c.class_table-classes.result (take 6 (input (goal.at.After-all_in c).Else-not-is_bic_length)) c.class_table-classes.ensures)
+      sym (by_entries 16 letter class_letter c.class_table.result.now (take 6 (input (goal.at.After-all_in c).Else-not-is_bic_length)) c.class_table.ensures)
       ∙ sym c.all_in.ensures
       ∙ e
 
 -- at the rest
 module _ (c : Else-not-all_in) where
-  abbrev entries : List ℕ → Bool
-  entries l = all (entry_in c.class_table-classes.result 8) l
-
-  rest : {n : ℕ} {t : Bool} → length (input (goal.at.Else-not-all_in c).Else-not-is_bic_length) ≡ n → t ≡ entries (part 6 n (input (goal.at.Else-not-all_in c).Else-not-is_bic_length))
+  rest : {n : ℕ} {t : Bool} → length (input (goal.at.Else-not-all_in c).Else-not-is_bic_length) ≡ n → t ≡ all alphanumeric (part 6 n (input (goal.at.Else-not-all_in c).Else-not-is_bic_length))
       → must t 10 (line (goal.at.Else-not-all_in c).Else-not-is_bic_length) ≡ parse_bic (line (goal.at.Else-not-all_in c).Else-not-is_bic_length) (input (goal.at.Else-not-all_in c).Else-not-is_bic_length)
   rest h e =
       sym
       (bic_rest (line (goal.at.Else-not-all_in c).Else-not-is_bic_length) (input (goal.at.Else-not-all_in c).Else-not-is_bic_length) (right (goal.at.Else-not-all_in c).Else-not-is_bic_length) (bank (goal.at.Else-not-all_in c).After-all_in c.if-not-all_in.false)
-      (sym (by_entries 8 alphanumeric class_alphanumeric c.class_table-classes.result (drop 6 (input (goal.at.Else-not-all_in c).Else-not-is_bic_length)) c.class_table-classes.ensures)
-      ∙ ap entries (sym (part_end (input (goal.at.Else-not-all_in c).Else-not-is_bic_length) 6) ∙ ap (λ (n : ℕ). part 6 n (input (goal.at.Else-not-all_in c).Else-not-is_bic_length)) h)
+      (ap (all alphanumeric) (sym (part_end (input (goal.at.Else-not-all_in c).Else-not-is_bic_length) 6) ∙ ap (λ (n : ℕ). part 6 n (input (goal.at.Else-not-all_in c).Else-not-is_bic_length)) h)
       ∙ sym e))
 
 -- without a branch code there are eight bytes, with one eleven
@@ -68,17 +63,17 @@ slice_bounds-bank_and_country-end c = sym (length-take-le 6 (input (goal.at.slic
 pub returns-then-not-all_in : goal.returns-then-not-all_in
 returns-then-not-all_in c = sym (bic_bank (line (goal.at.returns-then-not-all_in c).Else-not-is_bic_length) (input (goal.at.returns-then-not-all_in c).Else-not-is_bic_length) (right (goal.at.returns-then-not-all_in c).Else-not-is_bic_length) (bank (goal.at.returns-then-not-all_in c).After-all_in c.if-not-all_in.true))
 
-pub slice_bounds-all_in-end-else-input-eq-BIC_SHORT : goal.slice_bounds-all_in-end-else-input-eq-BIC_SHORT
-slice_bounds-all_in-end-else-input-eq-BIC_SHORT c = omega (arith, eleven c)
+pub slice_bounds-all_alphanumeric-end-else-input-eq-BIC_SHORT : goal.slice_bounds-all_alphanumeric-end-else-input-eq-BIC_SHORT
+slice_bounds-all_alphanumeric-end-else-input-eq-BIC_SHORT c = omega (arith, eleven c)
 
 either : (c : Joined-input-eq-BIC_SHORT) {t : Bool} → c.if-input-eq-BIC_SHORT.is_rest_good ≡ t → must t 10 c.args.line ≡ parse_bic c.args.line c.args.input.now
 either c e =
     let at = goal.at.Joined-input-eq-BIC_SHORT c in
     elim c.if-input-eq-BIC_SHORT.branch [
-      | then-input-eq-BIC_SHORT w ↦ rest at.Else-not-all_in w.if-input-eq-BIC_SHORT.true (sym e ∙ w.is_rest_good-is ∙ w.all_in-is_rest_good.ensures)
+      | then-input-eq-BIC_SHORT w ↦ rest at.Else-not-all_in w.if-input-eq-BIC_SHORT.true (sym e ∙ w.is_rest_good-is ∙ w.all_alphanumeric-is_rest_good.ensures)
       | else-input-eq-BIC_SHORT w ↦
           rest at.Else-not-all_in (bic_length_other _ (right at.Else-not-is_bic_length) w.if-input-eq-BIC_SHORT.false)
-          (sym e ∙ w.is_rest_good-is ∙ w.all_in-is_rest_good-else-input-eq-BIC_SHORT.ensures)
+          (sym e ∙ w.is_rest_good-is ∙ w.all_alphanumeric-is_rest_good-else-input-eq-BIC_SHORT.ensures)
     ]
 
 pub returns-then-is_rest_good : goal.returns-then-is_rest_good

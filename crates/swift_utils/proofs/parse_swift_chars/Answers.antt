@@ -15,7 +15,7 @@ tested : (c : After-all_in) {t : Bool} → c.all_in.result ≡ t
     → let a = c.args in must t 3 a.line ≡ parse_swift_chars a.line a.input.now
 tested c e =
     let a = c.args in
-    sym (chars a.line a.input.now (sym (by_entries 1 legal class_legal c.class_table-classes.result a.input.now c.class_table-classes.ensures) ∙ sym c.all_in.ensures ∙ e))
+    sym (chars a.line a.input.now (sym (by_entries 1 legal class_legal c.class_table.result.now a.input.now c.class_table.ensures) ∙ sym c.all_in.ensures ∙ e))
 
 pub returns-then-all_in : goal.returns-then-all_in
 returns-then-all_in c = tested (goal.at.returns-then-all_in c).After-all_in c.if-all_in.true

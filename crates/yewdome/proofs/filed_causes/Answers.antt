@@ -1,6 +1,5 @@
 -- `yewdome::filed_causes` meets its contract: lengths that agree show that there are none; else they are looked for. Assumes nothing.
-use Rattle.yewdome.proofs.Causes.{filed_none}
-use Rattle.yewdome.proofs.Causes.{filed_within}
+use Rattle.yewdome.proofs.Causes.{filed_none, filed_within}
 use native.Mathlib.Omega.{arith}
 use Rattle.yewdome.proofs.filed_causes.Goals as goal
 

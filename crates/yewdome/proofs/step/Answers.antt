@@ -1,55 +1,44 @@
 -- `yewdome::step` meets its contract, by what the read and the add give. Assumes nothing.
 use Prim.Native.Nat.{◌-◌, ◌≤◌}
-use lib.ListN.{length, replicate}
-use Rattle.record_bytes.specs.RecordBytes.{record_size}
-use native.Mathlib.Omega.{arith}
+use mathlib.Core.Path.{◌∙◌}
 use Rattle.yewdome.specs.Code.{WasFiled}
-use Rattle.yewdome.proofs.Steps.{Given, none_given, not_filed, filed_as_lem, was_filed, was_refused}
+use Rattle.yewdome.proofs.Steps.{read, none_given, not_filed, add_small, filed_as_lem, was_filed, was_refused}
 use Rattle.yewdome.proofs.step.Goals as goal
-use Rattle.yewdome.proofs.step.Goals.{After-record-then-added-lt-POSITION_ROOM-1, After-yewdome_page_read-answer}
-
--- the lent record keeps its length
-size : (k : After-yewdome_page_read-answer) → record_size ≤ length k.yewdome_page_read-answer.new.record
-size k = omega (arith, k.yewdome_page_read-answer.auto)
-
-read : (k : After-yewdome_page_read-answer) → let a = k.args in Given a.page.now a.at k.yewdome_page_read-answer.result k.yewdome_page_read-answer.new.record
-read k = record { bytes = replicate record_size 0; room = omega arith; call = k.yewdome_page_read-answer.ensures }
+use Rattle.yewdome.proofs.step.Goals.{then-answer-ge-READ_END-via-then-answer-ge-READ_END, then-answer-ge-READ_END-via-else-answer-ge-READ_END+then-not-files, In-Ok}
 
 -- a record that was filed
-module _ (c : After-record-then-added-lt-POSITION_ROOM-1) where
-  filed : let a = c.args in
-      (a.position ≤ c.yewdome_page_add-added.result) × WasFiled a.page.now a.at c.yewdome_page_read-answer.new.record c.yewdome_page_read-answer.result (c.yewdome_page_add-added.result - a.position)
-  filed =
-      let a = c.args in
-      filed_as_lem (read (goal.at.After-record-then-added-lt-POSITION_ROOM-1 c).After-yewdome_page_read-answer) a.files a.buf.now a.position c.if-files.true c.if-answer-ge-READ_END.false (size (goal.at.After-record-then-added-lt-POSITION_ROOM-1 c).After-yewdome_page_read-answer) c.yewdome_page_add-added.ensures c.if-added-lt-POSITION_ROOM.true
+filed : (c : In-Ok) → let a = c.args in
+    (a.position.now ≤ c.in-Ok.to) × WasFiled a.page.now a.at c.yewdome_page_read-answer.new.record c.yewdome_page_read-answer.result (c.in-Ok.to - a.position.now)
+filed c =
+    let a = c.args in
+    filed_as_lem (read a.page.now a.at c.yewdome_page_read-answer.ensures) a.files a.buf.now a.position.now c.if-not-files.false c.if-answer-ge-READ_END.false c.add_record.result c.add_record.ensures c.in-Ok.is
 
 pub returns-then-answer-ge-READ_END : goal.returns-then-answer-ge-READ_END
 returns-then-answer-ge-READ_END c =
     let a = c.args in
-    none_given (read (goal.at.returns-then-answer-ge-READ_END c).After-yewdome_page_read-answer) a.files a.buf.now a.position c.if-answer-ge-READ_END.true
+    let g = read a.page.now a.at c.yewdome_page_read-answer.ensures in
+    elim c.then-answer-ge-READ_END.branch [
+      | then-answer-ge-READ_END-via-then-answer-ge-READ_END w ↦ none_given g a.files a.buf.now a.position.now w.if-answer-ge-READ_END.true
+      | then-answer-ge-READ_END-via-else-answer-ge-READ_END+then-not-files w ↦ not_filed g a.files a.buf.now a.position.now w.if-not-files.true
+    ]
 
 pub overflow_sub-to : goal.overflow_sub-to
-overflow_sub-to c = (filed c).0
+overflow_sub-to c = (filed (goal.at.overflow_sub-to c).In-Ok).0
 
 pub filed_causes-causes-requires : goal.filed_causes-causes-requires
-filed_causes-causes-requires c = (filed c).1
+filed_causes-causes-requires c = (filed (goal.at.filed_causes-causes-requires c).In-Ok).1
 
-pub returns-then-added-lt-POSITION_ROOM : goal.returns-then-added-lt-POSITION_ROOM
-returns-then-added-lt-POSITION_ROOM c =
-    let at = goal.at.returns-then-added-lt-POSITION_ROOM c in
+pub code-requires : goal.code-requires
+code-requires c =
     let a = c.args in
-    was_filed (read at.After-yewdome_page_read-answer) a.files a.buf.now a.position c.if-files.true c.if-answer-ge-READ_END.false (size at.After-yewdome_page_read-answer) c.yewdome_page_add-added.ensures c.if-added-lt-POSITION_ROOM.true c.filed_causes-causes.ensures
+    rw c.in-Err.is at (add_small (read a.page.now a.at c.yewdome_page_read-answer.ensures) a.files a.buf.now a.position.now c.if-not-files.false c.if-answer-ge-READ_END.false c.add_record.result c.add_record.ensures)
 
-pub pack-requires : goal.pack-requires
-pack-requires c = (omega (arith, c.yewdome_page_add-added.type_inv), omega (arith, c.if-answer-ge-READ_END.false))
-
-pub returns-then-files : goal.returns-then-files
-returns-then-files c =
-    let at = goal.at.returns-then-files c in
+pub returns-in-Ok : goal.returns-in-Ok
+returns-in-Ok c =
     let a = c.args in
-    rw c.pack.ensures (was_refused (read at.After-yewdome_page_read-answer) a.files a.buf.now a.position c.if-files.true c.if-answer-ge-READ_END.false (size at.After-yewdome_page_read-answer) c.yewdome_page_add-added.ensures c.if-added-lt-POSITION_ROOM.false)
+    was_filed (read a.page.now a.at c.yewdome_page_read-answer.ensures) a.files a.buf.now a.position.now c.if-not-files.false c.if-answer-ge-READ_END.false c.add_record.result c.add_record.ensures c.in-Ok.is (c.from.ensures ∙ c.filed_causes-causes.ensures)
 
-pub returns : goal.returns
-returns c =
+pub returns-in-Err : goal.returns-in-Err
+returns-in-Err c =
     let a = c.args in
-    not_filed (read (goal.at.returns c).After-yewdome_page_read-answer) a.files a.buf.now a.position c.if-files.false
+    rw c.pack.ensures (was_refused (read a.page.now a.at c.yewdome_page_read-answer.ensures) a.files a.buf.now a.position.now c.if-not-files.false c.if-answer-ge-READ_END.false c.add_record.result c.add_record.ensures c.in-Err.is c.code.ensures)

@@ -2,21 +2,26 @@
 use mathlib.Core.Path.{◌∙◌, sym, ap, subst}
 use lib.Dec.{leb}
 use Rattle.party.specs.declared.PartyOption.{PartyOption}
+use Rattle.party.specs.Limits.{option_at}
 use Rattle.kept.specs.Kept.{Kept, kept_read}
-use Rattle.yewdome.specs.Interface.{kept_code}
+use Rattle.yewdome.specs.Interface.{code_or, causes_code}
 use Rattle.yewdome.specs.Code.{Named}
 use Rattle.yewdome.proofs.LineBounds.{read_line}
-use Rattle.yewdome.proofs.Causes.{kept_named}
+use Rattle.yewdome.proofs.Causes.{kept_named, kept_none_such, kept_some_such}
 use Rattle.yewdome.proofs.yewdome_kept_read.Goals as goal
 
 pub kept_code-requires : goal.kept_code-requires
 kept_code-requires c =
     let a = c.args in
-    let x = c.option_at.result in
-    subst (λ (k : Kept). Named k.reply) (sym c.read.ensures) (kept_named _ _ _ (read_line x a.body.now))
+    subst (λ (k : Kept). Named k.reply) (sym c.read.ensures) (kept_named _ _ _ (read_line c.in-Some.option a.body.now))
 
-pub returns : goal.returns
-returns c =
+pub returns-in-Some : goal.returns-in-Some
+returns-in-Some c =
     let a = c.args in
-    let by = ap (λ (x : PartyOption). kept_read x a.body.now) c.option_at.ensures in
-    c.kept_code.ensures ∙ ap (kept_code (leb a.option 10)) (c.read.ensures ∙ by)
+    kept_some_such (leb a.option 10) (option_at a.option) (λ (o : PartyOption). kept_read o a.body.now) c.known_option.ensures c.in-Some.is
+    (c.kept_code.ensures ∙ ap (λ (k : Kept). code_or k.reply (causes_code k.causes)) c.read.ensures)
+
+pub returns-in-None : goal.returns-in-None
+returns-in-None c =
+    let a = c.args in
+    kept_none_such (leb a.option 10) (option_at a.option) (λ (o : PartyOption). kept_read o a.body.now) c.known_option.ensures c.in-None.is

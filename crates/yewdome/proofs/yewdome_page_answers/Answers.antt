@@ -9,8 +9,8 @@ returns-then-answers-page c =
 
 pub overflow_cast-result : goal.overflow_cast-result
 overflow_cast-result c =
-    let a = c.args in omega (arith, walked_few a.page.now a.answers.now c.walk.ensures)
+    let a = c.args in omega (arith, walked_few a.page.now a.answers.now c.walk-count.ensures)
 
 pub returns : goal.returns
 returns c =
-    let a = c.args in lists a.page.now a.answers.now c.if-answers-page.false c.walk.ensures
+    let a = c.args in lists a.page.now a.answers.now c.if-answers-page.false c.walk-count.ensures

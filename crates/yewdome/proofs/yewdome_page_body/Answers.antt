@@ -14,8 +14,11 @@ most c =
     let a = c.args in
     subst (λ (p : BodyPlace). p.start + p.len ≤ page_most) (sym c.body_place-place.ensures) (body_most_lem a.page.now a.at)
 
-pub pack-requires : goal.pack-requires
-pack-requires c = (omega (arith, most c), omega (arith, most c))
+pub overflow_cast-place : goal.overflow_cast-place
+overflow_cast-place c = omega (arith, most (goal.at.overflow_cast-place c).After-body_place-place)
+
+pub overflow_cast-place-2 : goal.overflow_cast-place-2
+overflow_cast-place-2 c = omega (arith, most (goal.at.overflow_cast-place-2 c).After-body_place-place)
 
 pub returns : goal.returns
 returns c = c.pack.ensures ∙ ap (λ (p : BodyPlace). packed p.start p.len) c.body_place-place.ensures

@@ -1,35 +1,22 @@
 -- `yewdome::yewdome_party_parse` meets its contract: what the choice stored is given. Assumes nothing.
-use mathlib.Core.Path.{◌≡◌, ◌∙◌, ap}
 use lib.Dec.{leb}
-use lib.ListN.{length}
-use Rattle.reader.specs.Reading.{Reading, told_into, read_into}
 use Rattle.reader.specs.declared.choices.Choice.{Choice}
 use Rattle.reader.specs.Choices.{parse}
-use Rattle.yewdome.specs.Interface.{arguments_reply, stored_call, choice_at}
-use Rattle.yewdome.proofs.Answers.{refuses, passes, reads, reads_named, parse_line_lem}
+use Rattle.yewdome.specs.Interface.{choice_at}
+use Rattle.yewdome.proofs.Answers.{not_read, read_small, was_read, parse_line_lem}
 use Rattle.yewdome.proofs.yewdome_party_parse.Goals as goal
-use Rattle.yewdome.proofs.yewdome_party_parse.Goals.{After-parse_into, Start}
 
--- what the choice reads
-abbrev reading : Start → Reading
-reading s = parse (choice_at s.args.choice) s.args.body.now
-
-module _ (d : After-parse_into) where
-  stored : told_into d.parse_into.result d.parse_into.new.record ≡ read_into (reading (goal.at.After-parse_into d).Start) d.args.«record».now
-  stored = d.parse_into.ensures ∙ ap (λ (choice : Choice). read_into (parse choice d.args.body.now) d.args.«record».now) d.choice_at.ensures
-
-pub returns-then-refusal-ne0 : goal.returns-then-refusal-ne0
-returns-then-refusal-ne0 c =
-    let r = reading (goal.at.returns-then-refusal-ne0 c).Start in
-    refuses (arguments_reply (length c.args.«record».now) (leb c.args.choice 6)) c.check_arguments-refusal.ensures c.if-refusal-ne0.true (stored_call r.reply r.party c.args.«record».now) c.args.«record».now
-
-pub outcome_code-requires : goal.outcome_code-requires
-outcome_code-requires c =
-    let at = goal.at.outcome_code-requires c in
-    reads_named (reading at.Start) c.args.«record».now c.parse_into.result (stored at.After-parse_into) (parse_line_lem (choice_at c.args.choice) c.args.body.now)
-
-pub returns : goal.returns
-returns c =
-    let at = goal.at.returns c in
+pub answered-requires : goal.answered-requires
+answered-requires c =
     let a = c.args in
-    reads (leb a.choice 6) (reading at.Start) a.«record».now c.parse_into.result (passes (length a.«record».now) (leb a.choice 6) c.check_arguments-refusal.ensures c.if-refusal-ne0.false) (stored at.After-parse_into) c.outcome_code.ensures
+    read_small (leb a.choice 6) (choice_at a.choice) (λ (x : Choice). parse x a.body.now) a.«record».now c.known_choice.ensures c.check.ensures c.in-Ok.is c.parse_into.result c.parse_into.new.«record» c.parse_into.ensures c.and.ensures (parse_line_lem c.in-Ok.choice a.body.now)
+
+pub returns-in-Ok : goal.returns-in-Ok
+returns-in-Ok c =
+    let a = c.args in
+    was_read (leb a.choice 6) (choice_at a.choice) (λ (x : Choice). parse x a.body.now) a.«record».now c.known_choice.ensures c.check.ensures c.in-Ok.is c.parse_into.result c.parse_into.new.«record» c.parse_into.ensures c.and.ensures c.answered.ensures
+
+pub returns-in-Err : goal.returns-in-Err
+returns-in-Err c =
+    let a = c.args in
+    not_read (leb a.choice 6) (choice_at a.choice) (λ (x : Choice). parse x a.body.now) a.«record».now c.known_choice.ensures c.check.ensures c.in-Err.is

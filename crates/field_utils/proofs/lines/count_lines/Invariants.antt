@@ -3,8 +3,8 @@ use Rattle.std.proofs.Common.{◌≡◌, ◌+◌, ◌-◌, ◌≤◌, length, dr
 use Rattle.field_utils.specs.Lines.{lines}
 use Rattle.field_utils.proofs.lines.count_lines.Given as goal
 
-abbrev pub invariant-loop-rest : goal.invariant-loop-rest
-invariant-loop-rest l = (l.count ≤ l.cursor.at) × (l.cursor.at ≤ length l.s) × (length (lines l.s) ≡ l.count + length (lines (drop l.cursor.at l.s)))
+abbrev pub invariant-loop-line : goal.invariant-loop-line
+invariant-loop-line l = (l.count ≤ l.cursor.at) × (l.cursor.at ≤ length l.s) × (length (lines l.s) ≡ l.count + length (lines (drop l.cursor.at l.s)))
 
-abbrev pub decreases-loop-rest : goal.decreases-loop-rest
-decreases-loop-rest l = length l.s - l.cursor.at
+abbrev pub decreases-loop-line : goal.decreases-loop-line
+decreases-loop-line l = length l.s - l.cursor.at

@@ -3,8 +3,8 @@ use mathlib.Core.Path.{sym, ◌∙◌}
 use Rattle.reader.proofs.LineTests.{bic_other, bic_letters}
 use Rattle.reader.proofs.choices.is_bic_like.Goals as goal
 
-pub returns-then-not-is_bic_length : goal.returns-then-not-is_bic_length
-returns-then-not-is_bic_length c = sym (bic_other c.args.text.now (sym c.is_bic_length.ensures ∙ c.if-not-is_bic_length.true))
+pub returns-then-is_bic_length : goal.returns-then-is_bic_length
+returns-then-is_bic_length c = c.all_alphanumeric.ensures ∙ sym (bic_letters c.args.text.now (sym c.is_bic_length.ensures ∙ c.if-is_bic_length.true))
 
-pub returns : goal.returns
-returns c = c.all_alphanumeric.ensures ∙ sym (bic_letters c.args.text.now (sym c.is_bic_length.ensures ∙ c.if-not-is_bic_length.false))
+pub returns-else-is_bic_length : goal.returns-else-is_bic_length
+returns-else-is_bic_length c = c.if-is_bic_length.false ∙ sym (bic_other c.args.text.now (sym c.is_bic_length.ensures ∙ c.if-is_bic_length.false))

@@ -1,21 +1,15 @@
 -- `choices::numbered_from` meets its contract: where the lines passed have no number, one has where one of those left has. Assumes nothing.
-use mathlib.Core.Path.{refl, sym, ◌∙◌}
+use mathlib.Core.Path.{sym, ◌∙◌}
 use native.Mathlib.Omega.{arith}
 use Rattle.field_utils.proofs.Places.{Found, found}
 use Rattle.reader.proofs.Walks.{found_numbered, none_numbered}
 use Rattle.reader.proofs.choices.numbered_from.Goals as goal
-use Rattle.reader.proofs.choices.numbered_from.Goals.{In-Next}
+use Rattle.reader.proofs.choices.numbered_from.Goals.{In-Some}
 
 -- what the line that was found says
-fits : (c : In-Next) → Found c.args.text.now c.loop-start.cursor.at c.in-Next.start c.in-Next.end c.in-Next.rest.at
-fits c =
-    found c.args.text.now c.loop-start.cursor.at c.next-found.ensures c.in-Next.is
-
-pub loop-start-init : goal.loop-start-init
-loop-start-init c = refl
-
-pub returns-in_default : goal.returns-in_default
-returns-in_default c = none_numbered (found c.args.text.now c.loop-start.cursor.at c.next-found.ensures c.in_default.is).0 ∙ c.loop-start.invariant
+fits : (c : In-Some) → let l = c.in-Some.field-0 in
+    Found c.args.text.now c.loop-start.cursor.at l.start l.end l.rest.at
+fits c = found c.args.text.now c.loop-start.cursor.at c.next.ensures c.in-Some.is
 
 pub slice_bounds-is_numbered_line-count : goal.slice_bounds-is_numbered_line-count
 slice_bounds-is_numbered_line-count c = omega (arith, (fits c).forward)
@@ -27,12 +21,15 @@ pub slice_bounds-is_numbered_line-end : goal.slice_bounds-is_numbered_line-end
 slice_bounds-is_numbered_line-end c = omega (arith, (fits c).before, (fits c).within)
 
 pub returns-then-is_numbered_line : goal.returns-then-is_numbered_line
-returns-then-is_numbered_line c = found_numbered (fits (goal.at.returns-then-is_numbered_line c).In-Next) (sym c.is_numbered_line.ensures ∙ c.if-is_numbered_line.true) ∙ c.loop-start.invariant
+returns-then-is_numbered_line c = found_numbered (fits (goal.at.returns-then-is_numbered_line c).In-Some) (sym c.is_numbered_line.ensures ∙ c.if-is_numbered_line.true) ∙ c.loop-start.invariant
 
 pub loop-start-smaller : goal.loop-start-smaller
 loop-start-smaller c =
-    let at = goal.at.loop-start-smaller c in
-    omega (arith, (fits at.In-Next).moved, (fits at.In-Next).within)
+    let f = fits (goal.at.loop-start-smaller c).In-Some in
+    omega (arith, f.moved, f.within)
 
 pub loop-start-preserved : goal.loop-start-preserved
-loop-start-preserved c = found_numbered (fits (goal.at.loop-start-preserved c).In-Next) (sym c.is_numbered_line.ensures ∙ c.if-is_numbered_line.false) ∙ c.loop-start.invariant
+loop-start-preserved c = found_numbered (fits (goal.at.loop-start-preserved c).In-Some) (sym c.is_numbered_line.ensures ∙ c.if-is_numbered_line.false) ∙ c.loop-start.invariant
+
+pub returns : goal.returns
+returns c = none_numbered (found c.args.text.now c.loop-start.cursor.at c.next.ensures c.in_default.is).0 ∙ c.loop-start.invariant

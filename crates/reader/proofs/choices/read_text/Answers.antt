@@ -10,6 +10,7 @@ use Rattle.reader.specs.declared.choices.Choice.TheVariants.{Field50OrderingCust
 use Rattle.reader.specs.Choices.{tried_text, options_of, is_picked, read_text}
 use Rattle.reader.proofs.Trials.{by_choice}
 use Rattle.reader.proofs.choices.read_text.Goals as goal
+use Rattle.reader.proofs.choices.read_text.Goals.{Joined-has_letter, then-has_letter, else-has_letter}
 
 -- where both are the same
 either : (t : Bool) (body : List ℕ) → ◌≡◌ {A = List ℕ} (elim t [ true ↦ body | false ↦ body ]) body
@@ -30,20 +31,22 @@ picked : (letter : ℕ) {t u : Bool} → eqb letter 67 ≡ t → eqb letter 76 �
 unfolding is_picked
 picked letter {t} {u} e f = rw (e, f) (ap (λ (x : Bool). t || x) (or-false u))
 
-pub returns-then-has_letter : goal.returns-then-has_letter
-returns-then-has_letter c =
-    let a = c.args in
-    text_by a.choice a.body.now a.letter (picked a.letter (sym c.has_letter.ensures ∙ c.if-has_letter.true) refl)
+-- whether one of the two letters was seen
+seen : (c : Joined-has_letter) → c.if-has_letter.value ≡ is_picked c.args.letter (Field50C ∷ Field50L ∷ [])
+seen c =
+    let letter = c.args.letter in
+    elim c.if-has_letter.branch [
+      | then-has_letter w ↦ w.value-is ∙ w.if-has_letter.true ∙ sym (picked letter (sym c.has_letter.ensures ∙ w.if-has_letter.true) refl)
+      | else-has_letter w ↦ w.value-is ∙ w.has_letter-else-has_letter.ensures ∙ sym (picked letter (sym c.has_letter.ensures ∙ w.if-has_letter.false) refl)
+    ]
 
 pub returns-then-has_letter-2 : goal.returns-then-has_letter-2
 returns-then-has_letter-2 c =
     let a = c.args in
-    text_by a.choice a.body.now a.letter
-    (picked a.letter (sym c.has_letter.ensures ∙ c.if-has_letter.false) (sym c.has_letter-2.ensures ∙ c.if-has_letter-2.true))
+    text_by a.choice a.body.now a.letter (sym (seen (goal.at.returns-then-has_letter-2 c).Joined-has_letter) ∙ c.if-has_letter-2.true)
 
-pub returns : goal.returns
-returns c =
+pub returns-else-has_letter-2 : goal.returns-else-has_letter-2
+returns-else-has_letter-2 c =
     let a = c.args in
     c.tried_text.ensures
-    ∙ text_by a.choice a.body.now a.letter
-    (picked a.letter (sym c.has_letter.ensures ∙ c.if-has_letter.false) (sym c.has_letter-2.ensures ∙ c.if-has_letter-2.false))
+    ∙ text_by a.choice a.body.now a.letter (sym (seen (goal.at.returns-else-has_letter-2 c).Joined-has_letter) ∙ c.if-has_letter-2.false)

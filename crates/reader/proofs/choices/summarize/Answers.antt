@@ -1,70 +1,81 @@
 -- `choices::summarize` meets its contract: no line, one, or more. Assumes nothing.
-use mathlib.Core.Path.{refl, ◌∙◌, ap}
-use mathlib.Core.List.{◌∷◌}
+use mathlib.Core.Path.{sym, ◌∙◌, ap}
+use mathlib.Core.List.{List, ◌∷◌}
+use Prim.Native.Nat.{ℕ}
 use native.Mathlib.Omega.{arith}
+use lib.ListN.{length, take, drop}
 use Rattle.swift_utils.proofs.Parts.{part}
 use Rattle.field_utils.specs.Identifier.{is_numbered}
 use Rattle.field_utils.proofs.Places.{Found, found}
 use Rattle.reader.specs.Detection.{first_line, last_line}
-use Rattle.reader.proofs.Walks.{walked_as}
 use Rattle.reader.proofs.choices.summarize.Goals as goal
-use Rattle.reader.proofs.choices.summarize.Goals.{In-Next, In-Next-found_second}
+use Rattle.reader.proofs.choices.summarize.Goals.{In-Some, In-Some-next}
 
 -- what the first line that was found says, and the second
-fits : (c : In-Next) → Found c.args.text.now 0 c.in-Next.start c.in-Next.end c.in-Next.rest.at
-fits c =
-    found c.args.text.now 0 c.next-found.ensures c.in-Next.is
+fits : (c : In-Some) → let l = c.in-Some.one in
+    Found c.args.text.now 0 l.start l.end l.rest.at
+fits c = found c.args.text.now 0 c.next.ensures c.in-Some.is
 
-fits_2 : (c : In-Next-found_second) → let v = c.in-Next-found_second in
-    Found c.args.text.now c.in-Next.rest.at v.next v.next_end v.later.at
-fits_2 c =
-    found c.args.text.now c.in-Next.rest.at c.next-found_second.ensures c.in-Next-found_second.is
+fits_2 : (c : In-Some-next) → let l = c.in-Some-next.second in
+    Found c.args.text.now c.in-Some.one.rest.at l.start l.end l.rest.at
+fits_2 c = found c.args.text.now c.in-Some.one.rest.at c.next-2.ensures c.in-Some-next.is
 
-pub returns-in_default : goal.returns-in_default
+pub invariant_of-result : goal.invariant_of-result
 unfolding first_line last_line is_numbered
-returns-in_default c =
-    let s = c.args.text.now in
-    let none = (found s 0 c.next-found.ensures c.in_default.is).0 in
-    walked_as none
-    (record { count = refl; first = refl; second = refl; one = refl; two = refl; last = refl; forward = omega arith; within = omega arith; rest = none })
+invariant_of-result c =
+    let none = (found c.args.text.now 0 c.next.ensures c.in_default.is).0 in
+    let known = sym none in
+    record {
+      counted = ap (λ (ls : List (List ℕ)). length (take 3 ls)) known;
+      first_length = ap (λ (ls : List (List ℕ)). length (first_line ls)) known;
+      second_length = ap (λ (ls : List (List ℕ)). length (first_line (drop 1 ls))) known;
+      one = ap (λ (ls : List (List ℕ)). is_numbered (first_line ls)) known;
+      two = ap (λ (ls : List (List ℕ)). is_numbered (first_line (drop 1 ls))) known;
+      last_is = ap (λ (ls : List (List ℕ)). last_line (take 2 ls)) known;
+      forward = omega arith;
+      within = omega arith;
+      later = none ∙ ap (λ (ls : List (List ℕ)). drop 2 ls) known;
+    }
 
 pub slice_bounds-first-count : goal.slice_bounds-first-count
-slice_bounds-first-count c = omega (arith, (fits c).forward)
+slice_bounds-first-count c = omega (arith, (fits (goal.at.slice_bounds-first-count c).In-Some).forward)
 
 pub slice_bounds-first-start : goal.slice_bounds-first-start
-slice_bounds-first-start c = omega (arith, (fits c).forward)
+slice_bounds-first-start c = omega (arith, (fits (goal.at.slice_bounds-first-start c).In-Some).forward)
 
 pub slice_bounds-first-end : goal.slice_bounds-first-end
-slice_bounds-first-end c = omega (arith, (fits c).before, (fits c).within)
+slice_bounds-first-end c =
+    let f = fits (goal.at.slice_bounds-first-end c).In-Some in
+    omega (arith, f.before, f.within)
 
-pub returns-in_default-found_second : goal.returns-in_default-found_second
+pub invariant_of-result-in_default-next : goal.invariant_of-result-in_default-next
 unfolding first_line last_line is_numbered
-returns-in_default-found_second c =
-    let at = goal.at.returns-in_default-found_second c in
-    let v = c.in-Next in
+invariant_of-result-in_default-next c =
+    let at = goal.at.invariant_of-result-in_default-next c in
+    let l = c.in-Some.one in
     let s = c.args.text.now in
-    let none = (found s v.rest.at c.next-found_second.ensures c.in_default-found_second.is).0 in
-    walked_as ((fits at.In-Next).line ∙ ap (◌∷◌ (part v.start v.end s)) none)
-    (record {
-      count = refl;
-      first = refl;
-      second = refl;
-      one = c.is_numbered_line.ensures;
-      two = refl;
-      last = refl;
-      forward = (fits at.In-Next).forward;
-      within = omega (arith, (fits at.In-Next).before, (fits at.In-Next).within);
-      rest = none;
-    })
+    let f = fits at.In-Some in
+    let none = (found s l.rest.at c.next-2.ensures c.in_default-next.is).0 in
+    let known = sym (f.line ∙ ap (◌∷◌ (part l.start l.end s)) none) in
+    record {
+      counted = ap (λ (ls : List (List ℕ)). length (take 3 ls)) known;
+      first_length = ap (λ (ls : List (List ℕ)). length (first_line ls)) known;
+      second_length = ap (λ (ls : List (List ℕ)). length (first_line (drop 1 ls))) known;
+      one = c.is_numbered_line.ensures ∙ ap (λ (ls : List (List ℕ)). is_numbered (first_line ls)) known;
+      two = ap (λ (ls : List (List ℕ)). is_numbered (first_line (drop 1 ls))) known;
+      last_is = ap (λ (ls : List (List ℕ)). last_line (take 2 ls)) known;
+      forward = f.forward;
+      within = omega (arith, f.before, f.within);
+      later = none ∙ ap (λ (ls : List (List ℕ)). drop 2 ls) known;
+    }
 
-pub summarize_two-requires : goal.summarize_two-requires
-summarize_two-requires c =
-    let f = fits_2 c in
+pub summarize_two-requires-clause-places : goal.summarize_two-requires-clause-places
+summarize_two-requires-clause-places c =
+    let f = fits_2 (goal.at.summarize_two-requires-clause-places c).In-Some-next in
     record { forward = f.forward; before = f.before; within = f.within }
 
-pub returns : goal.returns
-returns c =
-    let at = goal.at.returns c in
-    let v = c.in-Next in
-    let s = c.args.text.now in
-    walked_as ((fits at.In-Next).line ∙ ap (◌∷◌ (part v.start v.end s)) (fits_2 at.In-Next-found_second).line) c.summarize_two.ensures
+pub summarize_two-requires-clause-known : goal.summarize_two-requires-clause-known
+summarize_two-requires-clause-known c =
+    let at = goal.at.summarize_two-requires-clause-known c in
+    let l = c.in-Some.one in
+    (fits at.In-Some).line ∙ ap (◌∷◌ (part l.start l.end c.args.text.now)) (fits_2 at.In-Some-next).line

@@ -1,8 +1,0 @@
--- `reader::account` meets its contract. Assumes nothing.
-use mathlib.Core.Path.{◌∙◌}
-use Rattle.reader.proofs.Heads.{account_reply_lem}
-use Rattle.reader.proofs.account.Goals as goal
-
-pub returns : goal.returns
-returns c =
-    let a = c.args in c.parse_account.ensures ∙ account_reply_lem a.option c.limits_of-limits.ensures a.text.now
