@@ -1,15 +1,17 @@
 -- Laws of `upto` and of lines by their places. Assumes nothing.
-use Rattle.std.proofs.Common.{◌≡◌, ℕ, zero, suc, ◌+◌, ◌-◌, ◌<◌, ◌≤◌, Bool, true, false, ◌&&◌, eqb, ltb, List, [], ◌∷◌, length, get_or, take, drop, sym, refl, ap, ◌∙◌, subst, add-one, arith, length-drop, drop_of_length-le, length-take, drop-cons, take-take, drop-drop, ltb-false, ltb-true, le-ltb, lt-ltb, eq-eqb, ne_eqb, eqb-true, Option, None, Some, MatchOption}
+use Rattle.std.proofs.Common.{Bor, ◌≡◌, ℕ, zero, suc, ◌+◌, ◌-◌, ◌<◌, ◌≤◌, Bool, true, false, ◌&&◌, eqb, ltb, List, [], ◌∷◌, map, length, get_or, take, drop, sym, refl, ap, ◌∙◌, subst, add-one, arith, length-drop, drop_of_length-le, length-take, drop-cons, take-take, drop-drop, ltb-false, ltb-true, le-ltb, lt-ltb, eq-eqb, ne_eqb, eqb-true, Option, None, Some, MatchOption}
+use Rattle.std.specs.Iterator.{Yields, Drains}
 use Rattle.std.specs.List.{AllWithin, HoldsAt}
 use Rattle.std.specs.Option.{unwrap_or}
 use Rattle.std.proofs.lemmas.Iterator.{index_from_first}
 use mathlib.Core.Bool.{and-false}
-use native.Mathlib.Nat.{add-sub_cancel_left}
-use lib.Seq.{drop-length, take-length}
-use Rattle.swift_utils.proofs.Parts.{part, part_length, part_at, part_end}
-use Rattle.field_utils.specs.declared.lines.Line.{Line}
+use lib.Seq.{drop-length, take-length, take_all}
+use Rattle.swift_utils.proofs.Parts.{part, part_length, part_at}
+use Rattle.party.specs.declared.Part.{Part}
+use Rattle.party.specs.Text.{part_in}
+use Rattle.field_utils.specs.declared.lines.Lines.{Lines}
 use Rattle.field_utils.specs.Lines.{upto, onto, starts, lines, without_cr}
-use Rattle.field_utils.specs.Cursor.{line_of, next_line}
+use Rattle.field_utils.specs.Cursor.{NextLine, line_of, next_line, GivesLine}
 
 -- a list by its first b: how many bytes stand before it, or how many there are
 pub data Upto (b : ℕ) : List ℕ → ℕ → Type 0 where
@@ -136,27 +138,26 @@ module _ (s : List ℕ) (at : ℕ) where
   next_done h = rw (le-ltb _ _ h, next_line)
 
   module _ (h : at < length s) where
-    pub next_last : length s ≤ at + upto 10 (drop at s) → next_line s at ≡ Some (record { start = at; end = at + upto 10 (drop at s); rest = record { at = at + upto 10 (drop at s) } })
+    pub next_last : length s ≤ at + upto 10 (drop at s) → next_line s at ≡ Some (record { part = record { start = at; len = upto 10 (drop at s) }; rest = at + upto 10 (drop at s) })
     unfolding next_line line_of
     next_last k = rw (lt-ltb _ _ h, next_line) (rw (le-ltb _ _ k, line_of))
 
     pub next_lf :
         at + upto 10 (drop at s) < length s
-        → next_line s at ≡ Some (record { start = at; end = at + length (without_cr (take (upto 10 (drop at s)) (drop at s))); rest = record { at = at + upto 10 (drop at s) + 1 } })
+        → next_line s at ≡ Some (record { part = record { start = at; len = length (without_cr (take (upto 10 (drop at s)) (drop at s))) }; rest = at + upto 10 (drop at s) + 1 })
     unfolding next_line line_of
     next_lf k = rw (lt-ltb _ _ h, next_line) (rw (lt-ltb _ _ k, line_of))
 
--- what a found line says: the line is the part from start to end, and the lines from the place on are it and those from rest on
-pub record Found (s : List ℕ) (at start end rest : ℕ) : Type 0 where
-  pub line : lines (drop at s) ≡ part start end s ∷ lines (drop rest s)
-  pub onward : at ≤ start
-  pub forward : start ≤ end
-  pub before : end ≤ rest
+-- what a found line says: the line is that part, and the lines from the place on are it and those from rest on
+pub record Found (s : List ℕ) (at : ℕ) (p : Part) (rest : ℕ) : Type 0 where
+  pub line : lines (drop at s) ≡ part_in s p ∷ lines (drop rest s)
+  pub onward : at ≤ p.start
+  pub before : p.start + p.len ≤ rest
   pub moved : at < rest
   pub within : rest ≤ length s
 
-abbrev pub Fits : List ℕ → ℕ → Option Line → Type 0
-Fits s at (Some l) = Found s at l.start l.end l.rest.at
+abbrev pub Fits : List ℕ → ℕ → Option NextLine → Type 0
+Fits s at (Some l) = Found s at l.part l.rest
 Fits s at None = (lines (drop at s) ≡ []) × (length s ≤ at)
 
 fits_done : (s : List ℕ) (at : ℕ) → length s ≤ at → Fits s at None
@@ -165,25 +166,23 @@ fits_done s at h = (rw (drop_of_length-le s h), h)
 
 module _ (s : List ℕ) (at n : ℕ) (r : Upto 10 (drop at s) n) (h : at < length s) where
   -- where no LF follows, the line is the rest
-  fits_last : at + n ≡ length s → Found s at at (at + n) (at + n)
+  fits_last : at + n ≡ length s → Found s at (record { start = at; len = n }) (at + n)
   unfolding lines
   fits_last k =
       record {
-        line = rw k (lines_end r (omega (arith, length-drop at s)) (omega arith) ∙ rw (part_end s at, drop-length));
+        line = rw k (lines_end r (omega (arith, length-drop at s)) (omega arith) ∙ rw (drop-length, take_all n (drop at s) (omega (arith, length-drop at s))));
         onward = omega arith;
-        forward = omega arith;
         before = omega arith;
         moved = omega arith;
         within = omega arith;
       }
 
   -- where one follows, it is the bytes before the LF without a CR
-  fits_lf : at + n < length s → Found s at at (at + length (without_cr (take n (drop at s)))) (at + n + 1)
+  fits_lf : at + n < length s → Found s at (record { start = at; len = length (without_cr (take n (drop at s))) }) (at + n + 1)
   fits_lf k =
       record {
-        line = lines_lf r (omega (arith, length-drop at s)) ∙ rw (drop-drop, add-sub_cancel_left, onwards) (ap (λ (l : List ℕ). l ∷ lines (drop (at + suc n) s)) whole);
+        line = lines_lf r (omega (arith, length-drop at s)) ∙ rw (drop-drop, onwards) (ap (λ (l : List ℕ). l ∷ lines (drop (at + suc n) s)) whole);
         onward = omega arith;
-        forward = omega arith;
         before = omega (arith, short);
         moved = omega arith;
         within = omega arith;
@@ -215,9 +214,26 @@ next_fits s at = go (ltb at (length s)) refl
         lf true f = let k = ltb-true _ _ f in rw (next_lf s at h k) (fits_lf s at _ r h k)
         lf false f = let k = ltb-false _ _ f in rw (next_last s at h k) (fits_last s at _ r h (omega (arith, h, k, most r, length-drop at s)))
 
--- the same of what a call of the cursor gave
-pub found : (s : List ℕ) (at : ℕ) {r x : Option Line} → r ≡ next_line s at → r ≡ x → Fits s at x
-found s at e f = subst (Fits s at) (sym e ∙ f) (next_fits s at)
+-- the same of what a call of the iterator gave
+module _ {s t : Lines} {r : Option Part} (g : GivesLine s r t) where
+  pub given : {p : Part} → r ≡ Some p → next_line s.text.now s.at ≡ Some (record { part = p; rest = t.at })
+  given e = (subst (λ (x : Option Part). GivesLine s x t) e g).next
+
+  pub found : {p : Part} → r ≡ Some p → Found s.text.now s.at p t.at
+  found e = subst (Fits s.text.now s.at) (given e) (next_fits s.text.now s.at)
+
+  pub ended : r ≡ None → (lines (drop s.at s.text.now) ≡ []) × (length s.text.now ≤ s.at)
+  ended e = subst (Fits s.text.now s.at) (subst (λ (x : Option Part). GivesLine s x t) e g).next.0 (next_fits s.text.now s.at)
+
+-- the lines that a run of calls gives are all that are left
+pub drained : (s : Lines) (ps : List Part) → Drains GivesLine s ps → map (part_in s.text.now) ps ≡ lines (drop s.at s.text.now)
+drained s ps (t, (u, run, last)) = go s ps run
+  where
+    go : (s : Lines) (ps : List Part) → Yields GivesLine s ps u → map (part_in s.text.now) ps ≡ lines (drop s.at s.text.now)
+    go s [] e = sym (ap (λ (x : Lines). lines (drop x.at x.text.now)) e ∙ (ended last refl).0)
+    go s (p ∷ ps) (j, g, more) =
+        ap (λ (x : Bor (List ℕ)). part_in s.text.now p ∷ map (part_in x.now) ps) (sym g.text)
+        ∙ ap (◌∷◌ (part_in s.text.now p)) (go j ps more ∙ ap (λ (x : Bor (List ℕ)). lines (drop j.at x.now)) g.text) ∙ sym (found g refl).line
 
 -- where a line ends that runs to a place, by whether the byte before that place is a CR
 pub line_end_lem : (s : List ℕ) (start to : ℕ) (t : Bool) → start < to → to ≤ length s → eqb (get_or s (to - 1) 0) 13 ≡ t

@@ -2,8 +2,8 @@
 #![tactic(auto)]
 
 use errors::ParseError;
-use lines::{Line, Lines, suffix};
-use party::{Limits, NO_PART, Numbering, Part, PartyOption, limits_of};
+use lines::Lines;
+use party::{Limits, NO_PART, Numbering, Part, PartyOption, limits_of, part_of};
 use swift_utils::{
     LEGAL, all_alphanumeric, all_in, class_table, is_digit, is_legal, parse_account,
 };
@@ -207,31 +207,29 @@ fn untested(input: &[u8], known: bool) -> &[u8]
     if known { &input[..0] } else { input }
 }
 
-// The lines of names from a place on, which start_idx lines precede: each tested in order, its number, its length, then its bytes; and
+// The lines of names that are left, which start_idx lines precede: each tested in order, its number, its length, then its bytes; and
 // counted last. One test of all bytes comes first, and no byte is tested singly where it passes. The Rust writes this loop out in 50, 50F, 50K, 50H and 59F.
 pub fn parse_name_and_address(
-    body: &[u8],
-    from: Lines,
+    mut lines: Lines<'_>,
     start_idx: u8,
     option: PartyOption,
 ) -> Result<Names, ParseError>
-    ensures result_value { told_names body.now result ≡ read_names option (suc start_idx) (lines_of (drop from.at body.now)) }
-    ensures places { IfOk result (λ n. n.parts ≡ name_places accepted (dropped_prefix (limits_of option).numbering) (line_places body.now from.at)) }
+    ensures result_value { told_names lines.entry.text.now result ≡ read_names option (suc start_idx) (lines_of (drop lines.entry.at lines.entry.text.now)) }
+    ensures places { IfOk result (λ n. n.parts ≡ name_places accepted (dropped_prefix (limits_of option).numbering) (line_places lines.entry.text.now lines.entry.at)) }
 {
     let limits = limits_of(option);
     let kept = dropped_prefix(limits.numbering);
-    let known = all_in(suffix(body, from.at), class_table(), LEGAL);
+    let known = all_in(lines.rest(), class_table(), LEGAL);
     let mut parts = [NO_PART; 4];
     let mut digits = [0u8; 4];
-    let mut cursor = from;
     let mut count = 0;
     let illegal = 'lines: loop {
-        let Some(Line { start, end, rest }) = cursor.next(body) else {
+        let Some(part) = lines.next() else {
             break 'lines None;
         };
         let turn = count + 1;
         let line = start_idx as usize + turn;
-        let input = &body[start..end];
+        let input = part_of(lines.text, part);
         parse_line(input, line, turn, limits)?;
         for b in untested(input, known) {
             if !is_legal(*b) {
@@ -239,13 +237,12 @@ pub fn parse_name_and_address(
             }
         }
         if count < 4 {
-            let start = start + kept;
-            let len = end - start;
+            let start = part.start + kept;
+            let len = part.len - kept;
             parts[count] = Part { start, len };
             digits[count] = digit_of(input, limits.numbering);
         }
         count = turn;
-        cursor = rest;
     };
     if let Some(line) = illegal {
         return Err(ParseError::IllegalByte(line));

@@ -1,12 +1,14 @@
-// What the Rust has of std: the lines of a text by a cursor, a text trimmed, and the test for ASCII.
+// What the Rust has of std: the lines of a text as an iterator, a text trimmed, and the test for ASCII.
 ghost use Rattle.std.specs.Prelude.{◌≡◌, ℕ, ◌+◌, ◌-◌, ◌≤◌, length, take, drop, nat_le};
+ghost use Rattle.std.specs.Iterator.{at_most};
 ghost use Rattle.swift_utils.specs.Bytes.{all};
 ghost use Rattle.field_utils.specs.Lines.{upto, lines, without_cr};
-ghost use Rattle.field_utils.specs.Cursor.{next_line};
+ghost use Rattle.field_utils.specs.Cursor.{GivesLine};
 ghost use Rattle.field_utils.specs.Words.{Passed};
 ghost use Rattle.field_utils.specs.Trim.{white, trimmed, trimmed_end};
 
 use crate::words::{BLOCK, is_clear, lf_mask, word};
+use party::Part;
 
 // Up to so many bytes are searched by single words, before blocks of them are passed.
 const NEAR: usize = 128;
@@ -80,38 +82,53 @@ pub fn find_lf(s: &[u8], from: usize) -> usize
     find_from(s, pass_blocks(s, end))
 }
 
-// A cursor over the lines of a text: the place where the next one starts.
-#[derive(Clone, Copy, Debug, PartialEq, Eq)]
-pub struct Lines {
+// The lines of a text that are left from a place on, each the part of the text that it is.
+#[derive(Clone, Copy, Debug)]
+pub struct Lines<'a> {
+    pub text: &'a [u8],
     pub at: usize,
 }
 
-// A line from start to end, with the cursor after it.
-#[derive(Clone, Copy, Debug, PartialEq, Eq)]
-pub struct Line {
-    pub start: usize,
-    pub end: usize,
-    pub rest: Lines,
+// The lines of a text.
+pub fn lines_of(text: &[u8]) -> Lines<'_>
+    ensures text { result.text.now ≡ text.now }
+    ensures at { result.at ≡ 0 }
+{
+    Lines { text, at: 0 }
 }
 
-impl Lines {
-    // The next line, if there is one.
-    #[tactic(auto, using(crate::proofs::Places::next_done, crate::proofs::Places::next_last, crate::proofs::Places::next_lf))]
-    pub fn next(self, s: &[u8]) -> Option<Line>
-        ensures { result ≡ next_line s.now self.at }
+impl<'a> Lines<'a> {
+    // The bytes that are left.
+    pub fn rest(&self) -> &'a [u8]
+        ensures { result.now ≡ drop self.now.at self.now.text.now }
     {
+        suffix(self.text, self.at)
+    }
+}
+
+impl<'a> Iterator for Lines<'a> {
+    type Item = Part;
+
+    ghost next_gives = { GivesLine };
+
+    ghost remaining = { λ s. at_most (length s.text.now - s.at) };
+
+    #[tactic(auto, using(crate::proofs::Places::next_done, crate::proofs::Places::next_last, crate::proofs::Places::next_lf))]
+    fn next(&mut self) -> Option<Part> {
+        let text = self.text;
         let start = self.at;
-        if s.len() <= start {
+        if text.len() <= start {
             return None;
         }
-        let lf = find_lf(s, start);
-        let (end, at) = if lf < s.len() {
-            (line_end(s, start, lf), lf + 1)
+        let lf = find_lf(text, start);
+        let (end, at) = if lf < text.len() {
+            (line_end(text, start, lf), lf + 1)
         } else {
             (lf, lf)
         };
-        let rest = Lines { at };
-        Some(Line { start, end, rest })
+        self.at = at;
+        let len = end - start;
+        Some(Part { start, len })
     }
 }
 
@@ -142,13 +159,7 @@ pub fn without_cr(line: &[u8]) -> &[u8]
 pub fn count_lines(s: &[u8]) -> usize
     ensures { result ≡ length (lines s.now) }
 {
-    let mut cursor = Lines { at: 0 };
-    let mut count = 0;
-    while let Some(line) = cursor.next(s) {
-        cursor = line.rest;
-        count += 1;
-    }
-    count
+    lines_of(s).count()
 }
 
 // A byte that trimming takes away: 9 to 13 and 32.

@@ -8,8 +8,8 @@ ghost use Rattle.reader.specs.Reading.{told_answer};
 ghost use Rattle.profile.specs.Profile.{is_same, holds_bic, is_narrow, is_capital, is_opening, is_inside, profile_reply, profiled, read_profiled, parse_profiled, parse_with_variant_profiled};
 
 use errors::ParseError;
-use field_utils::lines::{Lines, trim};
-use party::{Party, PartyOption, TEXT_MOST, Text, limits_of};
+use field_utils::lines::{lines_of, trim};
+use party::{Party, PartyOption, TEXT_MOST, Text, limits_of, part_of};
 use reader::choices::Choice;
 use swift_utils::{NARROW, SMALL, is_in};
 
@@ -53,18 +53,14 @@ fn is_inside(line: &[u8], n: usize, after: bool, holds: bool) -> bool
 fn parse_lines(party: &Party, body: &[u8]) -> Result<(), ParseError>
     ensures { told result ≡ profile_reply party.now body.now }
 {
-    let mut cursor = Lines { at: 0 };
-    let mut n = 1;
     let mut after = false;
-    while let Some(found) = cursor.next(body) {
-        let line = &body[found.start..found.end];
+    for (k, part) in lines_of(body).enumerate() {
+        let line = part_of(body, part);
         let holds = holds_bic(line, party);
-        if !is_inside(line, n, after, holds) {
-            return Err(ParseError::OutsideProfile(n));
+        if !is_inside(line, k + 1, after, holds) {
+            return Err(ParseError::OutsideProfile(k + 1));
         }
         after |= holds;
-        n += 1;
-        cursor = found.rest;
     }
     Ok(())
 }

@@ -187,7 +187,7 @@ pub record FieldUtilsOperations : Type 0 where
   -- gives 0 where there is none
   pub find_lf_of_none_is_the_length : found (bytes "ab") 0 10 ≡ 2
   -- drops every CR before the LF
-  pub next_drops_one_cr : next_line (bytes "a\r\r\n") 0 ≡ Some (record { start = 0; end = 2; rest = record { at = 4 } })
+  pub next_drops_one_cr : next_line (bytes "a\r\r\n") 0 ≡ Some (record { part = record { start = 0; len = 2 }; rest = 4 })
   -- gives an empty line after an LF at the end
   pub next_is_done_after_the_last_lf : next_line (bytes "a\n") 2 ≡ None
   -- drops two CRs

@@ -16,7 +16,7 @@ use Rattle.field_utils.specs.Trim.{white, trimmed_start, keep, trimmed_end, trim
 use Rattle.field_utils.specs.Identifier.{is_numbered, second_slash, identifier_reply, parse_party_identifier}
 use Rattle.field_utils.specs.Names.{parse_line, parse_lines, parse_name_and_address}
 use Rattle.record_bytes.specs.RecordBytes.{record_size, encoded_texts, encoded, stored, holds_record, party_from, decoded}
-use Rattle.reader.specs.Reading.{party_of, told_answer, read_into}
+use Rattle.reader.specs.Reading.{party_of, told_answer, answer_from, read_into}
 use Rattle.reader.specs.Options.{length_reply, account_head, short_account_head, after_head, ascii, body_reply, read}
 use Rattle.reader.specs.declared.choices.Choice.TheVariants.{Field50InstructingParty, Field50OrderingCustomerFGH, Field50OrderingCustomerAFK, Field50OrderingCustomerNCF, Field50Creditor, Field59, Field59Debtor}
 use Rattle.reader.specs.declared.choices.Test.TheVariants.{LaterNumbered, AnyNumbered, LastIsBic, BicSized, FirstNumbered}
@@ -63,10 +63,10 @@ pub record ReaderOperations : Type 0 where
   -- accepts where 240 bytes are lent, stores nothing and does not say so; or asks for more than 241
   pub read_into_refuses_240 : read_into (read Field50L (bytes "A")) short ≡ record { reply = refused 42 0; bytes = short }
   pub read_into_takes_241 : (read_into (read Field50L (bytes "A")) lent).reply ≡ accepted
-  -- has any record beside a refusal
-  pub refusal_has_the_blank_record : (told_answer (Err (TooLong 2))).party.present ≡ false
-  -- has the blank record beside an acceptance
-  pub acceptance_has_its_record : (told_answer (Ok (decoded (0 ∷ 1 ∷ replicate 239 0)))).party.present ≡ true
+  -- gives what the room holds beside a refusal
+  pub answer_from_a_refusal_is_blank : (told_answer (answer_from (Err (TooLong 2)) (0 ∷ 1 ∷ replicate 239 0))).party.present ≡ false
+  -- gives the blank record beside an acceptance
+  pub answer_from_an_acceptance_is_the_room : (told_answer (answer_from (Ok tt) (0 ∷ 1 ∷ replicate 239 0))).party.present ≡ true
 
 pub reader_operations : ReaderOperations
 unfolding letter digit alphanumeric signs legal parse_swift_chars parse_account bic_length parse_bic upto onto starts lines second_slash identifier_reply parse_party_identifier parse_line parse_lines parse_name_and_address after_head read holds_record party_from decoded
@@ -87,8 +87,8 @@ reader_operations = record {
   read_into_tells_13 = refl;
   read_into_refuses_240 = refl;
   read_into_takes_241 = refl;
-  refusal_has_the_blank_record = refl;
-  acceptance_has_its_record = refl;
+  answer_from_a_refusal_is_blank = refl;
+  answer_from_an_acceptance_is_the_room = refl;
 }
 
 -- ---- the eleven options

@@ -1,5 +1,5 @@
--- What the answers of the private functions mean: what a walk of the lines sees, and what it rules out.
-use Rattle.std.specs.Prelude.{ℕ, ◌≤◌, Bool, true, false, not, ◌&&◌, List, [], length, drop}
+-- What the answers of the private functions mean: which lines are asked, and what they rule out.
+use Rattle.std.specs.Prelude.{ℕ, Bool, true, false, not, ◌&&◌, List, [], length, drop}
 use Rattle.party.specs.declared.PartyOption.{PartyOption}
 use Rattle.party.specs.declared.PartyOption.TheVariants.{Field50NoOption, Field50A, Field50F, Field50K, Field50C, Field50L, Field50G, Field50H, Field59NoOption, Field59A, Field59F}
 use Rattle.party.specs.declared.First.TheVariants.{ShortAccount}
@@ -10,13 +10,7 @@ use Rattle.reader.specs.declared.choices.Choice.TheVariants.{Field50InstructingP
 use Rattle.reader.specs.declared.choices.Test.{Test}
 use Rattle.reader.specs.Detection.{first_line, test_line, holds}
 
--- ---- the walk
--- two lines are passed, the second from start to end
-pub record Passed (s : List ℕ) (start end at : ℕ) : Type 0 where
-  pub forward : start ≤ end
-  pub before : end ≤ at
-  pub within : at ≤ length s
-
+-- ---- what is asked
 -- the text whose lines a choice's tests ask: no line in the choice that has no test
 abbrev pub asked_text : Choice → List ℕ → List ℕ
 asked_text Field50InstructingParty body = []

@@ -1,7 +1,8 @@
 // The seven choices among options of field50.rs and field59.rs, in one form: by a letter, or detected.
-ghost use Rattle.std.specs.Prelude.{◌≡◌, ◌∷◌, ◌-◌, ◌≤◌, eqb, length, take, drop};
+ghost use Rattle.std.specs.Prelude.{◌≡◌, ◌≤◌, eqb, length, take, drop};
 ghost use Rattle.errors.specs.Refusals.{accepted};
 ghost use Rattle.party.specs.Limits.{limits_of};
+ghost use Rattle.party.specs.Text.{part_in};
 ghost use Rattle.field_utils.specs.Identifier.{is_numbered};
 ghost use Rattle.field_utils.specs.Lines.{lines};
 ghost use Rattle.record_bytes.specs.RecordBytes.{record_size};
@@ -9,13 +10,13 @@ ghost use Rattle.reader.specs.Reading.{told_answer, told_into, leaves, read_into
 ghost use Rattle.reader.specs.Options.{body_reply};
 ghost use Rattle.reader.specs.Detection.{any_numbered, first_line, last_line, bic_like, test_line, holds as holds_of};
 ghost use Rattle.reader.specs.Choices.{trials_of, tried_text, wanted, first_that, parse as parse_of, is_letter, parse_with_variant, read_text};
-ghost use Rattle.reader.specs.ChoicesCode.{Passed, short_bic_line, ruled_out, is_open, asked_text};
+ghost use Rattle.reader.specs.ChoicesCode.{short_bic_line, ruled_out, is_open, asked_text};
 
 use crate::{parse_body, read_into, read_own_into};
 use errors::ParseError;
-use field_utils::lines::{Line, Lines, trim};
+use field_utils::lines::{Lines, lines_of, trim};
 use field_utils::{is_numbered_line, starts_with_slash};
-use party::{Party, PartyOption, limits_of};
+use party::{NO_PART, Part, Party, PartyOption, limits_of, part_of};
 use record_bytes::{RECORD_SIZE, load};
 use swift_utils::{BIC_LONG, BIC_SHORT, all_alphanumeric, is_bic_length};
 
@@ -92,10 +93,9 @@ fn trials_of(choice: Choice) -> &'static [Trial]
     }
 }
 
-// What the tests ask first of a text's lines: what is seen of two, and where the others start. A line that is not there is empty.
+// What the tests ask first of a text's lines: what is seen of two, and the others. A line that is not there is empty.
 #[derive(Clone, Copy)]
 struct LineSummary<'a> {
-    text: &'a [u8],
     // how many lines there are, at most 3
     count: usize,
     // the lengths of the first line and of the second
@@ -105,83 +105,36 @@ struct LineSummary<'a> {
     first_numbered: bool,
     second_numbered: bool,
     // the second line, or the only one
-    last: Line,
-    ghost counted: { count ≡ length (take 3 (lines text.now)) },
-    ghost first_length: { first ≡ length (first_line (lines text.now)) },
-    ghost second_length: { second ≡ length (first_line (drop 1 (lines text.now))) },
-    ghost one: { first_numbered ≡ is_numbered (first_line (lines text.now)) },
-    ghost two: { second_numbered ≡ is_numbered (first_line (drop 1 (lines text.now))) },
-    ghost last_is: { take (last.end - last.start) (drop last.start text.now) ≡ last_line (take 2 (lines text.now)) },
-    ghost forward: { last.start ≤ last.end },
-    ghost within: { last.end ≤ length text.now },
-    ghost later: { lines (drop last.rest.at text.now) ≡ drop 2 (lines text.now) },
-}
-
-// What is seen of two lines or more: the first, and the second, with the cursor after it.
-fn summarize_two<'a>(text: &'a [u8], first: &[u8], second: Line) -> LineSummary<'a>
-    requires places { Passed text.now second.start second.end second.rest.at }
-    requires known { lines text.now ≡ first.now ∷ take (second.end - second.start) (drop second.start text.now) ∷ lines (drop second.rest.at text.now) }
-    ensures { result.text.now ≡ text.now }
-{
-    let Line { start, end, rest } = second;
-    LineSummary {
-        text,
-        count: if rest.at < text.len() { 3 } else { 2 },
-        first: first.len(),
-        second: end - start,
-        first_numbered: is_numbered_line(first),
-        second_numbered: is_numbered_line(&text[start..end]),
-        last: second,
-    }
+    last: Part,
+    rest: Lines<'a>,
+    ghost counted: { count ≡ length (take 3 (lines rest.text.now)) },
+    ghost first_length: { first ≡ length (first_line (lines rest.text.now)) },
+    ghost second_length: { second ≡ length (first_line (drop 1 (lines rest.text.now))) },
+    ghost one: { first_numbered ≡ is_numbered (first_line (lines rest.text.now)) },
+    ghost two: { second_numbered ≡ is_numbered (first_line (drop 1 (lines rest.text.now))) },
+    ghost last_is: { part_in rest.text.now last ≡ last_line (take 2 (lines rest.text.now)) },
+    ghost later: { lines (drop rest.at rest.text.now) ≡ drop 2 (lines rest.text.now) },
 }
 
 // Sums up the first two lines of a text.
 fn summarize(text: &[u8]) -> LineSummary<'_>
-    ensures { result.text.now ≡ text.now }
+    ensures { result.rest.text.now ≡ text.now }
 {
-    let top = Lines { at: 0 };
-    let Some(one) = top.next(text) else {
-        return LineSummary {
-            text,
-            count: 0,
-            first: 0,
-            second: 0,
-            first_numbered: false,
-            second_numbered: false,
-            last: Line {
-                start: 0,
-                end: 0,
-                rest: top,
-            },
-        };
-    };
-    let first = &text[one.start..one.end];
-    let Some(second) = one.rest.next(text) else {
-        return LineSummary {
-            text,
-            count: 1,
-            first: first.len(),
-            second: 0,
-            first_numbered: is_numbered_line(first),
-            second_numbered: false,
-            last: one,
-        };
-    };
-    summarize_two(text, first, second)
-}
-
-// Whether a line from a cursor on is numbered.
-fn numbered_from(text: &[u8], from: Lines) -> bool
-    ensures { result ≡ any_numbered (lines (drop from.at text.now)) }
-{
-    let mut cursor = from;
-    while let Some(Line { start, end, rest }) = cursor.next(text) {
-        if is_numbered_line(&text[start..end]) {
-            return true;
-        }
-        cursor = rest;
+    let mut rest = lines_of(text);
+    let one = rest.next();
+    let two = rest.next();
+    let first = part_of(rest.text, one.unwrap_or(NO_PART));
+    let second = part_of(rest.text, two.unwrap_or(NO_PART));
+    let more = rest.at < rest.text.len();
+    LineSummary {
+        count: one.is_some() as usize + two.is_some() as usize + more as usize,
+        first: first.len(),
+        second: second.len(),
+        first_numbered: is_numbered_line(first),
+        second_numbered: is_numbered_line(second),
+        last: two.or(one).unwrap_or(NO_PART),
+        rest,
     }
-    false
 }
 
 // Whether a text is 8 or 11 letters or digits.
@@ -193,36 +146,35 @@ fn is_bic_like(text: &[u8]) -> bool
 
 // The methods lend what was seen: by value it would be copied for each that stays a call.
 impl LineSummary<'_> {
-    // Whether a line after the first is numbered: the second, or, where there are more, one that is walked now.
+    // Whether a line after the first is numbered: the second, or one of those that are walked now.
     fn later_numbered(&self) -> bool
-        ensures { result ≡ any_numbered (drop 1 (lines self.now.text.now)) }
+        ensures { result ≡ any_numbered (drop 1 (lines self.now.rest.text.now)) }
     {
-        self.second_numbered || (2 < self.count && numbered_from(self.text, self.last.rest))
+        let mut rest = self.rest;
+        let text = rest.text;
+        self.second_numbered || rest.any(|line| is_numbered_line(part_of(text, line)))
     }
 
     // Whether a line is numbered.
     fn any_numbered(&self) -> bool
-        ensures { result ≡ holds_of Test.AnyNumbered (lines self.now.text.now) }
+        ensures { result ≡ holds_of Test.AnyNumbered (lines self.now.rest.text.now) }
     {
         self.first_numbered || self.later_numbered()
     }
 
     // The last line, as a part of the text.
     fn last_line(&self) -> &[u8]
-        ensures { result.now ≡ last_line (lines self.now.text.now) }
+        ensures { result.now ≡ last_line (lines self.now.rest.text.now) }
     {
-        let mut last = self.last;
-        while let Some(line) = last.rest.next(self.text) {
-            last = line;
-        }
-        &self.text[last.start..last.end]
+        let last = self.rest.last().unwrap_or(self.last);
+        part_of(self.rest.text, last)
     }
 
     // Whether the first line, or the second where the first has a slash, is numbered.
     fn first_numbered(&self) -> bool
-        ensures { result ≡ holds_of Test.FirstNumbered (lines self.now.text.now) }
+        ensures { result ≡ holds_of Test.FirstNumbered (lines self.now.rest.text.now) }
     {
-        if starts_with_slash(self.text) {
+        if starts_with_slash(self.rest.text) {
             self.second_numbered
         } else {
             self.first_numbered
@@ -231,13 +183,13 @@ impl LineSummary<'_> {
 
     // Whether a test holds of the lines.
     fn holds(&self, test: Test) -> bool
-        ensures { result ≡ holds_of test (lines self.now.text.now) }
+        ensures { result ≡ holds_of test (lines self.now.rest.text.now) }
     {
         match test {
             Test::Always => true,
             Test::LaterNumbered => self.later_numbered(),
-            Test::SlashFirstOfTwo => self.count == 2 && starts_with_slash(self.text),
-            Test::SlashFirst => 2 <= self.count && starts_with_slash(self.text),
+            Test::SlashFirstOfTwo => self.count == 2 && starts_with_slash(self.rest.text),
+            Test::SlashFirst => 2 <= self.count && starts_with_slash(self.rest.text),
             Test::AnyNumbered => self.any_numbered(),
             Test::LastIsBic => is_bic_like(trim(self.last_line())),
             Test::BicSized => self.count == 1 && BIC_SHORT <= self.first && self.first <= BIC_LONG,
@@ -247,9 +199,9 @@ impl LineSummary<'_> {
 
     // The length of the line that 50A takes for its BIC.
     fn bic_line_length(&self) -> usize
-        ensures { result ≡ length (test_line (lines self.now.text.now)) }
+        ensures { result ≡ length (test_line (lines self.now.rest.text.now)) }
     {
-        if starts_with_slash(self.text) {
+        if starts_with_slash(self.rest.text) {
             self.second
         } else {
             self.first
@@ -258,7 +210,7 @@ impl LineSummary<'_> {
 
     // The length of the one that 59A takes: the first too where it has a slash and is too long for an account.
     fn short_bic_line(&self) -> usize
-        ensures { result ≡ length (short_bic_line (lines self.now.text.now)) }
+        ensures { result ≡ length (short_bic_line (lines self.now.rest.text.now)) }
     {
         if limits_of(PartyOption::Field59A).account_max + 1 < self.first {
             self.first
@@ -269,7 +221,7 @@ impl LineSummary<'_> {
 
     // Whether an option refuses a text for the length of its BIC, by the lines that were asked.
     fn rules_out(&self, option: PartyOption, text: &[u8]) -> bool
-        ensures { result ≡ ruled_out option text.now (lines self.now.text.now) }
+        ensures { result ≡ ruled_out option text.now (lines self.now.rest.text.now) }
     {
         match option {
             PartyOption::Field50C => !is_bic_length(text.len()),
@@ -282,7 +234,7 @@ impl LineSummary<'_> {
 
     // Whether an option is tried: it is not ruled out, and its test holds.
     fn is_open(&self, option: PartyOption, test: Test, text: &[u8]) -> bool
-        ensures { result ≡ is_open option test text.now (lines self.now.text.now) }
+        ensures { result ≡ is_open option test text.now (lines self.now.rest.text.now) }
     {
         !self.rules_out(option, text) && self.holds(test)
     }

@@ -3,16 +3,16 @@
 #![tactic(auto)]
 
 use errors::ParseError;
-use field_utils::lines::{Line, Lines, count_lines, find_lf, is_ascii, suffix};
+use field_utils::lines::{Lines, count_lines, find_lf, is_ascii, lines_of, suffix};
 use field_utils::{parse_name_and_address, parse_party_identifier, starts_with_slash};
-use party::{First, Layout, NO_PART, Part, Parts, Party, PartyOption, limits_of};
+use party::{First, Layout, NO_PART, Part, Parts, Party, PartyOption, limits_of, part_of};
 use record_bytes::{RECORD_SIZE, load, store_parts};
 use swift_utils::{parse_account, parse_bic, parse_length};
 
 pub mod choices;
 pub mod traits;
 
-ghost use Rattle.std.specs.Prelude.{◌≡◌, true, false, List, ℕ, suc, ◌-◌, ◌≤◌, ◌<◌, length, take, drop, MatchResult};
+ghost use Rattle.std.specs.Prelude.{◌≡◌, true, false, List, ℕ, suc, ◌+◌, ◌^◌, ◌≤◌, ◌<◌, length, drop, MatchResult};
 ghost use Rattle.errors.specs.Refusals.{told};
 ghost use Rattle.errors.specs.declared.ParseError.TheVariants.{PartyIdentifier};
 ghost use Rattle.party.specs.Limits.{limits_of};
@@ -104,8 +104,8 @@ fn parse_head(line: &[u8], option: PartyOption) -> Result<Option<usize>, ParseEr
 
 // Where the names or the BIC start, how many lines precede them, and the account or identifier that does.
 #[derive(Clone, Copy)]
-struct RestAt {
-    from: Lines,
+struct RestAt<'a> {
+    lines: Lines<'a>,
     start_idx: u8,
     account: Option<Part>,
 }
@@ -125,11 +125,11 @@ fn nameless_parts(option: PartyOption, account: Option<Part>, bic: Part) -> Part
     }
 }
 
-// The lines from a place on as names.
-fn read_names(option: PartyOption, body: &[u8], later: RestAt) -> Result<Parts, ParseError>
-    ensures { told_parts body.now result ≡ reading_of option (with_names option (suc later.start_idx) (head_at body.now later.account) (lines (drop later.from.at body.now))) }
+// The lines that are left as names.
+fn read_names(option: PartyOption, later: RestAt<'_>) -> Result<Parts, ParseError>
+    ensures { told_parts later.entry.lines.text.now result ≡ reading_of option (with_names option (suc later.entry.start_idx) (head_at later.entry.lines.text.now later.entry.account) (lines (drop later.entry.lines.at later.entry.lines.text.now))) }
 {
-    let names = parse_name_and_address(body, later.from, later.start_idx, option)?;
+    let names = parse_name_and_address(later.lines, later.start_idx, option)?;
     let parts = names.parts;
     let digits = names.digits;
     Ok(Parts {
@@ -143,57 +143,54 @@ fn read_names(option: PartyOption, body: &[u8], later: RestAt) -> Result<Parts, 
     })
 }
 
-// The line at a place as a BIC.
-fn read_bic(option: PartyOption, body: &[u8], later: RestAt) -> Result<Parts, ParseError>
-    ensures { told_parts body.now result ≡ reading_of option (with_bic (suc later.start_idx) (head_at body.now later.account) (lines (drop later.from.at body.now))) }
+// The next line as a BIC.
+fn read_bic(option: PartyOption, later: RestAt<'_>) -> Result<Parts, ParseError>
+    ensures { told_parts later.entry.lines.text.now result ≡ reading_of option (with_bic (suc later.entry.start_idx) (head_at later.entry.lines.text.now later.entry.account) (lines (drop later.entry.lines.at later.entry.lines.text.now))) }
 {
-    let Some(Line { start, end, .. }) = later.from.next(body) else {
+    let mut lines = later.lines;
+    let Some(bic) = lines.next() else {
         return Err(ParseError::BicMissing);
     };
-    parse_bic(&body[start..end], later.start_idx as usize + 1)?;
-    let bic = Part {
-        start,
-        len: end - start,
-    };
+    parse_bic(part_of(later.lines.text, bic), later.start_idx as usize + 1)?;
     Ok(nameless_parts(option, later.account, bic))
 }
 
 // The lines after the first one, or all, as the option has them.
-fn read_rest(option: PartyOption, body: &[u8], later: RestAt) -> Result<Parts, ParseError>
-    ensures { told_parts body.now result ≡ reading_of option (after_head option (suc later.start_idx) (head_at body.now later.account) (lines (drop later.from.at body.now))) }
+fn read_rest(option: PartyOption, later: RestAt<'_>) -> Result<Parts, ParseError>
+    ensures { told_parts later.entry.lines.text.now result ≡ reading_of option (after_head option (suc later.entry.start_idx) (head_at later.entry.lines.text.now later.entry.account) (lines (drop later.entry.lines.at later.entry.lines.text.now))) }
 {
     if limits_of(option).max_names == 0 {
-        read_bic(option, body, later)
+        read_bic(option, later)
     } else {
-        read_names(option, body, later)
+        read_names(option, later)
     }
 }
 
-// Whether a body has as many lines as the option counts first; the cursor is the one after its first line. Most options ask for no more
-// than that line, or for one after it.
-fn counts(option: PartyOption, body: &[u8], rest: Lines) -> bool
-    requires { length (lines body.now) ≡ suc (length (lines (drop rest.at body.now))) }
-    ensures { result ≡ is_counted option (length (lines body.now)) }
+// Whether a body has as many lines as the option counts first; all but its first are left. Most options ask for no more than that line,
+// or for one after it.
+fn counts(option: PartyOption, rest: Lines<'_>) -> bool
+    requires { length (lines rest.text.now) ≡ suc (length (lines (drop rest.at rest.text.now))) }
+    ensures { result ≡ is_counted option (length (lines rest.entry.text.now)) }
 {
     let limits = limits_of(option);
     if limits.max_lines == 0 && limits.min_lines <= 2 {
-        return limits.min_lines < 2 || rest.at < body.len();
+        return limits.min_lines < 2 || rest.at < rest.text.len();
     }
-    let n = 1 + count_lines(suffix(body, rest.at));
+    let n = 1 + count_lines(rest.rest());
     limits.min_lines <= n && (limits.max_lines == 0 || n <= limits.max_lines)
 }
 
-// The part of a line from one place to another that is behind its first bytes.
-fn part_behind(start: usize, end: usize, skip: usize) -> Part
-    ensures { (body : List ℕ) → part_in body result ≡ drop skip (take (end - start) (drop start body)) }
+// What of a line is behind its first bytes.
+fn part_behind(line: Part, skip: usize) -> Part
+    requires { line.start + line.len < 2 ^ 64 }
+    ensures { (body : List ℕ) → part_in body result ≡ drop skip (part_in body line) }
 {
-    if end <= start || end - start <= skip {
+    if line.len <= skip {
         return NO_PART;
     }
-    let first = start + skip;
     Part {
-        start: first,
-        len: end - first,
+        start: line.start + skip,
+        len: line.len - skip,
     }
 }
 
@@ -201,26 +198,26 @@ fn part_behind(start: usize, end: usize, skip: usize) -> Part
 fn read_lines(option: PartyOption, body: &[u8]) -> Result<Parts, ParseError>
     ensures { told_parts body.now result ≡ reading_of option (by_lines option (lines body.now)) }
 {
-    let top = Lines { at: 0 };
-    let Some(Line { start, end, rest }) = top.next(body) else {
+    let mut rest = lines_of(body);
+    let Some(first) = rest.next() else {
         return Err(ParseError::LineCount);
     };
-    if !counts(option, body, rest) {
+    if !counts(option, rest) {
         return Err(ParseError::LineCount);
     }
-    let later = match parse_head(&body[start..end], option)? {
+    let later = match parse_head(part_of(body, first), option)? {
         Some(skip) => RestAt {
-            from: rest,
+            lines: rest,
             start_idx: 1,
-            account: Some(part_behind(start, end, skip)),
+            account: Some(part_behind(first, skip)),
         },
         None => RestAt {
-            from: top,
+            lines: lines_of(body),
             start_idx: 0,
             account: None,
         },
     };
-    read_rest(option, body, later)
+    read_rest(option, later)
 }
 
 // A body that is a BIC.

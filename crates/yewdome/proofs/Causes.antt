@@ -121,20 +121,20 @@ read_told page at bytes w q r =
 -- ---- a field that was filed with as many bytes as the read moved past, where more follows it
 module _ (page : List ℕ) (at : ℕ) (bytes : List ℕ) (moved written : ℕ) (f : WasFiled page at bytes moved written) where
   abbrev p : Party
-  p = f.was.party
+  p = f.given.was.party
 
   abbrev s : List ℕ
   s = drop at page
 
   -- the read ends within the page
   pub filed_within : at + moved ≤ length page
-  filed_within = omega (arith, f.moves, (record_gave page at p f.was.read).next)
+  filed_within = omega (arith, f.given.moves, (record_gave page at p f.given.was.read).next)
 
   pub filed_none : at + moved < length page → moved ≡ written → 0 ≡ causes_code (causes_by page at (read_at page at).outcome)
-  filed_none h e = sym (ap (λ (x : ReadOutcome). causes_code (causes_by page at x)) f.was.read ∙ go (is_none (causes_by page at (a_record p))) refl)
+  filed_none h e = sym (ap (λ (x : ReadOutcome). causes_code (causes_by page at x)) f.given.was.read ∙ go (is_none (causes_by page at (a_record p))) refl)
     where
       go : (t : Bool) → is_none (causes_by page at (a_record p)) ≡ t → causes_code (causes_by page at (a_record p)) ≡ 0
       go true n = eqb-true (causes_code (causes_by page at (a_record p))) 0 (code_none (causes_by page at (a_record p)) ∙ n)
       go false n =
-          let k = field_less page at p f.was.read n in
-          absurd (omega (arith, k, h, e, f.moves, f.writes, (record_gave page at p f.was.read).next, length-append (written_field (content p)) (10 ∷ []), length-take-le (runs s) s (runs_most s)))
+          let k = field_less page at p f.given.was.read n in
+          absurd (omega (arith, k, h, e, f.given.moves, f.writes, (record_gave page at p f.given.was.read).next, length-append (written_field (content p)) (10 ∷ []), length-take-le (runs s) s (runs_most s)))

@@ -1,17 +1,19 @@
 -- The loop over a page: what is left of the run after each read. Assumes nothing.
-use Prim.Native.Nat.{ℕ, suc, ◌+◌, ◌*◌, ◌-◌, ◌/◌, ◌%◌, ◌≤◌, ◌<◌}
+use Prim.Native.Nat.{ℕ, suc, ◌+◌, ◌*◌, ◌-◌, ◌/◌, ◌≤◌, ◌<◌}
 use mathlib.Core.Path.{◌≡◌, refl, sym, ap, ◌∙◌, subst}
-use mathlib.Core.Bool.{Bool, true, false}
+use mathlib.Core.Bool.{Bool, true, false, ◌||◌}
 use mathlib.Core.List.{List, [], ◌∷◌, map}
 use native.Mathlib.Nat.{div-eq_of_lt}
 use native.Mathlib.Omega.{arith}
-use borrow.Author.Tests.{eq-eqb, ne_eqb, lt-ltb, le-ltb}
+use borrow.Author.Tests.{lt-ltb, le-ltb}
 use lib.ListN.{length, set}
+use Rattle.std.specs.Prelude.{Option, Some, None}
+use lib.Dec.{eqb}
 use Rattle.errors.specs.Refusals.{accepted, refused}
 use Rattle.party.specs.declared.Party.{Party}
 use Rattle.party.specs.Party.{content}
 use Rattle.writer.proofs.Puts.{puts_byte, space, Partway, begun, finished, kept, next}
-use Rattle.page_reader.specs.Pages.{page_most, ReadOutcome, a_record, the_end, a_refusal, read_at}
+use Rattle.page_reader.specs.Pages.{page_most, ReadOutcome, a_record, the_end, a_refusal, PageRead, read_at, kind_of, outline}
 use Rattle.page_reader.specs.Reads.{Read, read_here, is_the_end, is_last, reads}
 use Rattle.page_reader.proofs.Moves.{next_most}
 use Rattle.page_reader.proofs.InTurn.{read_moves, rest, rest_some, rest_start, rest_last, rest_next, reads_most, reads_few}
@@ -22,9 +24,9 @@ use Rattle.page_writer.proofs.Fold.{run_length}
 use Rattle.kept.specs.Fields.{causes_by}
 use Rattle.yewdome.specs.Filing.{filed_as, open_page}
 use Rattle.yewdome.specs.Interface.{position_room, causes_unit, pack_unit, code_of, read_code, causes_code, page_close, read_number, listing, page_answers, file_numbers, filing, page_file}
-use Rattle.yewdome.specs.Code.{Named, Within, outcome_by, answer_by, step_by, walk_by, told_step, Walks}
-use Rattle.yewdome.proofs.Pages.{add_within, reply_of, page_line, onward_from}
-use Rattle.yewdome.proofs.Theorems.{high, low, read_moved}
+use Rattle.yewdome.specs.Code.{Named, Within, outcome_by, answer_by, step_by, walk_by, ends, follows, told_step, Walks}
+use Rattle.yewdome.proofs.Pages.{add_within, reply_of}
+use Rattle.yewdome.proofs.Theorems.{high}
 
 -- ---- a step's answer
 -- its refusal has a number from 1 on
@@ -60,12 +62,7 @@ module _ (moved : ℕ) (h : moved ≤ page_most) where
       let c : read_code (a_refusal k l) moved ≡ code_of (refused k l) * position_room * position_room + moved = omega arith in
       absurd (omega (arith, sym (high position_room (code_of (refused k l) * position_room) moved (omega (arith, h))) ∙ ap (λ (m : ℕ). m / position_room) (sym c) ∙ e, n.0))
 
-  code_on : (x : ReadOutcome) → (read_code x moved / position_room ≡ 1 → ⊥) → is_the_end x ≡ false
-  code_on (a_record p) e = refl
-  code_on the_end e = absurd (e (high position_room 1 moved (omega (arith, h))))
-  code_on (a_refusal k l) e = refl
-
--- so does a filed one's, and both tell the bytes moved past
+-- so does a filed one's
 module _ (page : List ℕ) (at : ℕ) where
   abbrev past : ℕ
   past = (read_at page at).next - at
@@ -79,28 +76,35 @@ module _ (page : List ℕ) (at : ℕ) where
       let e : k * causes_unit + past ≡ 2 * k * position_room + past = omega arith in
       ap (λ (m : ℕ). m / position_room) e ∙ high position_room (2 * k) past (omega (arith, past_few))
 
-  caused_low : (k : ℕ) → (k * causes_unit + past) % position_room ≡ past
-  caused_low k =
-      let e : k * causes_unit + past ≡ 2 * k * position_room + past = omega arith in
-      ap (λ (m : ℕ). m % position_room) e ∙ low position_room (2 * k) past (omega (arith, past_few))
-
-  answer_moved : (files : Bool) (x : ReadOutcome) → answer_by files page (read_here page at) x % position_room ≡ past
-  answer_moved true (a_record p) = caused_low (causes_code (causes_by page at (a_record p)))
-  answer_moved true the_end = read_moved the_end past past_few
-  answer_moved true (a_refusal k n) = read_moved (a_refusal k n) past past_few
-  answer_moved false x = read_moved x past past_few
-
   pub answer_end : (files : Bool) (x : ReadOutcome) → Named (reply_of x) → answer_by files page (read_here page at) x / position_room ≡ 1 → is_the_end x ≡ true
   answer_end true (a_record p) n e = let k = causes_code (causes_by page at (a_record p)) in absurd (omega (arith, sym (caused_high k) ∙ e))
   answer_end true the_end n e = refl
   answer_end true (a_refusal k l) n e = code_end past past_few (a_refusal k l) n e
   answer_end false x n e = code_end past past_few x n e
 
-  answer_on : (files : Bool) (x : ReadOutcome) → (answer_by files page (read_here page at) x / position_room ≡ 1 → ⊥) → is_the_end x ≡ false
-  answer_on true (a_record p) e = refl
-  answer_on true the_end e = code_on past past_few the_end e
-  answer_on true (a_refusal k l) e = refl
-  answer_on false x e = code_on past past_few x e
+-- ---- where the next read is
+next_by : (r : PageRead) (at : ℕ) → follows (outline r) at ≡ elim (is_last r at) [ true ↦ None | false ↦ Some r.next ]
+next_by r at = ap (λ (b : Bool). elim (b || eqb r.next at) as (λ b. Option ℕ) [ true ↦ None | false ↦ Some r.next ]) (go r.outcome)
+  where
+    go : (x : ReadOutcome) → ends (kind_of x) ≡ is_the_end x
+    go (a_record p) = refl
+    go the_end = refl
+    go (a_refusal k n) = refl
+
+module _ (r : PageRead) (at : ℕ) {o : Option ℕ} (e : o ≡ follows (outline r) at) where
+  pub none_last : o ≡ None → is_last r at ≡ true
+  none_last q = go (is_last r at) (sym q ∙ e ∙ next_by r at)
+    where
+      go : (b : Bool) → ◌≡◌ {A = Option ℕ} None (elim b [ true ↦ None | false ↦ Some r.next ]) → b ≡ true
+      go true h = refl
+      go false h = cc
+
+  pub some_next : {n : ℕ} → o ≡ Some n → (is_last r at ≡ false) × (n ≡ r.next)
+  some_next {n} q = go (is_last r at) (sym q ∙ e ∙ next_by r at)
+    where
+      go : (b : Bool) → Some n ≡ elim b [ true ↦ None | false ↦ Some r.next ] → (b ≡ false) × (n ≡ r.next)
+      go true h = absurd cc
+      go false h = (refl, cc)
 
 -- ---- the run
 module _ (files : Bool) (page : List ℕ) where
@@ -163,35 +167,6 @@ module _
     fits : 0 + length whole ≤ length answers
     fits = omega (arith, run_length (step_by files page) (open_page buffer 0) (reads page), reads_most page, t.room)
 
-    -- the answer, and what it tells: the bytes moved past, and the end
-    abbrev c : Step OpenPage ReadOutcome
-    c = outcome_by files s (read_at page at).outcome
-
-    number : answer ≡ answer_by files page (read_here page at) c.answer
-    number = ap (λ (x : Step OpenPage ℕ). x.answer) t.step
-
-    pub to_next : at + answer % position_room ≡ (read_at page at).next
-    to_next = omega (arith, ap (λ (n : ℕ). n % position_room) number ∙ answer_moved page at files c.answer, onward_from page at)
-
-    end_by : {b : Bool} → is_the_end c.answer ≡ b → is_the_end (read_at page at).outcome ≡ b
-    end_by e = sym (ended_by files s (read_at page at).outcome) ∙ e
-
-    -- the last read, which is the end or stays, and any other
-    pub at_end : answer / position_room ≡ 1 → is_last (read_at page at) at ≡ true
-    at_end e = rw (end_by (answer_end page at files c.answer (named_by files s (read_at page at).outcome (page_line page at)) (ap (λ (n : ℕ). n / position_room) (sym number) ∙ e)))
-
-    no_end : (answer / position_room ≡ 1 → ⊥) → is_the_end (read_at page at).outcome ≡ false
-    no_end e = end_by (answer_on page at files c.answer (λ q. e (ap (λ (n : ℕ). n / position_room) number ∙ q)))
-
-    pub at_stay : (answer / position_room ≡ 1 → ⊥) → answer % position_room ≡ 0 → is_last (read_at page at) at ≡ true
-    at_stay e f = rw (no_end e, eq-eqb (read_at page at).next at (omega (arith, to_next, f)))
-
-    pub goes_on : (answer / position_room ≡ 1 → ⊥) → (answer % position_room ≡ 0 → ⊥) → is_last (read_at page at) at ≡ false
-    goes_on e f = rw (no_end e, ne_eqb (read_at page at).next at (λ g. f (omega (arith, to_next, g))))
-
-    pub next_within : is_last (read_at page at) at ≡ false → (at < at + answer % position_room) × (at + answer % position_room ≤ length page)
-    next_within e = let d = read_moves page at e in (omega (arith, to_next, d.0), omega (arith, to_next, d.1))
-
     -- it is stored, whatever is left
     stores : (later : List ℕ) → (left files page s at).answers ≡ (turn files page s at).answer ∷ later → Partway answers 0 whole (set numbers count answer) (count + 1) later
     stores later e =
@@ -206,15 +181,15 @@ module _
           puts = finished (stores [] (ap (λ (x : Run OpenPage ℕ). x.answers) l));
         }
 
-    pub continues : is_last (read_at page at) at ≡ false → Partly files page buffer answers (open_page now position) (set numbers count answer) (at + answer % position_room) (count + 1)
-    continues e =
-        let later : left files page (turn files page s at).state (read_at page at).next ≡ left files page (open_page now position) (at + answer % position_room) = sym (λ j. left files page (t.step j).state (to_next j)) in
+    pub continues : is_last (read_at page at) at ≡ false → {to : ℕ} → to ≡ (read_at page at).next → Partly files page buffer answers (open_page now position) (set numbers count answer) to (count + 1)
+    continues e {to} q =
+        let later : left files page (turn files page s at).state (read_at page at).next ≡ left files page (open_page now position) to = sym (λ j. left files page (t.step j).state (q j)) in
         let l = left_next files page s at e in
-        let state : (left files page s at).state ≡ (left files page (open_page now position) (at + answer % position_room)).state = ap (λ (x : Run OpenPage ℕ). x.state) l ∙ ap (λ (x : Run OpenPage ℕ). x.state) later in
+        let state : (left files page s at).state ≡ (left files page (open_page now position) to).state = ap (λ (x : Run OpenPage ℕ). x.state) l ∙ ap (λ (x : Run OpenPage ℕ). x.state) later in
         record {
-          within = (next_within e).1;
+          within = omega (arith, q, (read_moves page at e).1);
           state = sym state ∙ t.inv.state;
-          stored = stores (left files page (open_page now position) (at + answer % position_room)).answers
+          stored = stores (left files page (open_page now position) to).answers
               (ap (λ (x : Run OpenPage ℕ). x.answers) l ∙ ap (λ (x : Run OpenPage ℕ). (turn files page s at).answer ∷ x.answers) later);
         }
 

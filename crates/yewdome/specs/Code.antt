@@ -1,5 +1,5 @@
 -- The working forms of the private functions: what keeps a number within 32 bits, and the loop over a page.
-use Rattle.std.specs.Prelude.{ℕ, ◌+◌, ◌≤◌, ◌<◌, ◌≡◌, Bool, true, false, List, Option, Result, Ok, Err, leb, length, ok_or}
+use Rattle.std.specs.Prelude.{ℕ, ◌+◌, ◌≤◌, ◌<◌, ◌≡◌, Bool, true, false, ◌||◌, List, Option, Some, None, Result, Ok, Err, leb, eqb, length, ok_or}
 use Rattle.errors.specs.declared.ParseError.{ParseError}
 use Rattle.errors.specs.Refusals.{Reply, accepted, refused, told_error}
 use Rattle.party.specs.declared.Party.{Party}
@@ -8,7 +8,7 @@ use Rattle.reader.specs.Options.{body_most}
 use Rattle.writer.specs.Writing.{written_field, field_most}
 use Rattle.writer.specs.Placing.{Measured, length_is, refused_with}
 use Rattle.writer.specs.Code.{Puts}
-use Rattle.page_reader.specs.Pages.{page_most, ReadOutcome, a_record, read_at, Kind, a_record_given, the_end_given, a_refusal_given}
+use Rattle.page_reader.specs.Pages.{page_most, ReadOutcome, a_record, read_at, Kind, a_record_given, the_end_given, a_refusal_given, Outline}
 use Rattle.page_reader.specs.Reads.{Read, reads}
 use Rattle.page_writer.specs.Adding.{with_lf, Filed, position_after, refusal}
 use Rattle.page_writer.specs.Fold.{Step, Run, run}
@@ -92,11 +92,31 @@ pub record WasRead (page : List ℕ) (at : ℕ) (bytes : List ℕ) : Type 0 wher
   pub read : (read_at page at).outcome ≡ a_record party
   pub loads : decoded bytes ≡ party
 
--- and filed: the bytes that the read moved past, and those that were written
-pub record WasFiled (page : List ℕ) (at : ℕ) (bytes : List ℕ) (moved written : ℕ) : Type 0 where
+-- with the bytes that the read moved past
+pub record IsRead (page : List ℕ) (at : ℕ) (bytes : List ℕ) (moved : ℕ) : Type 0 where
   pub was : WasRead page at bytes
   pub moves : (read_at page at).next ≡ at + moved
-  pub writes : written ≡ length (with_lf (written_field (content was.party)))
+
+-- and filed: with the bytes that were written
+pub record WasFiled (page : List ℕ) (at : ℕ) (bytes : List ℕ) (moved written : ℕ) : Type 0 where
+  pub given : IsRead page at bytes moved
+  pub writes : written ≡ length (with_lf (written_field (content given.was.party)))
+
+-- a read that gives a record
+abbrev pub is_record : Kind → Bool
+is_record a_record_given = true
+is_record the_end_given = false
+is_record (a_refusal_given k n) = false
+
+-- a read that gives the end
+abbrev pub ends : Kind → Bool
+ends a_record_given = false
+ends the_end_given = true
+ends (a_refusal_given k n) = false
+
+-- where the read after one is: nowhere after the end, or after one that does not move on
+abbrev pub follows : Outline → ℕ → Option ℕ
+follows r at = elim (ends r.kind || eqb r.next at) [ true ↦ None | false ↦ Some r.next ]
 
 -- a step of the code: its answer, with the buffer and the position that it left
 abbrev pub told_step : ℕ → List ℕ → ℕ → Step OpenPage ℕ

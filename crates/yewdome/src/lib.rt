@@ -3,24 +3,24 @@
 // the filing of a page give more beside it. A refusal changes no byte and no number that is lent.
 #![tactic(auto)]
 
-ghost use Rattle.std.specs.Prelude.{◌≡◌, ◌<◌, length, leb};
+ghost use Rattle.std.specs.Prelude.{◌≡◌, true, ◌+◌, ◌*◌, ◌<◌, ◌≤◌, length, leb};
 ghost use Rattle.std.specs.Bool.{then_some};
 ghost use Rattle.errors.specs.Refusals.{told_error};
 ghost use Rattle.party.specs.Limits.{option_at};
 ghost use Rattle.reader.specs.Reading.{told_answer};
-ghost use Rattle.page_reader.specs.Pages.{read_at, told_kind};
+ghost use Rattle.page_reader.specs.Pages.{page_most, read_at, outline, told_kind, told_read_into};
 ghost use Rattle.page_reader.specs.Reads.{read_here};
 ghost use Rattle.page_writer.specs.IndexState.{no_index, an_index};
 ghost use Rattle.kept.specs.Kept.{told_kept};
 ghost use Rattle.kept.specs.Fields.{causes_by};
 ghost use Rattle.yewdome.specs.Filing.{open_page};
-ghost use Rattle.yewdome.specs.Interface.{packed, code_of, argument_reply, stored_call, code_or, party_read, choice_at, party_parse, party_parse_with_variant, profile_read, profile_parse, profile_parse_with_variant, party_measure, party_place, page_read, causes_code, kept_read_code, kept_parse_code, kept_variant_code, page_kept, page_look_up, page_body, page_add, page_add_index, page_close, page_answers, page_file};
-ghost use Rattle.yewdome.specs.Code.{Named, allowed, checked, Small, answer_code, IsMove, move_code, step_by, WasRead, WasFiled, told_step, Walks};
+ghost use Rattle.yewdome.specs.Interface.{causes_unit, packed, code_of, argument_reply, stored_call, code_or, party_read, choice_at, party_parse, party_parse_with_variant, profile_read, profile_parse, profile_parse_with_variant, party_measure, party_place, page_read, causes_code, kept_read_code, kept_parse_code, kept_variant_code, page_kept, page_look_up, page_body, page_add, page_add_index, page_close, page_answers, page_file};
+ghost use Rattle.yewdome.specs.Code.{Named, allowed, checked, Small, answer_code, IsMove, move_code, step_by, is_record, follows, WasRead, IsRead, WasFiled, told_step, Walks};
 
 use errors::{ParseError, Refusal};
 use kept::{Causes, field_causes};
 use page_reader::index::{INDEX_SIZE, look_up_into};
-use page_reader::{body_place, read_at_into};
+use page_reader::{PageRead, body_place, read_at_into};
 use page_writer::{add_indexed_record, add_record, close};
 use party::{OPTION_COUNT, Party, PartyOption, option_at};
 use reader::choices::{Choice, parse_into, parse_with_variant_into};
@@ -31,7 +31,7 @@ use writer::{measure_record, place_record};
 // A position, a line of a body and how many bytes a read moved past are below this.
 const POSITION_ROOM: u32 = 65536;
 
-// A read's end: this and the bytes moved past. An answer below it is a record's, without causes.
+// A read's end: this and the bytes moved past.
 const READ_END: u64 = POSITION_ROOM as u64;
 
 // Beside these stand the causes of a field.
@@ -362,16 +362,33 @@ fn record_causes(page: &[u8], at: usize, bytes: &[u8]) -> u32
     causes_code(field_causes(option_of(bytes), present_of(bytes), page, at))
 }
 
+// Whether a read of a page gave a record.
+fn is_record(outcome: Result<Option<()>, ParseError>) -> bool
+    ensures { result ≡ is_record (told_kind outcome) }
+{
+    matches!(outcome, Ok(Some(())))
+}
+
+// The causes in a field whose record a read gave, and how many bytes it moved past, as a number.
+fn with_causes(causes: u32, moved: usize) -> u64
+    requires { moved ≤ page_most }
+    ensures { result ≡ causes * causes_unit + moved }
+{
+    u64::from(causes) * CAUSES_UNIT + moved as u64
+}
+
 // What `yewdome_page_read` gives at a position and, where that is a record, which is stored nowhere, the causes of its field × 131,072.
 pub fn yewdome_page_kept(page: &[u8], at: usize) -> u64
     ensures { result ≡ page_kept page.now at }
 {
     let mut record = [0; RECORD_SIZE];
-    let answer = yewdome_page_read(page, at, &mut record);
-    if READ_END <= answer {
-        return answer;
+    let read = read_at_into(page, at, &mut record);
+    let moved = read.next - at;
+    if is_record(read.outcome) {
+        with_causes(record_causes(page, at, &record), moved)
+    } else {
+        moved_past(read.outcome, moved)
     }
-    u64::from(record_causes(page, at, &record)) * CAUSES_UNIT + answer
 }
 
 // The causes in one that was filed besides, by the bytes that the read moved past and those that were written. Where more follows the field
@@ -386,23 +403,59 @@ fn filed_causes(page: &[u8], at: usize, bytes: &[u8], moved: usize, written: usi
     record_causes(page, at, bytes)
 }
 
-// Reads the page at a position and, where it files, adds the record that it gives to the page in the buffer, and moves that page's position on.
-fn step(page: &[u8], at: usize, files: bool, buf: &mut [u8], position: &mut usize) -> u64
-    ensures { told_step result buf.new position.new ≡ step_by files page.now (open_page buf.old position.old) (read_here page.now at) }
+// Adds the record that a read gave to the page in the buffer, and moves that page's position on: the read's answer.
+fn file(
+    page: &[u8],
+    at: usize,
+    bytes: &[u8],
+    moved: usize,
+    buf: &mut [u8],
+    position: &mut usize,
+) -> u64
+    requires { IsRead page.now at bytes.now moved }
+    ensures { told_step result buf.new position.new ≡ step_by true page.now (open_page buf.old position.old) (read_here page.now at) }
+{
+    match add_record(bytes, buf, *position) {
+        Ok(to) => {
+            let causes = filed_causes(page, at, bytes, moved, to - *position);
+            *position = to;
+            with_causes(causes, moved)
+        }
+        Err(e) => pack(code(e), moved as u32),
+    }
+}
+
+// Where the read after one is: nowhere after the end, or after one that does not move on.
+fn next_read(read: PageRead<()>, at: usize) -> Option<usize>
+    ensures { result ≡ follows (told_read_into read) at }
+{
+    match read.outcome {
+        Ok(None) => None,
+        _ => (read.next != at).then_some(read.next),
+    }
+}
+
+// Reads the page at a position and, where it files, adds the record that it gives to the page in the buffer. Gives the answer, and where the
+// next read is.
+fn step(
+    page: &[u8],
+    at: usize,
+    files: bool,
+    buf: &mut [u8],
+    position: &mut usize,
+) -> (u64, Option<usize>)
+    ensures answer { told_step result.0 buf.new position.new ≡ step_by files page.now (open_page buf.old position.old) (read_here page.now at) }
+    ensures next { result.1 ≡ follows (outline (read_at page.now at)) at }
 {
     let mut record = [0; RECORD_SIZE];
-    let answer = yewdome_page_read(page, at, &mut record);
-    if READ_END <= answer || !files {
-        return answer;
-    }
-    match add_record(&record, buf, *position) {
-        Ok(to) => {
-            let causes = filed_causes(page, at, &record, answer as usize, to - *position);
-            *position = to;
-            u64::from(causes) * CAUSES_UNIT + answer
-        }
-        Err(e) => pack(code(e), answer as u32),
-    }
+    let read = read_at_into(page, at, &mut record);
+    let moved = read.next - at;
+    let answer = if files && is_record(read.outcome) {
+        file(page, at, &record, moved, buf, position)
+    } else {
+        moved_past(read.outcome, moved)
+    };
+    (answer, next_read(read, at))
 }
 
 // Reads the page from its start, read after read, up to the last: the end, or one that does not move on. Where it files, adds the record of
@@ -414,13 +467,12 @@ fn walk(page: &[u8], files: bool, buf: &mut [u8], answers: &mut [u64]) -> (usize
     let mut at = 0;
     let mut position = 0;
     for (count, slot) in answers.iter_mut().enumerate() {
-        let answer = step(page, at, files, buf, &mut position);
+        let (answer, next) = step(page, at, files, buf, &mut position);
         *slot = answer;
-        let moved = (answer % READ_END) as usize;
-        if answer / READ_END == 1 || moved == 0 {
-            return (count + 1, position);
+        match next {
+            Some(next) => at = next,
+            None => return (count + 1, position),
         }
-        at += moved;
     }
     unreachable!()
 }

@@ -13,8 +13,11 @@ invariant-loop-b l = all legal l.input ≡ all legal (part l.b-index (length l.b
 
 abbrev pub invariant-lines : goal.invariant-lines
 invariant-lines l =
-    (l.count ≤ l.cursor.at) × Passed l.body l.limits.numbering l.limits.name_max l.start_idx l.kept (lines (drop l.initial.cursor.at l.body)) l.count l.parts l.digits (lines (drop l.cursor.at l.body))
-    × Marked l.body l.kept l.initial.cursor.at l.count l.cursor.at l.parts × (l.initial.cursor.at ≤ l.cursor.at)
+    let from = l.initial.lines in
+    let s = from.text.now in
+    (l.lines.text ≡ from.text) × (l.count ≤ l.lines.at)
+    × Passed s l.limits.numbering l.limits.name_max l.start_idx l.kept (lines (drop from.at s)) l.count l.parts l.digits (lines (drop l.lines.at s))
+    × Marked s l.kept from.at l.count l.lines.at l.parts × (from.at ≤ l.lines.at)
 
 abbrev pub decreases-lines : goal.decreases-lines
-decreases-lines l = length l.body - l.cursor.at
+decreases-lines l = length l.lines.text.now - l.lines.at

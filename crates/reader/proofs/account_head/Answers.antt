@@ -1,6 +1,5 @@
 -- `reader::account_head` meets its contract, by whether there is one. Assumes nothing.
 use mathlib.Core.Path.{◌≡◌, sym, ◌∙◌, ap}
-use mathlib.Core.Bool.{true}
 use lib.ListN.{drop}
 use Rattle.errors.specs.Refusals.{Reply}
 use Rattle.reader.specs.Code.{account_by}

@@ -15,7 +15,7 @@ use Rattle.reader.proofs.counts.Goals.{then-limits-lt2, else-limits-lt2}
 pub returns-then-limits-le2 : goal.returns-then-limits-le2
 returns-then-limits-le2 c =
     let o = c.args.option in
-    let s = c.args.body.now in
+    let s = c.args.rest.text.now in
     let e = c.limits_of-limits.ensures in
     elim c.if-limits-lt2.branch [
       | then-limits-lt2 w ↦ w.result-is ∙ lt-ltb _ _ w.if-limits-lt2.true ∙ sym (counts_open o e (length (lines s)) (omega (arith, c.requires, w.if-limits-lt2.true)) c.if-limits-eq0.true)
@@ -26,4 +26,4 @@ returns-then-limits-le2 c =
 
 pub overflow_add-n : goal.overflow_add-n
 overflow_add-n c =
-    omega (arith, c.count_lines-n.ensures ∙ ap (λ (l : List ℕ). length (lines l)) c.suffix.ensures, c.requires, lines_most c.args.body.now)
+    omega (arith, c.count_lines-n.ensures ∙ ap (λ (l : List ℕ). length (lines l)) c.rest.ensures, c.requires, lines_most c.args.rest.text.now)

@@ -19,10 +19,10 @@ use Rattle.reader.proofs.read_names.Goals.{After-parse_name_and_address}
 -- the lines that are read as names, and what is said of them
 module _ (p : After-parse_name_and_address) where
   abbrev names : List (List ℕ)
-  names = lines (drop p.args.later.from.at p.args.body.now)
+  names = lines (drop p.args.later.lines.at p.args.later.lines.text.now)
 
   abbrev head : Head
-  head = head_at p.args.body.now p.args.later.account
+  head = head_at p.args.later.lines.text.now p.args.later.account
 
   says : {w : NamesRead} → w ≡ read_names p.args.option (suc p.args.later.start_idx) names → parse_name_and_address p.args.option (suc p.args.later.start_idx) names ≡ w.reply
   says e = sym (names_reply p.args.option (suc p.args.later.start_idx) names) ∙ sym (ap (λ (w : NamesRead). w.reply) e)
@@ -32,7 +32,7 @@ returns-in_err-names c =
     let a = c.args in
     let at = (goal.at.returns-in_err-names c).After-parse_name_and_address in
     rw (exits c.from_residual.ensures.1)
-    (refusing a.option (with_names a.option (suc a.later.start_idx) (head at) (names at)) a.body.now c.in_err-names.field-0.0 (says at c.in_err-names.ensures.result_value))
+    (refusing a.option (with_names a.option (suc a.later.start_idx) (head at) (names at)) a.later.lines.text.now c.in_err-names.field-0.0 (says at c.in_err-names.ensures.result_value))
 
 pub returns : goal.returns
 unfolding party_in
@@ -42,16 +42,16 @@ returns c =
     let n = c.in_ok-names.names in
     let passed = says at c.in_ok-names.ensures.result_value in
     let made : Parts = record { account = c.unwrap_or.result; bic = record { start = 0; len = 0 }; name_and_address = n.parts; count = n.count; digits = n.digits; option = a.option; present = c.is_some.result } in
-    let same : ◌≡◌ {A = Party} (party_in a.body.now made)
-    (record { option = a.option; present = (head at).present; account = text_of (head at).text; bic = text_of []; count = n.count; name_and_address = texts_in a.body.now n.parts; digits = n.digits }) =
+    let same : ◌≡◌ {A = Party} (party_in a.later.lines.text.now made)
+    (record { option = a.option; present = (head at).present; account = text_of (head at).text; bic = text_of []; count = n.count; name_and_address = texts_in a.later.lines.text.now n.parts; digits = n.digits }) =
     λ i. record {
       option = a.option;
-      present = (c.is_some.ensures ∙ head_present a.body.now a.later.account) i;
-      account = text_of ((ap (part_in a.body.now) c.unwrap_or.ensures ∙ head_text a.body.now a.later.account) i);
+      present = (c.is_some.ensures ∙ head_present a.later.lines.text.now a.later.account) i;
+      account = text_of ((ap (part_in a.later.lines.text.now) c.unwrap_or.ensures ∙ head_text a.later.lines.text.now a.later.account) i);
       bic = text_of [];
       count = n.count;
-      name_and_address = texts_in a.body.now n.parts;
+      name_and_address = texts_in a.later.lines.text.now n.parts;
       digits = n.digits;
     } in
-    accepting a.option (with_names a.option (suc a.later.start_idx) (head at) (names at)) a.body.now made passed
+    accepting a.option (with_names a.option (suc a.later.start_idx) (head at) (names at)) a.later.lines.text.now made passed
     (same ∙ party_named a.option (suc a.later.start_idx) (head at) (names at) passed refl refl c.in_ok-names.ensures.result_value)

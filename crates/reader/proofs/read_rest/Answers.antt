@@ -12,11 +12,11 @@ returns-then-limits_of-eq0 c =
     let a = c.args in
     c.read_bic.ensures
     ∙ ap (reading_of a.option)
-    (sym (rest_bic a.option c.limits_of.ensures (suc a.later.start_idx) (head_at a.body.now a.later.account) (lines (drop a.later.from.at a.body.now)) c.if-limits_of-eq0.true))
+    (sym (rest_bic a.option c.limits_of.ensures (suc a.later.start_idx) (head_at a.later.lines.text.now a.later.account) (lines (drop a.later.lines.at a.later.lines.text.now)) c.if-limits_of-eq0.true))
 
 pub returns-else-limits_of-eq0 : goal.returns-else-limits_of-eq0
 returns-else-limits_of-eq0 c =
     let a = c.args in
     c.read_names.ensures
     ∙ ap (reading_of a.option)
-    (sym (rest_names a.option c.limits_of.ensures (suc a.later.start_idx) (head_at a.body.now a.later.account) (lines (drop a.later.from.at a.body.now)) c.if-limits_of-eq0.false))
+    (sym (rest_names a.option c.limits_of.ensures (suc a.later.start_idx) (head_at a.later.lines.text.now a.later.account) (lines (drop a.later.lines.at a.later.lines.text.now)) c.if-limits_of-eq0.false))

@@ -1,44 +1,43 @@
--- `yewdome::step` meets its contract, by what the read and the add give. Assumes nothing.
-use Prim.Native.Nat.{◌-◌, ◌≤◌}
-use mathlib.Core.Path.{◌∙◌}
-use Rattle.yewdome.specs.Code.{WasFiled}
-use Rattle.yewdome.proofs.Steps.{read, none_given, not_filed, add_small, filed_as_lem, was_filed, was_refused}
+-- `yewdome::step` meets its contract, by what the read gives and what became of its record. Assumes nothing.
+use mathlib.Core.Path.{sym, ◌∙◌, ap}
+use mathlib.Core.Bool.{Bool}
+use Rattle.page_reader.specs.Pages.{Outline}
+use Rattle.page_reader.specs.Reads.{read_here}
+use Rattle.yewdome.specs.Filing.{open_page}
+use Rattle.yewdome.specs.Code.{step_by, follows, told_step}
+use Rattle.yewdome.proofs.Steps.{read, onward, is_move, is_read, none_filed}
 use Rattle.yewdome.proofs.step.Goals as goal
-use Rattle.yewdome.proofs.step.Goals.{then-answer-ge-READ_END-via-then-answer-ge-READ_END, then-answer-ge-READ_END-via-else-answer-ge-READ_END+then-not-files, In-Ok}
+use Rattle.yewdome.proofs.step.Goals.{then-files+then-is_record, else-files, else-files-via-then-files+else-is_record, else-files-via-else-files}
 
--- a record that was filed
-filed : (c : In-Ok) → let a = c.args in
-    (a.position.now ≤ c.in-Ok.to) × WasFiled a.page.now a.at c.yewdome_page_read-answer.new.record c.yewdome_page_read-answer.result (c.in-Ok.to - a.position.now)
-filed c =
+pub overflow_sub-moved : goal.overflow_sub-moved
+overflow_sub-moved c =
     let a = c.args in
-    filed_as_lem (read a.page.now a.at c.yewdome_page_read-answer.ensures) a.files a.buf.now a.position.now c.if-not-files.false c.if-answer-ge-READ_END.false c.add_record.result c.add_record.ensures c.in-Ok.is
+    (onward (read a.page.now a.at c.read_at_into-read.ensures.result_value c.read_at_into-read.ensures.bytes)).0
 
-pub returns-then-answer-ge-READ_END : goal.returns-then-answer-ge-READ_END
-returns-then-answer-ge-READ_END c =
+pub file-answer-requires : goal.file-answer-requires
+file-answer-requires c =
     let a = c.args in
-    let g = read a.page.now a.at c.yewdome_page_read-answer.ensures in
-    elim c.then-answer-ge-READ_END.branch [
-      | then-answer-ge-READ_END-via-then-answer-ge-READ_END w ↦ none_given g a.files a.buf.now a.position.now w.if-answer-ge-READ_END.true
-      | then-answer-ge-READ_END-via-else-answer-ge-READ_END+then-not-files w ↦ not_filed g a.files a.buf.now a.position.now w.if-not-files.true
-    ]
+    is_read (read a.page.now a.at c.read_at_into-read.ensures.result_value c.read_at_into-read.ensures.bytes) (sym c.is_record.ensures ∙ c.if-is_record.true)
 
-pub overflow_sub-to : goal.overflow_sub-to
-overflow_sub-to c = (filed (goal.at.overflow_sub-to c).In-Ok).0
-
-pub filed_causes-causes-requires : goal.filed_causes-causes-requires
-filed_causes-causes-requires c = (filed (goal.at.filed_causes-causes-requires c).In-Ok).1
-
-pub code-requires : goal.code-requires
-code-requires c =
+pub moved_past-answer-requires : goal.moved_past-answer-requires
+moved_past-answer-requires c =
     let a = c.args in
-    rw c.in-Err.is at (add_small (read a.page.now a.at c.yewdome_page_read-answer.ensures) a.files a.buf.now a.position.now c.if-not-files.false c.if-answer-ge-READ_END.false c.add_record.result c.add_record.ensures)
+    is_move (read a.page.now a.at c.read_at_into-read.ensures.result_value c.read_at_into-read.ensures.bytes)
 
-pub returns-in-Ok : goal.returns-in-Ok
-returns-in-Ok c =
+pub returns : goal.returns
+returns c =
     let a = c.args in
-    was_filed (read a.page.now a.at c.yewdome_page_read-answer.ensures) a.files a.buf.now a.position.now c.if-not-files.false c.if-answer-ge-READ_END.false c.add_record.result c.add_record.ensures c.in-Ok.is (c.from.ensures ∙ c.filed_causes-causes.ensures)
-
-pub returns-in-Err : goal.returns-in-Err
-returns-in-Err c =
-    let a = c.args in
-    rw c.pack.ensures (was_refused (read a.page.now a.at c.yewdome_page_read-answer.ensures) a.files a.buf.now a.position.now c.if-not-files.false c.if-answer-ge-READ_END.false c.add_record.result c.add_record.ensures c.in-Err.is c.code.ensures)
+    let g = (read a.page.now a.at c.read_at_into-read.ensures.result_value c.read_at_into-read.ensures.bytes) in
+    record {
+      answer = elim c.if-files.branch [
+        | then-files+then-is_record w ↦ (λ i. told_step (w.answer-is i) (w.buf-is i) (w.position-is i)) ∙ w.file-answer.ensures
+            ∙ ap (λ (b : Bool). step_by b a.page.now (open_page a.buf.now a.position.now) (read_here a.page.now a.at)) (sym w.if-files.true)
+        | else-files w ↦ (λ i. told_step (w.answer-is i) (w.buf-is i) (w.position-is i))
+            ∙ none_filed g a.files a.buf.now a.position.now
+            (elim w.else-files.branch [
+              | else-files-via-then-files+else-is_record v ↦ rw v.if-files.true (sym v.is_record.ensures ∙ v.if-is_record.false)
+              | else-files-via-else-files v ↦ rw v.if-files.false
+            ]) w.moved_past-answer.ensures
+      ];
+      next = c.next_read.ensures ∙ ap (λ (y : Outline). follows y a.at) g.gave;
+    }

@@ -1,19 +1,34 @@
 -- `yewdome::yewdome_page_kept` meets its contract, by what the read gives. Assumes nothing.
-use mathlib.Core.Path.{◌∙◌}
-use Rattle.yewdome.proofs.Steps.{read, was_read, kept_none, kept_some}
+use mathlib.Core.Path.{sym, ◌∙◌}
+use Rattle.yewdome.proofs.Steps.{read, onward, is_move, is_read, moved_few, kept_none, kept_some}
 use Rattle.yewdome.proofs.yewdome_page_kept.Goals as goal
 
-pub returns-then-answer-ge-READ_END : goal.returns-then-answer-ge-READ_END
-returns-then-answer-ge-READ_END c =
+pub overflow_sub-moved : goal.overflow_sub-moved
+overflow_sub-moved c =
     let a = c.args in
-    kept_none (read a.page.now a.at c.yewdome_page_read-answer.ensures) c.if-answer-ge-READ_END.true
+    (onward (read a.page.now a.at c.read_at_into-read.ensures.result_value c.read_at_into-read.ensures.bytes)).0
 
 pub record_causes-requires : goal.record_causes-requires
 record_causes-requires c =
     let a = c.args in
-    was_read (read a.page.now a.at c.yewdome_page_read-answer.ensures) c.if-answer-ge-READ_END.false
+    (is_read (read a.page.now a.at c.read_at_into-read.ensures.result_value c.read_at_into-read.ensures.bytes) (sym c.is_record.ensures ∙ c.if-is_record.true)).was
 
-pub returns : goal.returns
-returns c =
+pub with_causes-requires : goal.with_causes-requires
+with_causes-requires c =
     let a = c.args in
-    kept_some (read a.page.now a.at c.yewdome_page_read-answer.ensures) c.if-answer-ge-READ_END.false (c.from.ensures ∙ c.record_causes.ensures)
+    moved_few (is_read (read a.page.now a.at c.read_at_into-read.ensures.result_value c.read_at_into-read.ensures.bytes) (sym c.is_record.ensures ∙ c.if-is_record.true))
+
+pub moved_past-requires : goal.moved_past-requires
+moved_past-requires c =
+    let a = c.args in
+    is_move (read a.page.now a.at c.read_at_into-read.ensures.result_value c.read_at_into-read.ensures.bytes)
+
+pub returns-then-is_record : goal.returns-then-is_record
+returns-then-is_record c =
+    let a = c.args in
+    c.with_causes.ensures ∙ kept_some (read a.page.now a.at c.read_at_into-read.ensures.result_value c.read_at_into-read.ensures.bytes) (sym c.is_record.ensures ∙ c.if-is_record.true) c.record_causes.ensures
+
+pub returns-else-is_record : goal.returns-else-is_record
+returns-else-is_record c =
+    let a = c.args in
+    kept_none (read a.page.now a.at c.read_at_into-read.ensures.result_value c.read_at_into-read.ensures.bytes) (sym c.is_record.ensures ∙ c.if-is_record.false) c.moved_past.ensures

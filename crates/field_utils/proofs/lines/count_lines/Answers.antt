@@ -1,22 +1,13 @@
--- `lines::count_lines` meets its contract: the lines counted and those left are all of them. Assumes nothing.
-use Rattle.std.proofs.Common.{length, ap, arith}
-use Rattle.field_utils.proofs.Places.{Found, found}
+-- `lines::count_lines` meets its contract: a run of the iterator from the first byte on gives all lines. Assumes nothing.
+use Rattle.std.proofs.Common.{length, drop, sym, ap, ◌∙◌}
+use lib.ListN.{length-map}
+use Rattle.party.specs.Text.{part_in}
+use Rattle.field_utils.specs.Lines.{lines}
+use Rattle.field_utils.proofs.Places.{drained}
 use Rattle.field_utils.proofs.lines.count_lines.Goals as goal
-use Rattle.field_utils.proofs.lines.count_lines.Goals.{In-Some}
-
--- what the line that was found says
-fits : (c : In-Some) → Found c.args.s.now c.loop-line.cursor.at c.in-Some.line.start c.in-Some.line.end c.in-Some.line.rest.at
-fits c = found c.args.s.now c.loop-line.cursor.at c.next.ensures c.in-Some.is
-
-pub loop-line-smaller : goal.loop-line-smaller
-loop-line-smaller c = let at = (goal.at.loop-line-smaller c).In-Some in omega (arith, (fits at).moved, (fits at).within)
-
-pub loop-line-preserved : goal.loop-line-preserved
-loop-line-preserved c =
-    let at = (goal.at.loop-line-preserved c).In-Some in
-    omega (arith, (fits at).moved, (fits at).within, ap length (fits at).line, c.loop-line.invariant.2)
 
 pub returns : goal.returns
 returns c =
-    let none = (found c.args.s.now c.loop-line.cursor.at c.next.ensures c.in_default.is).0 in
-    omega (arith, c.loop-line.invariant.2, ap length none)
+    let (ps, run, e) = c.count.ensures.ran in
+    let w = c.lines_of.result in
+    e ∙ sym (length-map ps (part_in w.text.now)) ∙ ap length (drained w ps run) ∙ ap length (λ i. lines (drop (c.lines_of.ensures.at i) (c.lines_of.ensures.text i)))

@@ -26,7 +26,7 @@ module _ (c : After-trials_of-option-items) where
   text = c.tried_text-text.result.now
 
   abbrev asked : List (List ℕ)
-  asked = lines c.summarize-seen.result.text.now
+  asked = lines c.summarize-seen.result.rest.text.now
 
   abbrev tried : List Trial
   tried = c.trials_of-option-items.result.now

@@ -8,5 +8,5 @@ use Rattle.reader.proofs.choices.first_that.Given as goal
 
 abbrev pub invariant-loop-option : goal.invariant-loop-option
 invariant-loop-option l =
-    let ls = lines l.seen.text.now in
+    let ls = lines l.seen.rest.text.now in
     (l.record ≡ l.initial.record) × (first_that (open_of l.text ls l.option-items) l.text ≡ first_that (open_of l.text ls (drop l.option-index l.option-items)) l.text)

@@ -8,9 +8,9 @@ use Rattle.reader.proofs.choices.LineSummary.bic_line_length.Goals as goal
 pub returns-then-starts_with_slash : goal.returns-then-starts_with_slash
 returns-then-starts_with_slash c =
     let w = c.args.self.now in
-    w.second_length ∙ ap (length {A = ℕ}) (sym (test_second w.text.now c.starts_with_slash.ensures c.if-starts_with_slash.true))
+    w.second_length ∙ ap (length {A = ℕ}) (sym (test_second w.rest.text.now c.starts_with_slash.ensures c.if-starts_with_slash.true))
 
 pub returns-else-starts_with_slash : goal.returns-else-starts_with_slash
 returns-else-starts_with_slash c =
     let w = c.args.self.now in
-    w.first_length ∙ ap (length {A = ℕ}) (sym (test_first w.text.now c.starts_with_slash.ensures c.if-starts_with_slash.false))
+    w.first_length ∙ ap (length {A = ℕ}) (sym (test_first w.rest.text.now c.starts_with_slash.ensures c.if-starts_with_slash.false))

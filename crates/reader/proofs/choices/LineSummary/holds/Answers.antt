@@ -18,18 +18,18 @@ known text e f = f ∙ ap (λ (t : Test). holds t (lines text)) (sym e)
 
 pub returns-in-LaterNumbered : goal.returns-in-LaterNumbered
 returns-in-LaterNumbered c =
-    let text = c.args.self.now.text.now in
+    let text = c.args.self.now.rest.text.now in
     known text c.in-LaterNumbered.is (c.later_numbered.ensures ∙ sym (later_two (lines text)))
 
 pub returns-then-self-eq2 : goal.returns-then-self-eq2
 returns-then-self-eq2 c =
     let w = c.args.self.now in
-    let ls = lines w.text.now in
+    let ls = lines w.rest.text.now in
     let n : length ls ≡ 2 = omega (arith, w.counted, length-take 3 ls, c.if-self-eq2.true) in
-    known w.text.now c.in-SlashFirstOfTwo.is (rw (n, slash_at w.text.now, and-true) c.starts_with_slash.ensures)
+    known w.rest.text.now c.in-SlashFirstOfTwo.is (rw (n, slash_at w.rest.text.now, and-true) c.starts_with_slash.ensures)
 
 pub returns-then-self-ge2 : goal.returns-then-self-ge2
 returns-then-self-ge2 c =
     let w = c.args.self.now in
-    let ls = lines w.text.now in
-    known w.text.now c.in-SlashFirst.is (rw (le-leb 2 (length ls) (omega (arith, w.counted, length-take 3 ls, c.if-self-ge2.true)), slash_at w.text.now) c.starts_with_slash-then-self-ge2.ensures)
+    let ls = lines w.rest.text.now in
+    known w.rest.text.now c.in-SlashFirst.is (rw (le-leb 2 (length ls) (omega (arith, w.counted, length-take 3 ls, c.if-self-ge2.true)), slash_at w.rest.text.now) c.starts_with_slash-then-self-ge2.ensures)

@@ -12,10 +12,10 @@ pub returns-then-limits_of-self : goal.returns-then-limits_of-self
 returns-then-limits_of-self c =
     let w = c.args.self.now in
     w.first_length
-    ∙ ap (length {A = ℕ}) (sym (short_long (lines w.text.now) (omega (arith, ap (λ (m : Limits). m.account_max) c.limits_of.ensures))))
+    ∙ ap (length {A = ℕ}) (sym (short_long (lines w.rest.text.now) (omega (arith, ap (λ (m : Limits). m.account_max) c.limits_of.ensures))))
 
 pub returns-else-limits_of-self : goal.returns-else-limits_of-self
 returns-else-limits_of-self c =
     let w = c.args.self.now in
     c.bic_line_length.ensures
-    ∙ ap (length {A = ℕ}) (sym (short_fits (lines w.text.now) (omega (arith, ap (λ (m : Limits). m.account_max) c.limits_of.ensures))))
+    ∙ ap (length {A = ℕ}) (sym (short_fits (lines w.rest.text.now) (omega (arith, ap (λ (m : Limits). m.account_max) c.limits_of.ensures))))
