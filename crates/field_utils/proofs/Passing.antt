@@ -1,5 +1,6 @@
 -- Places that no LF stands between. Assumes nothing.
 use Rattle.std.proofs.Common.{◌≡◌, ℕ, zero, suc, ◌+◌, ◌*◌, ◌<◌, ◌≤◌, Bool, true, false, eqb, List, [], ◌∷◌, length, get_or, take, drop, sym, refl, ap, ◌∙◌, subst, arith, length-drop, drop-drop}
+use Rattle.std.specs.List.{AllWithin}
 use Rattle.std.specs.Simd.{first_chunks}
 use Rattle.field_utils.specs.Lines.{upto}
 use Rattle.field_utils.specs.Words.{Passed}
@@ -56,3 +57,12 @@ chunk_at n (suc k) s zero h = let z : 0 * n ≡ 0 = omega arith in rw z
 chunk_at n (suc k) s (suc i) h =
     let more : n + i * n ≡ suc i * n = omega arith in
     chunk_at n k (drop n s) i (omega (arith, h)) ∙ ap (take n) (drop-drop (i * n) n s ∙ ap (λ (m : ℕ). drop m s) more)
+
+-- the first k of m blocks, where none of them has an LF
+pub passed_blocks : (m k : ℕ) (s : List ℕ) (from : ℕ) → from + m * 256 ≤ length s → k ≤ m → AllWithin (λ block. upto 10 block ≡ 256) (first_chunks 256 m (drop from s)) 0 k → Passed s from (from + 256 * k)
+passed_blocks m zero s from h l e = passed_none s from _ (omega arith) (omega arith)
+passed_blocks m (suc k) s from h l e =
+    let block = chunk_at 256 m (drop from s) k (omega arith) ∙ ap (take 256) (drop-drop (k * 256) from s) in
+    let here : from + 256 * k ≡ from + k * 256 = omega arith in
+    let before = passed_blocks m k s from h (omega arith) (λ i d a b. e i d a (omega arith)) in
+    passed_more (subst (Passed s from) here before) (passed_part s (from + k * 256) 256 _ (omega arith) (omega arith) (sym (ap (upto 10) block) ∙ e k [] (omega arith) (omega arith)))

@@ -6,7 +6,6 @@ use Rattle.std.specs.Option.{unwrap_or}
 use Rattle.std.proofs.lemmas.Iterator.{index_from_first}
 use mathlib.Core.Bool.{and-false}
 use lib.Seq.{drop-length, take-length, take_all}
-use Rattle.swift_utils.proofs.Parts.{part, part_length, part_at}
 use Rattle.party.specs.declared.Part.{Part}
 use Rattle.party.specs.Text.{part_in}
 use Rattle.field_utils.specs.declared.lines.Lines.{Lines}
@@ -234,11 +233,3 @@ drained s ps (t, (u, run, last)) = go s ps run
     go s (p ∷ ps) (j, g, more) =
         ap (λ (x : Bor (List ℕ)). part_in s.text.now p ∷ map (part_in x.now) ps) (sym g.text)
         ∙ ap (◌∷◌ (part_in s.text.now p)) (go j ps more ∙ ap (λ (x : Bor (List ℕ)). lines (drop j.at x.now)) g.text) ∙ sym (found g refl).line
-
--- where a line ends that runs to a place, by whether the byte before that place is a CR
-pub line_end_lem : (s : List ℕ) (start to : ℕ) (t : Bool) → start < to → to ≤ length s → eqb (get_or s (to - 1) 0) 13 ≡ t
-    → start + length (without_cr (part start to s)) + elim t [ true ↦ 1 | false ↦ 0 ] ≡ to
-line_end_lem s start to t h k e =
-    let n = to - start - 1 in
-    let p : start + n ≡ to - 1 = omega arith in
-    omega (arith, without_cr_length (part start to s) n t (omega (arith, part_length start to s k)) (rw (part_at start to s n (omega arith), p) e))

@@ -11,10 +11,9 @@ use swift_utils::{
 pub mod lines;
 mod words;
 
-ghost use Rattle.std.specs.Prelude.{◌≡◌, ℕ, suc, ◌+◌, ◌^◌, ◌<◌, true, List, length, drop, ◌==◌, slice_index, IfOk, MatchOption, ◌≤◌};
+ghost use Rattle.std.specs.Prelude.{◌≡◌, suc, ◌+◌, ◌^◌, ◌<◌, true, length, drop, ◌==◌, slice_index, IfOk, MatchOption, ◌≤◌};
 ghost use Rattle.errors.specs.Refusals.{accepted, told, must};
 ghost use Rattle.party.specs.Limits.{limits_of};
-ghost use Rattle.party.specs.Text.{texts_in};
 ghost use Rattle.swift_utils.specs.Bytes.{among, all, legal};
 ghost use Rattle.field_utils.specs.Lines.{starts, upto, lines as lines_of};
 ghost use Rattle.field_utils.specs.Identifier.{is_numbered, told_identifier, parse_party_identifier, identifier_reply};
@@ -103,46 +102,64 @@ pub fn skip_of(numbering: Numbering) -> usize
     }
 }
 
-// The number of a line that is the turn-th of the names: 5, then 6.
-fn parse_number(
-    input: &[u8],
+// A line of the names: its bytes, its number in the body, and its place among the names from 1.
+#[derive(Clone, Copy)]
+struct NameLine<'a> {
+    text: &'a [u8],
     line: usize,
     turn: usize,
-    numbering: Numbering,
-) -> Result<(), ParseError>
-    requires { turn < 2 ^ 63 }
-    ensures { told result ≡ parse_number numbering line turn input.now }
-{
-    match numbering {
-        Numbering::Unnumbered => Ok(()),
-        Numbering::Numbered => parse_digit(input, line),
-        Numbering::InTurn => {
-            parse_digit(input, line)?;
-            parse_turn(input, line, turn)
+    ghost small: { turn < 2 ^ 63 },
+}
+
+impl NameLine<'_> {
+    // Its number: 5, then 6.
+    fn parse_number(&self, numbering: Numbering) -> Result<(), ParseError>
+        ensures { told result ≡ parse_number numbering self.now.line self.now.turn self.now.text.now }
+    {
+        match numbering {
+            Numbering::Unnumbered => Ok(()),
+            Numbering::Numbered => self.parse_digit(),
+            Numbering::InTurn => {
+                self.parse_digit()?;
+                self.parse_turn()
+            }
         }
     }
-}
 
-// A digit, then a slash, or 5.
-fn parse_digit(input: &[u8], line: usize) -> Result<(), ParseError>
-    ensures { told result ≡ must (is_numbered input.now) 5 line }
-{
-    if is_numbered_line(input) {
-        Ok(())
-    } else {
-        Err(ParseError::NotNumbered(line))
+    // A digit, then a slash, or 5.
+    fn parse_digit(&self) -> Result<(), ParseError>
+        ensures { told result ≡ must (is_numbered self.now.text.now) 5 self.now.line }
+    {
+        if is_numbered_line(self.text) {
+            Ok(())
+        } else {
+            Err(ParseError::NotNumbered(self.line))
+        }
     }
-}
 
-// The digit of the turn, or 6.
-fn parse_turn(input: &[u8], line: usize, turn: usize) -> Result<(), ParseError>
-    requires { (turn < 2 ^ 63) × (0 < length input.now) }
-    ensures { told result ≡ must (slice_index input.now 0 == 48 + turn) 6 line }
-{
-    if input[0] as usize == 48 + turn {
+    // The digit of the turn, or 6.
+    fn parse_turn(&self) -> Result<(), ParseError>
+        requires { 0 < length self.now.text.now }
+        ensures { told result ≡ must (slice_index self.now.text.now 0 == 48 + self.now.turn) 6 self.now.line }
+    {
+        if self.text[0] as usize == 48 + self.turn {
+            Ok(())
+        } else {
+            Err(ParseError::OutOfTurn(self.line))
+        }
+    }
+
+    // Before its bytes: its number, then the length of its text (4).
+    #[tactic(auto, using(crate::proofs::NameLines::number_room))]
+    fn parse_line(&self, limits: &Limits) -> Result<(), ParseError>
+        ensures { told result ≡ parse_shape limits.now.numbering limits.now.name_max self.now.line self.now.turn self.now.text.now }
+    {
+        let numbering = limits.numbering;
+        self.parse_number(numbering)?;
+        if limits.name_max < self.text.len() - skip_of(numbering) {
+            return Err(ParseError::TooLong(self.line));
+        }
         Ok(())
-    } else {
-        Err(ParseError::OutOfTurn(line))
     }
 }
 
@@ -155,20 +172,6 @@ pub fn parse_count(count: usize, most: usize) -> Result<(), ParseError>
     } else {
         Err(ParseError::NameCount)
     }
-}
-
-// A line of names before its bytes: its number, then the length of its text (4).
-#[tactic(auto, using(crate::proofs::NameLines::number_room))]
-fn parse_line(input: &[u8], line: usize, turn: usize, limits: &Limits) -> Result<(), ParseError>
-    requires { turn < 2 ^ 63 }
-    ensures { told result ≡ parse_shape limits.now.numbering limits.now.name_max line turn input.now }
-{
-    let numbering = limits.numbering;
-    parse_number(input, line, turn, numbering)?;
-    if limits.name_max < input.len() - skip_of(numbering) {
-        return Err(ParseError::TooLong(line));
-    }
-    Ok(())
 }
 
 // How many bytes of a line of names are not kept in its text.
@@ -229,9 +232,9 @@ pub fn parse_name_and_address(
         };
         let turn = count + 1;
         let line = start_idx as usize + turn;
-        let input = part_of(lines.text, part);
-        parse_line(input, line, turn, limits)?;
-        for b in untested(input, known) {
+        let text = part_of(lines.text, part);
+        NameLine { text, line, turn }.parse_line(limits)?;
+        for b in untested(text, known) {
             if !is_legal(*b) {
                 break 'lines Some(line);
             }
@@ -240,7 +243,7 @@ pub fn parse_name_and_address(
             let start = part.start + kept;
             let len = part.len - kept;
             parts[count] = Part { start, len };
-            digits[count] = digit_of(input, limits.numbering);
+            digits[count] = digit_of(text, limits.numbering);
         }
         count = turn;
     };

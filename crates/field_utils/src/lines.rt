@@ -1,5 +1,5 @@
 // What the Rust has of std: the lines of a text as an iterator, a text trimmed, and the test for ASCII.
-ghost use Rattle.std.specs.Prelude.{◌≡◌, ℕ, ◌+◌, ◌-◌, ◌≤◌, length, take, drop, nat_le};
+ghost use Rattle.std.specs.Prelude.{◌≡◌, ℕ, ◌+◌, ◌-◌, ◌≤◌, length, drop, nat_le};
 ghost use Rattle.std.specs.Iterator.{at_most};
 ghost use Rattle.swift_utils.specs.Bytes.{all};
 ghost use Rattle.field_utils.specs.Lines.{upto, lines, without_cr};
@@ -56,12 +56,8 @@ fn pass_blocks(s: &[u8], from: usize) -> usize
     ensures { Passed s.now from result }
 {
     let (blocks, _) = s[from..].as_chunks::<BLOCK>();
-    for (i, block) in blocks.iter().enumerate() {
-        if !is_clear(block) {
-            return from + i * BLOCK;
-        }
-    }
-    from + blocks.len() * BLOCK
+    let clear = blocks.iter().position(|block| !is_clear(block));
+    from + BLOCK * clear.unwrap_or(blocks.len())
 }
 
 // Where the next LF stands from a place on, or the length where there is none; a place past the length is given back.
@@ -121,26 +117,13 @@ impl<'a> Iterator for Lines<'a> {
             return None;
         }
         let lf = find_lf(text, start);
-        let (end, at) = if lf < text.len() {
-            (line_end(text, start, lf), lf + 1)
+        let (len, at) = if lf < text.len() {
+            (without_cr(&text[start..lf]).len(), lf + 1)
         } else {
-            (lf, lf)
+            (lf - start, lf)
         };
         self.at = at;
-        let len = end - start;
         Some(Part { start, len })
-    }
-}
-
-// Where a line ends that starts at a place and runs to another: there, or at a CR just before it.
-fn line_end(s: &[u8], start: usize, to: usize) -> usize
-    requires { (start ≤ to) × (to ≤ length s.now) }
-    ensures { result ≡ start + length (without_cr (take (to - start) (drop start s.now))) }
-{
-    if start < to && s[to - 1] == b'\r' {
-        to - 1
-    } else {
-        to
     }
 }
 
@@ -199,7 +182,7 @@ pub fn trim(s: &[u8]) -> &[u8]
     trim_end(part)
 }
 
-// Whether no byte is above 127, by words of eight bytes.
+// Whether no byte is above 127.
 #[tactic(auto, using(crate::proofs::AllBytes::ascii_low))]
 pub fn is_ascii(s: &[u8]) -> bool
     ensures { result ≡ all (λ (b : ℕ). nat_le b 127) s.now }

@@ -16,7 +16,7 @@ use page_reader::PAGE_MOST;
 use std::fmt::{self, Display, Formatter};
 use std::io::Read;
 use tally::say_answers;
-use yewdome::yewdome_page_file;
+use yewdome::{PACK_UNIT, yewdome_page_file};
 
 // Files the page on a new one, and writes that: it is what `whole_page` speaks of, for the records that the page's reads give. Closing is not
 // refused in a buffer of at least 2 bytes, as `whole_page` says too.
@@ -25,8 +25,8 @@ fn file_page(rt: &(impl Print + Eprint), page: &[u8], buf: &mut [u8], answers: &
     ensures { buf.new ≡ (closing no_index (records_of page.now) buf.old).buffer }
 {
     let filed = yewdome_page_file(page, buf, answers);
-    let count = (filed / 4294967296) as usize;
-    let end = (filed % 4294967296) as usize;
+    let count = (filed / PACK_UNIT) as usize;
+    let end = (filed % PACK_UNIT) as usize;
     say_answers(rt, &answers[..count]);
     if rt.write_all(&buf[..end]).is_err() {
         let _ = eprintln!(rt; "error: the page was not written whole");

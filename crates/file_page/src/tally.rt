@@ -1,5 +1,6 @@
 // What is said on standard error.
 use std::fmt::{self, Display, Formatter};
+use yewdome::{CAUSES_UNIT, PACK_UNIT, READ_END};
 
 // The causes by which a field is filed as other bytes than came, a bit each.
 #[derive(Clone, Copy, PartialEq)]
@@ -34,18 +35,19 @@ enum Answer {
     Refused { number: u64, line: u64 },
 }
 
-// A refusal is from 4,294,967,296 on; of the others the end has 65,536, and a filed record its causes × 131,072.
+// A refusal's number × 65,536 and its line stand above the other answers; of these the end has 65,536, and a filed record its causes × 131,072.
 impl From<u64> for Answer {
     fn from(answer: u64) -> Answer {
-        if 4294967296 <= answer {
+        let refusal = answer / PACK_UNIT;
+        if refusal != 0 {
             Answer::Refused {
-                number: answer / 281474976710656,
-                line: answer / 4294967296 % 65536,
+                number: refusal / READ_END,
+                line: refusal % READ_END,
             }
-        } else if answer / 65536 == 1 {
+        } else if answer / READ_END == 1 {
             Answer::End
         } else {
-            Answer::Filed(Causes(answer / 131072))
+            Answer::Filed(Causes(answer / CAUSES_UNIT))
         }
     }
 }

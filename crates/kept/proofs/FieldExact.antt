@@ -8,6 +8,7 @@ use lib.Dec.{ltb, eqb}
 use lib.ListN.{length, take, drop, get_or, length-append, length-drop, get_or-eq_default}
 use lib.Seq.{get_or-append_seam, length-take-le, get_or-drop}
 use borrow.Author.Tests.{eqb-true, ltb-true, ltb-false, lt-ltb}
+use Rattle.party.specs.declared.Part.{Part}
 use Rattle.party.specs.declared.PartyOption.{PartyOption}
 use Rattle.party.specs.declared.Party.{Party}
 use Rattle.party.specs.Decides.{Decides}
@@ -19,7 +20,6 @@ use Rattle.writer.specs.ReadBack.{ends_cr}
 use Rattle.writer.proofs.Relined.{cr_kept}
 use Rattle.writer.proofs.Back.{accepted_is}
 use Rattle.writer.proofs.Fields.{tag_sizes}
-use Rattle.page_reader.specs.declared.BodyPlace.{BodyPlace}
 use Rattle.page_reader.specs.Pages.{less_cr, runs, ReadOutcome, a_record, read_at}
 use Rattle.page_reader.proofs.Cases.{runs_most}
 use Rattle.page_reader.proofs.Runs.{runs_closed}
@@ -118,7 +118,7 @@ module _ (page : List ℕ) (at : ℕ) (p : Party) (q : (read_at page at).outcome
       let n = length-append (tag_of g.option) g.body in
       let z : at + length t - length g.body + length g.body ≡ at + length t = omega (arith, n, ap length g.splits) in
       let behind : 0 < at + length t - length g.body = omega (arith, n, ap length g.splits, (tag_sizes g.option).0) in
-      ap (λ (b : BodyPlace). ltb 0 b.start && eqb (get_or page (b.start + b.len) 0) 13) g.place
+      ap (λ (b : Part). ltb 0 b.start && eqb (get_or page (b.start + b.len) 0) 13) g.place
       ∙ (λ i. lt-ltb 0 _ behind i && eqb (get_or page (z i) 0) 13)
 
   -- the record's option is the tag's

@@ -8,12 +8,12 @@ use lib.Dec.{ltb, leb}
 use lib.ListN.{length, take, drop, length-take, length-drop}
 use lib.Seq.{take_all, take-take}
 use borrow.Author.Tests.{leb-true, leb-false}
+use Rattle.party.specs.declared.Part.{Part}
 use Rattle.party.specs.declared.PartyOption.{PartyOption}
 use Rattle.party.specs.Limits.{options}
 use Rattle.swift_utils.proofs.Parts.{part, part_length, part_none, part_drop}
 use Rattle.field_utils.specs.Tags.{tag_of}
 use Rattle.field_utils.proofs.Places.{without_cr_part}
-use Rattle.page_reader.specs.declared.BodyPlace.{BodyPlace}
 use Rattle.page_reader.specs.declared.ReadCase.{ReadCase}
 use Rattle.page_reader.specs.declared.ReadCase.TheVariants.{TooLong, NoStart, AtLength, Opening, Ending, Stray}
 use Rattle.page_reader.specs.Pages.{page_most, less_cr, past, begins, Tagged, untagged, tagged, tag_in, read_tagged, read_field, text_in, read_case, read_by, read_at, no_body, body_in, place_by, body_place}
@@ -37,13 +37,16 @@ tag_rest (o ∷ os) text = go (begins (tag_of o) text) (tag_rest os text)
     go true h = record { skip = length (tag_of o); is = refl }
     go false h = h
 
+pub body_short : (text : List ℕ) {o : PartyOption} {body : List ℕ} → tagged o body ≡ tag_in options text → length body ≤ length text
+body_short text e = let r = subst (RestOf text) (sym e) (tag_rest options text) in omega (arith, ap length r.is, length-drop r.skip text)
+
 -- what stands at a place
-pub record There (page : List ℕ) (place : BodyPlace) (body : List ℕ) : Type 0 where
+pub record There (page : List ℕ) (place : Part) (body : List ℕ) : Type 0 where
   pub within : place.start + place.len ≤ length page
   pub bytes : take place.len (drop place.start page) ≡ body
 
 -- and in the slice from the place's start to its end
-pub part_there : {page : List ℕ} {p : BodyPlace} {body : List ℕ} → There page p body → take (p.start + p.len - p.start) (drop p.start page) ≡ body
+pub part_there : {page : List ℕ} {p : Part} {body : List ℕ} → There page p body → take (p.start + p.len - p.start) (drop p.start page) ≡ body
 part_there {page} {p} h = let n : p.start + p.len - p.start ≡ p.len = omega arith in ap (λ (k : ℕ). take k (drop p.start page)) n ∙ h.bytes
 
 -- ---- a field's text is a part of the page
@@ -129,8 +132,8 @@ module _ (page : List ℕ) (at : ℕ) where
       go (Stray to) h = nothing
 
   -- so are they at a place that a call gave
-  pub place_there : {p : BodyPlace} → p ≡ body_place page at → There page p (read_at page at).body
-  place_there e = subst (λ (p : BodyPlace). There page p (read_at page at).body) (sym e) body_there
+  pub place_there : {p : Part} → p ≡ body_place page at → There page p (read_at page at).body
+  place_there e = subst (λ (p : Part). There page p (read_at page at).body) (sym e) body_there
 
   -- it stands among the first 32,768 bytes
   pub body_most_lem : (body_place page at).start + (body_place page at).len ≤ page_most

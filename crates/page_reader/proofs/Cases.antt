@@ -1,13 +1,13 @@
 -- Which case a read is, byte by byte, and what an answer of the code says of it. Assumes nothing.
 use mathlib.Core.Path.{◌≡◌, refl, sym, ◌∙◌, ap, subst}
 use mathlib.Core.Bool.{Bool, true, false, ◌&&◌, ◌||◌, true≢false}
-use mathlib.Core.List.{List, [], ◌∷◌}
+use mathlib.Core.List.{List, [], ◌∷◌, ◌++◌, append-nil}
 use Prim.Native.Nat.{ℕ, suc, ◌+◌, ◌≤◌, ◌<◌}
 use native.Mathlib.Omega.{arith}
 use Rattle.std.specs.Prelude.{Option, Some, Result, Ok, Err}
 use Rattle.std.proofs.lemmas.List.{get_or_past}
 use lib.Dec.{leb, eqb}
-use lib.ListN.{length, drop, get_or, length-drop, drop_of_length-le}
+use lib.ListN.{length, drop, get_or, length-take, length-drop, take-append-drop, drop_of_length-le}
 use lib.Seq.{drop-cons, drop-drop}
 use borrow.Author.Tests.{eqb-true, ne_eqb, le-leb, lt-leb, leb-true, leb-false}
 use Rattle.errors.specs.declared.ParseError.{ParseError}
@@ -19,13 +19,15 @@ use Rattle.field_utils.specs.Lines.{upto, starts, is_empty}
 use Rattle.field_utils.proofs.Places.{upto_length}
 use Rattle.reader.specs.Reading.{Into, storing, read_into, told_into}
 use Rattle.reader.specs.Options.{read}
-use Rattle.record_bytes.specs.RecordBytes.{record_size}
+use Rattle.std.specs.Array.{IsFirstChunk}
+use Rattle.record_bytes.specs.RecordBytes.{record_size, encoded}
+use Rattle.record_bytes.proofs.Laws.{stored_whole}
 use Rattle.reader.proofs.Into.{into_whole, replied}
 use Rattle.page_reader.specs.declared.PageRead.{PageRead as ReadAt}
 use Rattle.page_reader.specs.declared.Tag.{Tag}
 use Rattle.page_reader.specs.declared.ReadCase.{ReadCase}
 use Rattle.page_reader.specs.declared.ReadCase.TheVariants.{TooLong, NoStart, AtLength, Opening, Ending, Stray}
-use Rattle.page_reader.specs.Pages.{page_most, line_at, opens, has_lf, ends_at, runs, Tagged, untagged, tagged, tag_in, ReadOutcome, PageRead, outcome_of, read_tagged, read_field, readable, line_case, rest_case, read_case, read_by, read_at, read_lent, read_bytes, Kind, kind_of, outline, told_kind, told_read_into}
+use Rattle.page_reader.specs.Pages.{page_most, line_at, opens, has_lf, ends_at, runs, Tagged, untagged, tagged, tag_in, ReadOutcome, a_record, the_end, a_refusal, PageRead, outcome_of, read_tagged, read_field, readable, line_case, rest_case, read_case, read_by, read_at, read_lent, read_bytes, Kind, kind_of, outline, told_kind, told_read_into}
 use Rattle.page_reader.specs.Index.{told_body}
 use Rattle.page_reader.specs.Code.{told_tag}
 use Rattle.page_reader.proofs.EndLines.{not_both}
@@ -178,6 +180,18 @@ Leaves k o d e = (k ≡ kind_of o) × (e ≡ read_bytes o d)
 abbrev pub Tells : ReadAt (Unit {0}) → PageRead → List ℕ → List ℕ → Type 0
 Tells r x d e = (told_read_into r ≡ outline x) × (e ≡ read_bytes x.outcome d)
 
+-- a read into the first 241 of them
+front_bytes : (o : ReadOutcome) (d : List ℕ) {r : List ℕ} → IsFirstChunk d r record_size → read_bytes o r ++ drop record_size d ≡ read_bytes o d
+front_bytes (a_record p) d {r} h =
+    let n : length r ≡ record_size = omega (arith, ap length h.same, length-take record_size d, h.enough) in
+    ap (λ (l : List ℕ). l ++ drop record_size d) (stored_whole p r (omega (arith, n)) ∙ ap (λ (l : List ℕ). encoded p ++ l) (drop_of_length-le r {i = record_size} (omega (arith, n))) ∙ append-nil (encoded p))
+    ∙ sym (stored_whole p d h.enough)
+front_bytes the_end d h = ap (λ (l : List ℕ). l ++ drop record_size d) h.same ∙ take-append-drop record_size d
+front_bytes (a_refusal k n) d h = ap (λ (l : List ℕ). l ++ drop record_size d) h.same ∙ take-append-drop record_size d
+
+pub tells_front : (r : ReadAt (Unit {0})) (x : PageRead) (d : List ℕ) {b e : List ℕ} → IsFirstChunk d b record_size → Tells r x b e → Tells r x d (e ++ drop record_size d)
+tells_front r x d h t = (t.0, ap (λ (l : List ℕ). l ++ drop record_size d) t.1 ∙ front_bytes x.outcome d h)
+
 -- from a case to the read at a position
 module _ (page : List ℕ) (at : ℕ) {x : ReadCase} (e : read_case page at ≡ x) where
   pub by_case : read_at page at ≡ read_by x page at
@@ -235,10 +249,10 @@ body_leaves o body next w d size into =
     )
 
 -- a field whose tag is found
-pub field_leaves : (text : List ℕ) {o : Option Tag} {t : Tag} → told_tag text o ≡ tag_in options text → o ≡ Some t → (w : Result (Unit {0}) ParseError) (d : List ℕ) {body e : List ℕ} → body ≡ drop t.skip text
-    → record_size ≤ length d → told_into w e ≡ read_into (read t.option body) d → Leaves (told_body w) (read_field text 0).outcome d e
-field_leaves text {t = t} found is w d {body} {e} rest size into =
-    subst (λ (x : PageRead). Leaves (told_body w) x.outcome d e) (sym (field_tagged text 0 (ap (tagged t.option) rest ∙ ap (told_tag text) (sym is) ∙ found))) (body_leaves t.option body 0 w d size into)
+pub field_leaves : (text : List ℕ) {o : Option Tag} {t : Tag} → told_tag o ≡ tag_in options text → o ≡ Some t → (w : Result (Unit {0}) ParseError) (d : List ℕ) {e : List ℕ}
+    → record_size ≤ length d → told_into w e ≡ read_into (read t.option t.body.now) d → Leaves (told_body w) (read_field text 0).outcome d e
+field_leaves text {t = t} found is w d {e} size into =
+    subst (λ (x : PageRead). Leaves (told_body w) x.outcome d e) (sym (field_tagged text 0 (ap told_tag (sym is) ∙ found))) (body_leaves t.option t.body.now 0 w d size into)
 
 -- ---- by the bytes that are lent
 pub lent_whole : (page : List ℕ) (at : ℕ) (d : List ℕ) → record_size ≤ length d → read_lent page at d ≡ read_at page at

@@ -1,21 +1,23 @@
 -- The entries of an index by its numbers, and what a lookup answers by its tests. Assumes nothing.
-use mathlib.Core.Path.{◌≡◌, refl, ◌∙◌, ap, subst}
-use mathlib.Core.Bool.{Bool, true}
+use mathlib.Core.Path.{◌≡◌, refl, sym, ◌∙◌, ap, subst}
+use mathlib.Core.Bool.{Bool, true, false}
 use mathlib.Core.List.{List, [], ◌∷◌}
-use Prim.Native.Nat.{ℕ, zero, suc, ◌*◌, ◌-◌, ◌≤◌, ◌<◌, min}
+use Prim.Native.Nat.{ℕ, zero, suc, ◌+◌, ◌*◌, ◌-◌, ◌≤◌, ◌<◌, min}
 use native.Mathlib.Omega.{arith}
 use Rattle.std.specs.Prelude.{Result, Ok}
+use Rattle.std.specs.Simd.{first_chunks}
 use lib.ListN.{length, take, drop, get_or, length-take}
-use lib.Seq.{get_or-take}
+use lib.Seq.{get_or-take, drop-cons, drop-drop}
 use borrow.Author.Tests.{eq-eqb, le-leb, lt-leb}
 use Rattle.errors.specs.declared.ParseError.{ParseError}
 use Rattle.errors.specs.Refusals.{Reply, accepted, refused, must}
+use Rattle.field_utils.proofs.Passing.{chunk_at}
 use Rattle.record_bytes.specs.RecordBytes.{record_size}
 use Rattle.page_reader.specs.declared.index.FieldRead.{FieldRead}
 use Rattle.page_reader.specs.declared.index.Place.{Place}
-use Rattle.page_reader.specs.Pages.{page_most, past, Tagged, tagged, PageRead, read_tagged, read_field, text_in, read_case, read_at}
+use Rattle.page_reader.specs.Pages.{page_most, past, Tagged, tagged, PageRead, read_tagged, read_field, read_case, read_at}
 use Rattle.page_reader.specs.Reads.{Read, read_here}
-use Rattle.page_reader.specs.Index.{Entry, index_most, index_size, entries_in, entries_of, no_entry, Met, a_field, met_by, field_at, Looked, found, not_found, looking, is_there, entry_of, look_reply, look_up, look_lent, look_bytes, found_at, look_outline, told_body, told_looked}
+use Rattle.page_reader.specs.Index.{Entry, index_most, index_size, entries_in, entries_of, no_entry, Met, a_field, met_by, field_at, Looked, found, not_found, looking, is_there, has_entry, entry_of, look_reply, look_up, look_lent, look_bytes, found_at, look_outline, told_body, told_looked}
 use Rattle.page_reader.specs.Code.{IsField}
 use Rattle.page_reader.proofs.Cases.{Leaves, by_case}
 
@@ -46,24 +48,33 @@ in_at (a ∷ b ∷ []) i none h = absurd (omega arith)
 in_at (a ∷ b ∷ c ∷ l) zero none h = refl
 in_at (a ∷ b ∷ c ∷ l) (suc i) none h = in_at l i none (omega arith) ∙ ap (numbers_at (a ∷ b ∷ c ∷ l)) (let e : suc (suc (suc (3 * i))) ≡ 3 * suc i = omega arith in e)
 
--- entry k, counted from 1, has the numbers up to 3 k
-pub entry_at : (l : List ℕ) (k : ℕ) → 1 ≤ k → k ≤ length (entries_of l) → entry_of l k ≡ record { tag = get_or l (3 * k - 2) 0; position = get_or l (3 * k - 1) 0; len = get_or l (3 * k) 0 }
+-- entry k, counted from 1, by its three numbers
+entry_at : (l : List ℕ) (k : ℕ) → 1 ≤ k → k ≤ length (entries_of l) → entry_of l k ≡ numbers_at l (1 + (k - 1) * 3)
 unfolding entries_of
 entry_at [] k o h = absurd (omega arith)
 entry_at (count ∷ l) zero o h = absurd (omega arith)
 entry_at (count ∷ l) (suc i) o h =
     let n = length-take count (entries_in l) in
-    let a : suc (3 * i) ≡ 3 * suc i - 2 = omega arith in
-    let b : suc (suc (3 * i)) ≡ 3 * suc i - 1 = omega arith in
-    let c : suc (suc (suc (3 * i))) ≡ 3 * suc i = omega arith in
     let z : suc i - 1 ≡ i = omega arith in
+    let e : suc (3 * i) ≡ 1 + (suc i - 1) * 3 = omega arith in
     ap (λ (j : ℕ). get_or (take count (entries_in l)) j no_entry) z
     ∙ cut (omega (arith, n, h))
     ∙ in_at l i no_entry (omega (arith, n, h))
-    ∙ (λ j. record { tag = get_or (count ∷ l) (a j) 0; position = get_or (count ∷ l) (b j) 0; len = get_or (count ∷ l) (c j) 0 })
+    ∙ ap (numbers_at (count ∷ l)) e
   where
     cut : i < count → get_or (take count (entries_in l)) i no_entry ≡ get_or (entries_in l) i no_entry
     cut m = rw get_or-take
+
+-- and by the chunk of them
+abbrev pub chunk_entry : List ℕ → Entry
+chunk_entry c = record { tag = get_or c 0 0; position = get_or c 1 0; len = get_or c 2 0 }
+
+pub entry_chunk : (n : ℕ) {s : List ℕ} (l : List ℕ) (k : ℕ) → s ≡ drop 1 l → 1 ≤ k → k ≤ length (entries_of l) → k ≤ n → 1 + 3 * k ≤ length l → entry_of l k ≡ chunk_entry (get_or (first_chunks 3 n s) (k - 1) [])
+entry_chunk n {s} l k e o h m w =
+    let i = 1 + (k - 1) * 3 in
+    let three = drop-cons l i 0 (omega arith) ∙ ap (◌∷◌ (get_or l i 0)) (drop-cons l (suc i) 0 (omega arith) ∙ ap (◌∷◌ (get_or l (suc i) 0)) (drop-cons l (suc (suc i)) 0 (omega arith))) in
+    let chunk = chunk_at 3 n s (k - 1) (omega arith) ∙ ap (take 3) (ap (drop ((k - 1) * 3)) e ∙ drop-drop ((k - 1) * 3) 1 l ∙ three) in
+    entry_at l k o h ∙ ap chunk_entry (sym chunk)
 
 -- ---- what a lookup answers
 -- an entry that is what the page has
@@ -76,25 +87,26 @@ module _ (page index : List ℕ) (k : ℕ) where
   look_long h = rw (lt-leb (length page) page_most h)
 
   module _ (fits : length page ≤ page_most) where
-    pub look_none : k ≡ 0 → look_up page index k ≡ not_found 31 0
+    pub look_no_entry : has_entry index k ≡ false → look_up page index k ≡ not_found 31 0
     unfolding look_up
-    look_none z = rw (le-leb (length page) page_most fits, z)
+    look_no_entry h = rw (le-leb (length page) page_most fits, h)
+
+    pub look_none : k ≡ 0 → look_up page index k ≡ not_found 31 0
+    look_none z = look_no_entry (rw z)
 
     pub look_past : 1 ≤ k → length (entries_of index) < k → look_up page index k ≡ not_found 31 0
-    unfolding look_up
-    look_past o z = rw (le-leb (length page) page_most fits, le-leb 1 k o, lt-leb k (length (entries_of index)) z)
+    look_past o z = look_no_entry (rw (le-leb 1 k o, lt-leb k (length (entries_of index)) z))
 
-    module _ (o : 1 ≤ k) (m : k ≤ length (entries_of index)) where
-      -- by what the page has at the entry's position
-      pub look_by : {e : Entry} → entry_of index k ≡ e → {t : Bool} → is_there (met_by (read_case page e.position) page e.position) e ≡ t
-          → look_up page index k ≡ looking (must t 21 0) (read_here page e.position)
-      unfolding look_up field_at
-      look_by q h = rw (le-leb (length page) page_most fits, le-leb 1 k o, le-leb k (length (entries_of index)) m, q, h)
+    -- by what the page has at the entry's position
+    pub look_by : has_entry index k ≡ true → {e : Entry} → entry_of index k ≡ e → {t : Bool} → is_there (met_by (read_case page e.position) page e.position) e ≡ t
+        → look_up page index k ≡ looking (must t 21 0) (read_here page e.position)
+    unfolding look_up field_at
+    look_by m q h = rw (le-leb (length page) page_most fits, m, q, h)
 
-      -- an entry that is what the page has there
-      pub look_found : {e : Entry} → entry_of index k ≡ e → field_at page e.position ≡ a_field e → look_up page index k ≡ found (read_here page e.position)
-      unfolding field_at
-      look_found {e} q h = look_by q (ap (λ (x : Met). is_there x e) h ∙ itself e)
+    -- an entry that is what the page has there
+    pub look_found : 1 ≤ k → k ≤ length (entries_of index) → {e : Entry} → entry_of index k ≡ e → field_at page e.position ≡ a_field e → look_up page index k ≡ found (read_here page e.position)
+    unfolding field_at
+    look_found o m {e} q h = look_by (rw (le-leb 1 k o, le-leb k (length (entries_of index)) m)) q (ap (λ (x : Met). is_there x e) h ∙ itself e)
 
 -- ---- what was found
 -- is what the reader says there
@@ -116,9 +128,9 @@ refusal_of_lem P page index k {i} {n} e h = go (look_reply page index k) e h
     go (refused j l) q h = let a : j ≡ i = cc in let b : l ≡ n = cc in subst P (λ x. refused (a x) (b x)) h
 
 -- its read, by its option
-pub field_read : (page : List ℕ) {p : Place} → IsField (read_case page p.at) page p → read_at page p.at ≡ read_tagged (tagged p.option (drop p.skip (text_in page p.at p.to))) (past page p.to)
+pub field_read : (page : List ℕ) {p : Place} → IsField (read_case page p.at) page p → read_at page p.at ≡ read_tagged (tagged p.tag.option p.tag.body.now) (past page p.to)
 unfolding read_field
-field_read page {p} f = by_case page p.at f.case ∙ ap (λ (t : Tagged). read_tagged t (past page p.to)) f.option
+field_read page {p} f = by_case page p.at f.case ∙ ap (λ (t : Tagged). read_tagged t (past page p.to)) f.tag
 
 -- ---- into lent bytes
 pub look_whole : (page index : List ℕ) (k : ℕ) (d : List ℕ) → record_size ≤ length d → look_lent page index k d ≡ look_up page index k

@@ -2,24 +2,22 @@
 use mathlib.Core.Path.{◌≡◌, refl, sym, ◌∙◌, ap, subst}
 use mathlib.Core.Bool.{Bool, true, false, ◌&&◌, and-false, and-true}
 use mathlib.Core.List.{List, [], ◌∷◌}
-use Prim.Native.Nat.{ℕ, suc, ◌+◌, ◌%◌, ◌≤◌, ◌<◌}
-use native.Mathlib.Numerals.{add-one}
+use Prim.Native.Nat.{ℕ, ◌+◌, ◌-◌, ◌%◌, ◌≤◌, ◌<◌}
 use native.Mathlib.Omega.{arith}
 use Rattle.std.specs.Prelude.{Option, Some, None}
+use Rattle.std.specs.List.{find}
 use mathlib.Core.Logic.{◌⊎◌, inl, inr}
 use lib.Dec.{leb, eqb}
-use lib.ListN.{length, drop, get_or, drop_of_length-le}
-use lib.Seq.{drop-cons}
+use lib.ListN.{length, take, drop, get_or, length-drop, drop_of_length-le}
+use lib.Seq.{drop-cons, take_all}
 use borrow.Author.Tests.{eqb-true, eqb-false, ne_eqb, leb-true, leb-false}
 use Rattle.party.specs.declared.PartyOption.{PartyOption}
-use Rattle.party.specs.declared.PartyOption.TheVariants.{Field50NoOption}
-use Rattle.party.specs.Limits.{limits_of, option_at, options}
+use Rattle.party.specs.Limits.{limits_of, options}
 use Rattle.party.proofs.Options.{by_option}
 use Rattle.field_utils.specs.Tags.{tag_of}
 use Rattle.field_utils.proofs.Tests.{both_right}
-use Rattle.page_reader.specs.declared.Tag.{Tag}
-use Rattle.page_reader.specs.Pages.{begins, untagged, tagged, tag_in}
-use Rattle.page_reader.specs.Code.{told_tag, has_tag, known_in}
+use Rattle.page_reader.specs.Pages.{begins, Tagged, untagged, tagged, tag_in}
+use Rattle.page_reader.specs.Code.{has_tag, known}
 
 -- ---- the form of a tag: `:5`, a digit, a letter or none, `:`
 abbrev digit_of : PartyOption → ℕ
@@ -75,6 +73,11 @@ pub tag_second : (a b : ℕ) (s : List ℕ) → (b ≡ 53 → ⊥) → tag_in op
 unfolding begins
 tag_second a b s n = none_in options (a ∷ b ∷ s) (λ o. by_form (a ∷ b ∷ s) o (rw (ne_eqb 53 b (λ e. n (sym e)), and-false (eqb 58 a))))
 
+-- a body with the option that its tag has, if one has it
+abbrev pub tag_found : Option PartyOption → List ℕ → Tagged
+tag_found None body = untagged
+tag_found (Some o) body = tagged o body
+
 -- ---- after `:5` and a digit
 module _ (d : ℕ) (s : List ℕ) where
   abbrev text : List ℕ
@@ -87,27 +90,27 @@ module _ (d : ℕ) (s : List ℕ) where
   pub tag_none : ((o : PartyOption) → begins (tail_of (letter_of o)) s ≡ false) → tag_in options text ≡ untagged
   tag_none h = none_in options text (λ o. after_digit o (h o) ∙ and-false (eqb (digit_of o) d))
 
-  known_in_lem : (letter skip : ℕ) (os : List PartyOption) → ((o : PartyOption) → begins (tail_of (letter_of o)) s ≡ eqb (letter_of o) letter)
+  known_lem : (letter skip : ℕ) (os : List PartyOption) → ((o : PartyOption) → begins (tail_of (letter_of o)) s ≡ eqb (letter_of o) letter)
       → ((o : PartyOption) → eqb (letter_of o) letter ≡ true → length (tag_of o) ≡ skip)
-      → told_tag text (known_in os d letter skip) ≡ tag_in os text
-  unfolding tag_in known_in
-  known_in_lem letter skip [] h k = refl
-  known_in_lem letter skip (o ∷ os) h k = go (eqb (digit_of o) d && eqb (letter_of o) letter) refl (known_in_lem letter skip os h k)
+      → tag_found (find (λ o. has_tag o d letter) os) (drop skip text) ≡ tag_in os text
+  unfolding tag_in
+  known_lem letter skip [] h k = refl
+  known_lem letter skip (o ∷ os) h k = go (eqb (digit_of o) d && eqb (letter_of o) letter) refl (known_lem letter skip os h k)
     where
-      go : (t : Bool) → (eqb (digit_of o) d && eqb (letter_of o) letter) ≡ t → told_tag text (known_in os d letter skip) ≡ tag_in os text
-          → told_tag text (known_in (o ∷ os) d letter skip) ≡ tag_in (o ∷ os) text
+      go : (t : Bool) → (eqb (digit_of o) d && eqb (letter_of o) letter) ≡ t → tag_found (find (λ x. has_tag x d letter) os) (drop skip text) ≡ tag_in os text
+          → tag_found (find (λ x. has_tag x d letter) (o ∷ os)) (drop skip text) ≡ tag_in (o ∷ os) text
       go true e ih =
           let b : begins (tag_of o) text ≡ true = after_digit o (h o) ∙ e in
-          rw (e, b, known_in, tag_in) (ap (λ (n : ℕ). tagged o (drop n text)) (sym (k o (both_right (eqb (digit_of o) d) (eqb (letter_of o) letter) e))))
-      go false e ih = let b : begins (tag_of o) text ≡ false = after_digit o (h o) ∙ e in rw (e, b, known_in, tag_in) ih
+          rw (e, b, tag_in) (ap (λ (n : ℕ). tagged o (drop n text)) (sym (k o (both_right (eqb (digit_of o) d) (eqb (letter_of o) letter) e))))
+      go false e ih = let b : begins (tag_of o) text ≡ false = after_digit o (h o) ∙ e in rw (e, b, tag_in) ih
 
   tag_length_lem : (o : PartyOption) → length (tag_of o) ≡ 3 + length (tail_of (letter_of o))
   tag_length_lem o = let k = ap length (tag_form o) in omega (arith, k)
 
 -- without a letter
-pub tag_plain : (d : ℕ) (s : List ℕ) → told_tag (58 ∷ 53 ∷ d ∷ 58 ∷ s) (known_in options d 0 4) ≡ tag_in options (58 ∷ 53 ∷ d ∷ 58 ∷ s)
+pub tag_plain : (d : ℕ) (s : List ℕ) → tag_found (known d 0) s ≡ tag_in options (58 ∷ 53 ∷ d ∷ 58 ∷ s)
 unfolding begins
-tag_plain d s = known_in_lem d (58 ∷ s) 0 4 options tail size
+tag_plain d s = known_lem d (58 ∷ s) 0 4 options tail size
   where
     tail : (o : PartyOption) → begins (tail_of (letter_of o)) (58 ∷ s) ≡ eqb (letter_of o) 0
     tail o = go (eqb (letter_of o) 0) refl
@@ -163,8 +166,8 @@ module _ (d c : ℕ) (n : c ≡ 58 → ⊥) where
         go o true e = rw e
         go o false e = rw e (rw z e)
 
-    pub tag_letter : (c ≡ 0 → ⊥) → told_tag (58 ∷ 53 ∷ d ∷ c ∷ 58 ∷ s) (known_in options d c 5) ≡ tag_in options (58 ∷ 53 ∷ d ∷ c ∷ 58 ∷ s)
-    tag_letter z = known_in_lem d (c ∷ 58 ∷ s) c 5 options (λ o. lettered o ∙ go o (eqb (letter_of o) 0) refl) size
+    pub tag_letter : (c ≡ 0 → ⊥) → tag_found (known d c) s ≡ tag_in options (58 ∷ 53 ∷ d ∷ c ∷ 58 ∷ s)
+    tag_letter z = known_lem d (c ∷ 58 ∷ s) c 5 options (λ o. lettered o ∙ go o (eqb (letter_of o) 0) refl) size
       where
         go : (o : PartyOption) (t : Bool) → eqb (letter_of o) 0 ≡ t → (elim (eqb (letter_of o) 0) [ true ↦ false | false ↦ eqb (letter_of o) c ]) ≡ eqb (letter_of o) c
         go o true e = rw e (sym (ne_eqb (letter_of o) c (λ q. z (sym q ∙ eqb-true (letter_of o) 0 e))))
@@ -175,26 +178,9 @@ module _ (d c : ℕ) (n : c ≡ 58 → ⊥) where
             let q : letter_of o ≡ c = eqb-true (letter_of o) c e in
             tag_length_lem d (c ∷ 58 ∷ s) o ∙ rw (ne_eqb (letter_of o) 0 (λ p. z (sym q ∙ p)), tail_of)
 
--- ---- the options from a place of the table on
-module _ (d letter skip place : ℕ) where
-  abbrev known_from : ℕ → Option Tag
-  known_from k = known_in (drop k options) d letter skip
-
-  one_more : {t : Bool} → place < length options → has_tag (option_at place) d letter ≡ t → known_from place ≡ (elim t [ true ↦ Some (record { option = option_at place; skip = skip }) | false ↦ known_from (suc place) ])
-  unfolding option_at known_in
-  one_more h e =
-      ap (λ (os : List PartyOption). known_in os d letter skip) (drop-cons options place Field50NoOption h)
-      ∙ ap (λ (b : Bool). elim b as (λ x. Option Tag) [ true ↦ Some (record { option = option_at place; skip = skip }) | false ↦ known_from (suc place) ]) e
-
-  pub known_here : place < length options → has_tag (option_at place) d letter ≡ true → known_from place ≡ Some (record { option = option_at place; skip = skip })
-  known_here h e = one_more h e
-
-  pub known_next : place < length options → has_tag (option_at place) d letter ≡ false → known_from place ≡ known_from (place + 1)
-  known_next h e = one_more h e ∙ ap known_from (sym (add-one place))
-
-  pub known_none : length options ≤ place → known_from place ≡ None
-  unfolding known_in
-  known_none h = ap (λ (os : List PartyOption). known_in os d letter skip) (drop_of_length-le options {i = place} h)
+-- a tag that has an option, with all that is left of the text
+pub rest_found : (text : List ℕ) (n : ℕ) {o : Option PartyOption} {p : PartyOption} → tag_found o (drop n text) ≡ tag_in options text → o ≡ Some p → tagged p (take (length text - n) (drop n text)) ≡ tag_in options text
+rest_found text n {p = p} h e = ap (tagged p) (take_all (length text - n) (drop n text) (omega (arith, length-drop n text))) ∙ sym (ap (λ (o : Option PartyOption). tag_found o (drop n text)) e) ∙ h
 
 -- ---- by the bytes of a text
 split : (t : List ℕ) → 4 ≤ length t → t ≡ get_or t 0 0 ∷ get_or t 1 0 ∷ get_or t 2 0 ∷ get_or t 3 0 ∷ drop 4 t
@@ -215,10 +201,10 @@ module _ (text : List ℕ) (a : get_or text 0 0 ≡ 58) (b : get_or text 1 0 ≡
       split text h ∙ ap (λ (x : ℕ). x ∷ get_or text 1 0 ∷ get_or text 2 0 ∷ get_or text 3 0 ∷ drop 4 text) a
       ∙ ap (λ (x : ℕ). 58 ∷ x ∷ get_or text 2 0 ∷ get_or text 3 0 ∷ drop 4 text) b
 
-  pub at_plain : 4 ≤ length text → get_or text 3 0 ≡ 58 → told_tag text (known_in options (get_or text 2 0) 0 4) ≡ tag_in options text
+  pub at_plain : 4 ≤ length text → get_or text 3 0 ≡ 58 → tag_found (known (get_or text 2 0) 0) (drop 4 text) ≡ tag_in options text
   at_plain h c =
       let q : text ≡ 58 ∷ 53 ∷ get_or text 2 0 ∷ 58 ∷ drop 4 text = four h ∙ ap (λ (x : ℕ). 58 ∷ 53 ∷ get_or text 2 0 ∷ x ∷ drop 4 text) c in
-      subst (λ (t : List ℕ). told_tag t (known_in options (get_or text 2 0) 0 4) ≡ tag_in options t) (sym q) (tag_plain (get_or text 2 0) (drop 4 text))
+      subst (λ (t : List ℕ). tag_found (known (get_or text 2 0) 0) (drop 4 text) ≡ tag_in options t) (sym q) (tag_plain (get_or text 2 0) (drop 4 text))
 
   module _ (n : get_or text 3 0 ≡ 58 → ⊥) where
     pub at_end : 4 ≤ length text → length text < 5 → tag_in options text ≡ untagged
@@ -238,9 +224,9 @@ module _ (text : List ℕ) (a : get_or text 0 0 ≡ 58) (b : get_or text 1 0 ≡
         pub at_zero : get_or text 3 0 ≡ 0 → tag_in options text ≡ untagged
         at_zero z = ap (tag_in options) whole ∙ tag_zero (get_or text 2 0) (get_or text 3 0) n (drop 5 text) z
 
-        pub at_letter : (get_or text 3 0 ≡ 0 → ⊥) → told_tag text (known_in options (get_or text 2 0) (get_or text 3 0) 5) ≡ tag_in options text
+        pub at_letter : (get_or text 3 0 ≡ 0 → ⊥) → tag_found (known (get_or text 2 0) (get_or text 3 0)) (drop 5 text) ≡ tag_in options text
         at_letter z =
-            subst (λ (t : List ℕ). told_tag t (known_in options (get_or text 2 0) (get_or text 3 0) 5) ≡ tag_in options t) (sym whole)
+            subst (λ (t : List ℕ). tag_found (known (get_or text 2 0) (get_or text 3 0)) (drop 5 text) ≡ tag_in options t) (sym whole)
             (tag_letter (get_or text 2 0) (get_or text 3 0) n (drop 5 text) z)
 
 -- a text of a tag without a letter, and one of a tag with one
@@ -249,7 +235,7 @@ pub record IsPlain (text : List ℕ) : Type 0 where
   pub first : get_or text 0 0 ≡ 58
   pub second : get_or text 1 0 ≡ 53
   pub last : get_or text 3 0 ≡ 58
-  pub is : told_tag text (known_in options (get_or text 2 0) 0 4) ≡ tag_in options text
+  pub is : tag_found (known (get_or text 2 0) 0) (drop 4 text) ≡ tag_in options text
 
 pub record IsLettered (text : List ℕ) : Type 0 where
   pub size : 5 ≤ length text
@@ -258,7 +244,7 @@ pub record IsLettered (text : List ℕ) : Type 0 where
   pub other : get_or text 3 0 ≡ 58 → ⊥
   pub some : get_or text 3 0 ≡ 0 → ⊥
   pub last : get_or text 4 0 ≡ 58
-  pub is : told_tag text (known_in options (get_or text 2 0) (get_or text 3 0) 5) ≡ tag_in options text
+  pub is : tag_found (known (get_or text 2 0) (get_or text 3 0)) (drop 5 text) ≡ tag_in options text
 
 abbrev Cases : List ℕ → Type 0
 Cases text = (tag_in options text ≡ untagged) ⊎ (IsPlain text ⊎ IsLettered text)

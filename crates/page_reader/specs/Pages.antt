@@ -3,6 +3,7 @@
 use Rattle.std.specs.Prelude.{ℕ, zero, suc, ◌+◌, ◌-◌, min, Bool, true, false, ◌&&◌, ◌||◌, List, [], ◌∷◌, Option, Some, None, Result, Ok, Err, ltb, leb, eqb, length, take, drop, get_or}
 use Rattle.errors.specs.declared.ParseError.{ParseError}
 use Rattle.errors.specs.Refusals.{Reply, accepted, refused, refusal_of}
+use Rattle.party.specs.declared.Part.{Part}
 use Rattle.party.specs.declared.PartyOption.{PartyOption}
 use Rattle.party.specs.declared.Party.{Party}
 use Rattle.party.specs.Limits.{options}
@@ -14,7 +15,6 @@ use Rattle.record_bytes.specs.RecordBytes.{stored}
 use Rattle.reader.specs.Reading.{room_reply}
 use Rattle.reader.specs.Options.{read}
 use Rattle.page_reader.specs.declared.PageRead.{PageRead as ReadAt}
-use Rattle.page_reader.specs.declared.BodyPlace.{BodyPlace}
 use Rattle.page_reader.specs.declared.ReadCase.{ReadCase}
 use Rattle.page_reader.specs.declared.ReadCase.TheVariants.{TooLong, NoStart, AtLength, Opening, Ending, Stray}
 
@@ -163,16 +163,16 @@ unfoldable pub read_at : List ℕ → ℕ → PageRead
 read_at page at = read_by (read_case page at) page at
 
 -- no body: no field, or a tag that is none of the eleven
-abbrev pub no_body : BodyPlace
+abbrev pub no_body : Part
 no_body = record { start = 0; len = 0 }
 
 -- where a body stands in the page, by its field's tag and the position where the field's text ends: the rest after the tag
-abbrev pub body_in : Tagged → ℕ → BodyPlace
+abbrev pub body_in : Tagged → ℕ → Part
 body_in untagged to = no_body
 body_in (tagged o body) to = record { start = to - length body; len = length body }
 
 -- by the case of the read: only a field has a body
-abbrev pub place_by : ReadCase → List ℕ → ℕ → BodyPlace
+abbrev pub place_by : ReadCase → List ℕ → ℕ → Part
 place_by TooLong page at = no_body
 place_by NoStart page at = no_body
 place_by AtLength page at = no_body
@@ -181,7 +181,7 @@ place_by (Ending to) page at = no_body
 place_by (Stray to) page at = no_body
 
 -- that of the field at a position; proofs/Bodies.antt has `body_there`: the bytes there are the read's body
-unfoldable pub body_place : List ℕ → ℕ → BodyPlace
+unfoldable pub body_place : List ℕ → ℕ → Part
 body_place page at = place_by (read_case page at) page at
 
 -- ---- a read into lent bytes

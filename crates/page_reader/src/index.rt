@@ -1,15 +1,14 @@
 // The index beside a page (document 02, Three): for each field its tag, first position and length. It is lent as numbers: how many entries
 // it has, and three for each of 256. Any numbers may be lent; an entry is believed only where the page has it.
-ghost use Rattle.std.specs.Prelude.{◌≡◌, ◌≤◌, length, drop};
+ghost use Rattle.std.specs.Prelude.{◌≡◌, ◌≤◌, true, false, length, MatchOption};
 ghost use Rattle.page_reader.specs.declared.ReadCase.TheVariants.{Opening};
-ghost use Rattle.page_reader.specs.Pages.{text_in, read_case};
-ghost use Rattle.page_reader.specs.Index.{index_most, index_size, entries_of, look_up, body_of, look_lent, look_bytes, party_looked, look_outline, told_looked, told_found};
-ghost use Rattle.page_reader.specs.Code.{IsField, HoldsBy, Finds};
+ghost use Rattle.page_reader.specs.Pages.{read_case};
+ghost use Rattle.page_reader.specs.Index.{index_most, index_size, entries_of, has_entry, entry_of, look_up, body_of, look_lent, look_bytes, party_looked, look_outline, told_looked, told_found};
+ghost use Rattle.page_reader.specs.Code.{held_entry, HoldsBy, Finds};
 
 use crate::{PAGE_MOST, ReadCase, Tag, parse_tag, past, read_case, text_in};
 use errors::ParseError;
-use field_utils::lines::suffix;
-use party::{Party, PartyOption, index_of};
+use party::{Party, index_of};
 use reader::read_into;
 use record_bytes::{RECORD_SIZE, load};
 
@@ -27,23 +26,20 @@ pub struct FieldRead<T> {
     pub next: usize,
 }
 
-// Where a field that is looked up stands in the page, with its option and how many bytes precede its body.
+// An entry: a field's tag, as its option's place in the table, 0 to 10; its first position; and its length, tag and body without the LF.
 #[derive(Clone, Copy)]
-struct Place {
-    option: PartyOption,
-    skip: usize,
-    at: usize,
-    to: usize,
+struct Entry {
+    tag: u32,
+    position: u32,
+    len: u32,
 }
 
-impl Place {
-    // The field's body, as a part of the page.
-    fn body(self, page: &[u8]) -> &[u8]
-        requires { IsField (read_case page.now self.at) page.now self }
-        ensures { result.now ≡ drop self.skip (text_in page.now self.at self.to) }
-    {
-        suffix(text_in(page, self.at, self.to), self.skip)
-    }
+// Where a field that is looked up stands in the page, with its tag.
+#[derive(Clone, Copy)]
+struct Place<'a> {
+    tag: Tag<'a>,
+    at: usize,
+    to: usize,
 }
 
 // How many entries an index has.
@@ -55,49 +51,55 @@ pub fn entry_count(index: &[u32; INDEX_SIZE]) -> usize
     (index[0] as usize).min(INDEX_MOST)
 }
 
-// Where the field from one position to another stands, if it has this tag and length; else 21.
-fn field_in(page: &[u8], at: usize, to: usize, tag: u32, len: u32) -> Result<Place, ParseError>
-    requires { (at ≤ to) × (to ≤ length page.now) }
-    ensures { HoldsBy (Opening to) page.now at tag len result }
+// The entry of field k, counted from 1, if the index has one.
+fn entry_of(index: &[u32; INDEX_SIZE], k: usize) -> Option<Entry>
+    ensures { MatchOption result (has_entry index.now k ≡ false) (λ e. (has_entry index.now k ≡ true) × (entry_of index.now k ≡ held_entry e)) }
 {
+    if k == 0 || entry_count(index) < k {
+        return None;
+    }
+    let (entries, _) = index[1..].as_chunks::<3>();
+    let [tag, position, len] = entries[k - 1];
+    Some(Entry { tag, position, len })
+}
+
+// Where the field of an entry stands, which runs to a position, if it has the entry's tag and length; else 21.
+fn field_in(page: &[u8], to: usize, entry: Entry) -> Result<Place<'_>, ParseError>
+    requires { (entry.position ≤ to) × (to ≤ length page.now) }
+    ensures { HoldsBy (Opening to) page.now (held_entry entry) result }
+{
+    let at = entry.position as usize;
     let text = text_in(page, at, to);
     match parse_tag(text) {
-        Some(Tag { option, skip })
-            if text.len() == len as usize && index_of(option) == tag as usize => {
-            Ok(Place {
-                option,
-                skip,
-                at,
-                to,
-            })
+        Some(tag)
+            if index_of(tag.option) == entry.tag as usize && text.len() == entry.len as usize => {
+            Ok(Place { tag, at, to })
         }
         _ => Err(ParseError::Position),
     }
 }
 
-// Where the field at a position stands, if it has this tag and length; else, and where no field is, 21.
-fn field_here(page: &[u8], position: u32, tag: u32, len: u32) -> Result<Place, ParseError>
-    ensures { HoldsBy (read_case page.now position) page.now position tag len result }
+// Where the field of an entry stands; 21 where no field is at its position, or another than the entry says.
+fn field_here(page: &[u8], entry: Entry) -> Result<Place<'_>, ParseError>
+    ensures { HoldsBy (read_case page.now entry.position) page.now (held_entry entry) result }
 {
-    let at = position as usize;
-    match read_case(page, at) {
-        ReadCase::Opening { to } => field_in(page, at, to, tag, len),
+    match read_case(page, entry.position as usize) {
+        ReadCase::Opening { to } => field_in(page, to, entry),
         _ => Err(ParseError::Position),
     }
 }
 
 // Where field k stands by its entry, in the order 18, 31, 21.
-fn find(page: &[u8], index: &[u32; INDEX_SIZE], k: usize) -> Result<Place, ParseError>
+fn find<'a>(page: &'a [u8], index: &[u32; INDEX_SIZE], k: usize) -> Result<Place<'a>, ParseError>
     ensures { Finds page.now index.now k result }
 {
     if PAGE_MOST < page.len() {
         return Err(ParseError::PageTooLong);
     }
-    if k == 0 || entry_count(index) < k {
+    let Some(entry) = entry_of(index, k) else {
         return Err(ParseError::NoEntry);
-    }
-    let last = 3 * k;
-    field_here(page, index[last - 1], index[last - 2], index[last])
+    };
+    field_here(page, entry)
 }
 
 // Looks up field k of a page, counted from 1: reads as the reader does at the position that entry k gives. The record is stored at the
@@ -116,7 +118,7 @@ pub fn look_up_into(
     }
     let place = find(page, index, k)?;
     Ok(FieldRead {
-        outcome: read_into(place.option, place.body(page), record),
+        outcome: read_into(place.tag.option, place.tag.body, record),
         at: place.at,
         next: past(page, place.to),
     })
@@ -142,7 +144,7 @@ pub fn look_up_body<'a>(page: &'a [u8], index: &[u32; INDEX_SIZE], k: usize) -> 
     ensures { result.now ≡ body_of (look_up page.now index.now k) }
 {
     match find(page, index, k) {
-        Ok(place) => place.body(page),
+        Ok(place) => place.tag.body,
         Err(_) => &page[..0],
     }
 }

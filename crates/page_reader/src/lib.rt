@@ -5,11 +5,11 @@ ghost use Rattle.std.specs.Prelude.{◌≡◌, ◌+◌, ◌≤◌, length, drop}
 ghost use Rattle.party.specs.Limits.{options};
 ghost use Rattle.record_bytes.specs.RecordBytes.{record_size};
 ghost use Rattle.page_reader.specs.Pages.{line_at, opens, ends_at, runs, past as past_lf, tag_in, read_field, readable, text_in, read_case, read_at, body_in, body_place, read_lent, read_bytes, party_beside, kind_of, outline, told_kind, told_read_into, told_read, told_party};
-ghost use Rattle.page_reader.specs.Code.{is_over, told_tag, has_tag, known_in};
+ghost use Rattle.page_reader.specs.Code.{is_over, told_tag, has_tag, known};
 
 use errors::ParseError;
 use field_utils::lines::{find_lf, suffix, without_cr};
-use party::{OPTION_COUNT, Party, PartyOption, limits_of, option_at};
+use party::{NO_PART, OPTIONS, Part, Party, PartyOption, limits_of};
 use reader::read_into;
 use record_bytes::{RECORD_SIZE, load};
 
@@ -25,16 +25,6 @@ pub struct PageRead<T> {
     pub next: usize,
 }
 
-// Where a body stands in the page, and its length.
-#[derive(Clone, Copy, Debug, PartialEq, Eq)]
-pub struct BodyPlace {
-    pub start: usize,
-    pub len: usize,
-}
-
-// No body: there is no field, or its tag is none of the eleven.
-const NOWHERE: BodyPlace = BodyPlace { start: 0, len: 0 };
-
 // Which case a read is: a page that is too long, no position to read at, the page's length, or by the line there, with the position to
 // which the field, the end line or what is stray runs.
 #[derive(Clone, Copy)]
@@ -47,11 +37,11 @@ enum ReadCase {
     Stray { to: usize },
 }
 
-// A field's tag: its option, and how many bytes precede the body.
+// A field's tag: its option, and the body after it.
 #[derive(Clone, Copy)]
-struct Tag {
+struct Tag<'a> {
     option: PartyOption,
-    skip: usize,
+    body: &'a [u8],
 }
 
 // Whether the line at a position starts with a colon.
@@ -119,26 +109,29 @@ fn has_tag(option: PartyOption, digit: u8, letter: u8) -> bool
 }
 
 // The option of such a tag.
-fn known(digit: u8, letter: u8, skip: usize) -> Option<Tag>
-    ensures { result ≡ known_in options digit letter skip }
+fn known(digit: u8, letter: u8) -> Option<PartyOption>
+    ensures { result ≡ known digit letter }
 {
-    for place in 0..OPTION_COUNT {
-        let option = option_at(place);
-        if has_tag(option, digit, letter) {
-            return Some(Tag { option, skip });
-        }
-    }
-    None
+    OPTIONS
+        .iter()
+        .copied()
+        .find(|option| has_tag(*option, digit, letter))
 }
 
 // The tag of a field's text.
 #[tactic(auto, using(crate::proofs::Tags::tag_cases))]
 fn parse_tag(text: &[u8]) -> Option<Tag>
-    ensures { told_tag text.now result ≡ tag_in options text.now }
+    ensures { told_tag result ≡ tag_in options text.now }
 {
-    match *text {
-        [b':', b'5', digit, b':', ..] => known(digit, 0, 4),
-        [b':', b'5', digit, letter, b':', ..] if letter != 0 => known(digit, letter, 5),
+    match text {
+        [b':', b'5', digit, b':', body @ ..] => {
+            let option = known(*digit, 0)?;
+            Some(Tag { option, body })
+        }
+        [b':', b'5', digit, letter, b':', body @ ..] if *letter != 0 => {
+            let option = known(*digit, *letter)?;
+            Some(Tag { option, body })
+        }
         _ => None,
     }
 }
@@ -181,15 +174,14 @@ fn text_in(page: &[u8], at: usize, to: usize) -> &[u8]
 }
 
 // A field's text by its tag: 15, or what the option's reader says of the body.
-fn read_field_into(text: &[u8], record: &mut [u8]) -> Result<Option<()>, ParseError>
-    requires { record_size ≤ length «record».old }
+fn read_field_into(text: &[u8], record: &mut [u8; RECORD_SIZE]) -> Result<Option<()>, ParseError>
     ensures result_value { told_kind result ≡ kind_of (read_field text.now 0).outcome }
     ensures bytes { «record».new ≡ read_bytes (read_field text.now 0).outcome «record».old }
 {
-    let Some(Tag { option, skip }) = parse_tag(text) else {
+    let Some(Tag { option, body }) = parse_tag(text) else {
         return Err(ParseError::UnknownTag);
     };
-    read_into(option, suffix(text, skip), record)?;
+    read_into(option, body, record)?;
     Ok(Some(()))
 }
 
@@ -199,18 +191,18 @@ pub fn read_at_into(page: &[u8], at: usize, record: &mut [u8]) -> PageRead<()>
     ensures result_value { told_read_into result ≡ outline (read_lent page.now at «record».old) }
     ensures bytes { «record».new ≡ read_bytes (read_lent page.now at «record».old).outcome «record».old }
 {
-    if record.len() < RECORD_SIZE {
+    let Some(room) = record.first_chunk_mut() else {
         return PageRead {
             outcome: Err(ParseError::ShortRecord),
             next: at,
         };
-    }
+    };
     let (outcome, next) = match read_case(page, at) {
         ReadCase::TooLong => (Err(ParseError::PageTooLong), at),
         ReadCase::NoStart => (Err(ParseError::Position), at),
         ReadCase::AtLength => (Err(ParseError::PageLength), at),
         ReadCase::Opening { to } => {
-            let outcome = read_field_into(text_in(page, at, to), record);
+            let outcome = read_field_into(text_in(page, at, to), room);
             (outcome, past(page, to))
         }
         ReadCase::Ending { to } => (Ok(None), past(page, to)),
@@ -230,29 +222,29 @@ pub fn read_at(page: &[u8], at: usize) -> PageRead<Party>
     PageRead { outcome, next }
 }
 
-// Where the body of a field stands, by the field's text and the position where it ends.
-fn body_in(text: &[u8], end: usize) -> BodyPlace
+// The part of the page that is a field's body, by the field's text and where it ends; none where its tag is none of the eleven.
+fn body_in(text: &[u8], end: usize) -> Part
     requires { length text.now ≤ end }
     ensures { result ≡ body_in (tag_in options text.now) end }
 {
     match parse_tag(text) {
         Some(tag) => {
-            let len = suffix(text, tag.skip).len();
-            BodyPlace {
+            let len = tag.body.len();
+            Part {
                 start: end - len,
                 len,
             }
         }
-        None => NOWHERE,
+        None => NO_PART,
     }
 }
 
-// Where the body of the field at a position stands in the page.
-pub fn body_place(page: &[u8], at: usize) -> BodyPlace
+// The part of the page that is the body of the field at a position; none where no field is.
+pub fn body_place(page: &[u8], at: usize) -> Part
     ensures { result ≡ body_place page.now at }
 {
     let ReadCase::Opening { to } = read_case(page, at) else {
-        return NOWHERE;
+        return NO_PART;
     };
     let text = text_in(page, at, to);
     body_in(text, at + text.len())
@@ -262,6 +254,6 @@ pub fn body_place(page: &[u8], at: usize) -> BodyPlace
 pub fn body_at(page: &[u8], at: usize) -> &[u8]
     ensures { result.now ≡ (read_at page.now at).body }
 {
-    let BodyPlace { start, len } = body_place(page, at);
+    let Part { start, len } = body_place(page, at);
     &page[start..start + len]
 }

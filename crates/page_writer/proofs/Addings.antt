@@ -13,19 +13,20 @@ use Rattle.party.specs.declared.Party.{Party}
 use Rattle.party.specs.Limits.{place_of}
 use Rattle.party.specs.Party.{IsParty, Content, content}
 use Rattle.field_utils.specs.Tags.{tag_of}
-use Rattle.record_bytes.specs.RecordBytes.{record_size}
-use Rattle.writer.specs.Writing.{written_body, written_field, pieces, placed, field_most}
+use Rattle.record_bytes.specs.RecordBytes.{record_size, encoded, decoded}
+use Rattle.record_bytes.proofs.Theorems.{encoded_size}
+use Rattle.writer.specs.Writing.{written_body, written_field, placed, field_most}
 use Rattle.writer.specs.Given.{is_given}
 use Rattle.writer.specs.Placing.{Measured, length_is, refused_with, Placing, measure, place}
 use Rattle.writer.specs.Code.{Puts}
 use Rattle.writer.proofs.Theorems.{given_exact, written_most, measure_and_place}
 use Rattle.writer.proofs.Pairs.{measure_22, measured, unmeasured}
-use Rattle.writer.proofs.Capped.{bytes_say, option_stored, given_stored, field_stored, body_stored}
+use Rattle.writer.proofs.Capped.{bytes_say, option_stored, given_stored, field_stored, body_stored, encoded_stored}
 use Rattle.writer.proofs.Puts.{puts_byte, space, both, placed_fits}
 use Rattle.page_reader.specs.Pages.{page_most}
 use Rattle.page_reader.specs.Index.{Entry}
 use Rattle.page_writer.specs.IndexState.{IndexState, no_index, is_indexed, is_free, noting}
-use Rattle.page_writer.specs.Adding.{lines_carried, is_carried, writable, has_space, with_lf, end_line, position_after, refusal, Call, putting, record_space, asked, Tally, record_reply, tally_of, has_free_entry, add_reply, add, entry_for, add_index, close}
+use Rattle.page_writer.specs.Adding.{is_carried, writable, has_space, with_lf, end_line, position_after, refusal, Call, putting, record_space, asked, Tally, record_reply, tally_of, has_free_entry, add_reply, add, entry_for, add_index, close}
 use Rattle.page_writer.specs.Code.{line_reply, field_call}
 
 pub position≢refusal : {m k n : ℕ} → position_after m ≡ refusal k n → ⊥
@@ -116,13 +117,21 @@ module _ (p : Party) (h : IsParty p) (d : List ℕ) (l : record_size ≤ length 
   unfolding add_reply record_reply asked is_carried
   reply_stored b = rw (given_stored p h d l, body_stored p h d l, field_stored p h d l)
 
-  pub add_stored : (b : IndexState) → add buffer at b (bytes_say p h d l) ≡ add buffer at b (content p)
+  add_stored : (b : IndexState) → add buffer at b (bytes_say p h d l) ≡ add buffer at b (content p)
   unfolding add
   add_stored b = rw (reply_stored b, field_stored p h d l)
 
-  pub index_stored : (b : IndexState) → add_index buffer at b (bytes_say p h d l) ≡ add_index buffer at b (content p)
+  index_stored : (b : IndexState) → add_index buffer at b (bytes_say p h d l) ≡ add_index buffer at b (content p)
   unfolding add_index
   index_stored b = rw (reply_stored b, field_stored p h d l, option_stored p h d l)
+
+-- and so are its bytes alone
+module _ (p : Party) (h : IsParty p) (buffer : List ℕ) (at : ℕ) (b : IndexState) where
+  pub add_encoded : add buffer at b (content (decoded (encoded p))) ≡ add buffer at b (content p)
+  add_encoded = ap (λ (s : List ℕ). add buffer at b (content (decoded s))) (encoded_stored p h) ∙ add_stored p h (encoded p) (omega (arith, encoded_size p h)) buffer at b
+
+  pub index_encoded : add_index buffer at b (content (decoded (encoded p))) ≡ add_index buffer at b (content p)
+  index_encoded = ap (λ (s : List ℕ). add_index buffer at b (content (decoded s))) (encoded_stored p h) ∙ index_stored p h (encoded p) (omega (arith, encoded_size p h)) buffer at b
 
 -- ---- closing
 module _ (buffer : List ℕ) (at : ℕ) where
@@ -155,18 +164,12 @@ field_body : (p : Party) {field : List ℕ} → field ≡ written_field (content
 unfolding written_field content
 field_body p e = ap (drop (length (tag_of p.option))) e ∙ drop-append_seam (tag_of p.option) (written_body (content p))
 
--- a field that is filed, by whether it is carried
-pub field_by : (buffer : List ℕ) (at : ℕ) (field : List ℕ) (start : ℕ) (free : Bool) {t : Bool} → lines_carried (pieces (drop start field)) ≡ t
-    → field_call buffer at field start free ≡ putting (must t 23 0 then line_reply (length buffer) at field 2 free) buffer at (with_lf field)
-field_by buffer at field start free e = ap (λ (t : Bool). putting (must t 23 0 then line_reply (length buffer) at field 2 free) buffer at (with_lf field)) e
-
 -- a record's, as it is added
-pub field_is : (p : Party) (buffer : List ℕ) (at : ℕ) (b : IndexState) {field : List ℕ} {start : ℕ} → is_given (content p) ≡ true → writable buffer at ≡ true
-    → field ≡ written_field (content p) → start ≡ length (tag_of p.option) → field_call buffer at field start (has_free_entry b) ≡ add buffer at b (content p)
+pub field_is : (p : Party) (buffer : List ℕ) (at : ℕ) (b : IndexState) {field body : List ℕ} → is_given (content p) ≡ true → writable buffer at ≡ true
+    → field ≡ written_field (content p) → body ≡ drop (length (tag_of p.option)) field → field_call buffer at field body (has_free_entry b) ≡ add buffer at b (content p)
 unfolding is_carried
-field_is p buffer at b g w f s =
-    (λ j. field_call buffer at (f j) (s j) (has_free_entry b))
-    ∙ field_by buffer at (written_field (content p)) (length (tag_of p.option)) (has_free_entry b) (ap (λ (l : List ℕ). lines_carried (pieces l)) (field_body p refl))
+field_is p buffer at b {field} g w f s =
+    (λ j. field_call buffer at (f j) ((s ∙ field_body p f) j) (has_free_entry b))
     ∙ sym (add_asked buffer at b (content p) w (asked_by (content p) g refl))
 
 -- ---- a record placed in a room for it

@@ -1,7 +1,7 @@
 // Writing pages of fields, which are ours: no Rust file has them. Records are added to a page at a position, and it is closed.
 #![tactic(auto)]
 
-ghost use Rattle.std.specs.Prelude.{◌≡◌, ◌+◌, ◌-◌, ◌≤◌, ◌<◌, length, drop};
+ghost use Rattle.std.specs.Prelude.{◌≡◌, ◌+◌, ◌-◌, ◌≤◌, ◌<◌, length};
 ghost use Rattle.party.specs.Party.{content};
 ghost use Rattle.party.specs.Limits.{place_of};
 ghost use Rattle.record_bytes.specs.RecordBytes.{decoded};
@@ -10,14 +10,14 @@ ghost use Rattle.writer.specs.Code.{Puts};
 ghost use Rattle.writer.specs.ReadBack.{ends_cr};
 ghost use Rattle.page_writer.specs.IndexState.{IndexState, no_index, an_index, noted};
 ghost use Rattle.page_writer.specs.Adding.{lines_carried, writable, has_space, with_lf, has_free_entry, add as add_to, add_index, close as close_at, told_call};
-ghost use Rattle.page_writer.specs.Code.{line_call, field_call, Holds, Notes};
+ghost use Rattle.page_writer.specs.Code.{line_call, field_call, Renders, Notes};
 
 use errors::ParseError;
-use field_utils::lines::find_lf;
+use field_utils::lines::{find_lf, suffix};
 use page_reader::index::{INDEX_MOST, INDEX_SIZE, entry_count};
 use page_reader::{PAGE_MOST, ends_at, opens_at};
 use party::{Party, PartyOption, index_of};
-use record_bytes::{RECORD_SIZE, option_of, store};
+use record_bytes::{encoded, option_of};
 use writer::{FIELD_MOST, place_record, put_text, tag_length};
 
 // Whether a position is one to write at: 0, or after an LF.
@@ -44,23 +44,22 @@ fn ends_cr(line: &[u8]) -> bool
     matches!(line, [.., b'\r'])
 }
 
-// Whether the pieces of a field's body, which starts at a position, are lines that a page carries: none ends in CR, a later one neither
-// opens a field nor ends the page, and the last is not empty.
-fn are_carried(field: &[u8], start: usize) -> bool
-    requires { start ≤ length field.now }
-    ensures { result ≡ lines_carried (pieces (drop start field.now)) }
+// Whether the pieces of a field's body are lines that a page carries: none ends in CR, a later one neither opens a field nor ends the page,
+// and the last is not empty.
+fn are_carried(body: &[u8]) -> bool
+    ensures { result ≡ lines_carried (pieces body.now) }
 {
-    let mut i = start;
+    let mut i = 0;
     loop {
-        let lf = find_lf(field, i);
-        if ends_cr(&field[i..lf]) {
+        let lf = find_lf(body, i);
+        if ends_cr(&body[i..lf]) {
             return false;
         }
-        if field.len() <= lf {
-            return i < field.len();
+        if body.len() <= lf {
+            return i < body.len();
         }
         let next = lf + 1;
-        if opens_at(field, next) || ends_at(field, next) {
+        if opens_at(body, next) || ends_at(body, next) {
             return false;
         }
         i = next;
@@ -98,38 +97,34 @@ fn file_line(
     Ok(put_line(buf, at, text))
 }
 
-// What an add renders of a record: its field in a room, by its length and where its body starts.
-#[derive(Clone, Copy)]
-struct Rendered {
-    len: usize,
-    start: usize,
-}
-
 // Places in a room the field of a lent record that is to be added at a position, to see the lines as they would stand: 21, 22.
-fn render(record: &[u8], buf: &[u8], at: usize, room: &mut [u8]) -> Result<Rendered, ParseError>
-    requires { length room.old ≡ field_most }
-    ensures { Holds buf.now at (content (decoded «record».now)) result room.new }
+fn render<'a>(
+    record: &[u8],
+    buf: &[u8],
+    at: usize,
+    room: &'a mut [u8; FIELD_MOST],
+) -> Result<&'a [u8], ParseError>
+    ensures { Renders buf.now at (content (decoded «record».now)) result }
 {
     if !is_writable(buf, at) {
         return Err(ParseError::Position);
     }
-    let start = tag_length(option_of(record));
     let len = place_record(record, room)?;
-    Ok(Rendered { len, start })
+    Ok(&room[..len])
 }
 
-// Files a field at a position, by where its body starts: 23, 24, 31.
+// Files a field at a position, by its body: 23, 24, 31.
 fn file_field(
     buf: &mut [u8],
     at: usize,
     field: &[u8],
-    start: usize,
+    body: &[u8],
     free: bool,
 ) -> Result<usize, ParseError>
-    requires { (start ≤ length field.now) × (length field.now ≤ field_most) }
-    ensures { told_call result buf.new ≡ field_call buf.old at field.now start free }
+    requires { length field.now ≤ field_most }
+    ensures { told_call result buf.new ≡ field_call buf.old at field.now body.now free }
 {
-    if !are_carried(field, start) {
+    if !are_carried(body) {
         return Err(ParseError::NotCarried);
     }
     file_line(buf, at, field, 2, free)
@@ -140,8 +135,9 @@ fn file_record(record: &[u8], buf: &mut [u8], at: usize, free: bool) -> Result<u
     ensures { (b : IndexState) → free ≡ has_free_entry b → told_call result buf.new ≡ add_to buf.old at b (content (decoded «record».now)) }
 {
     let mut room = [0u8; FIELD_MOST];
-    let Rendered { len, start } = render(record, buf, at, &mut room)?;
-    file_field(buf, at, &room[..len], start, free)
+    let field = render(record, buf, at, &mut room)?;
+    let body = suffix(field, tag_length(option_of(record)));
+    file_field(buf, at, field, body, free)
 }
 
 // Adds a lent record, as crate record_bytes lays it out, to a page without an index at a position: 21, 22, 23, 24.
@@ -155,9 +151,7 @@ pub fn add_record(record: &[u8], buf: &mut [u8], at: usize) -> Result<usize, Par
 pub fn add(p: Party, buf: &mut [u8], at: usize) -> Result<usize, ParseError>
     ensures { told_call result buf.new ≡ add_to buf.old at no_index (content p) }
 {
-    let mut record = [0u8; RECORD_SIZE];
-    store(p, &mut record);
-    add_record(&record, buf, at)
+    add_record(&encoded(p), buf, at)
 }
 
 // Puts an entry after so many others into an index, and raises the count: a field from a position to the one after its LF.
@@ -198,9 +192,7 @@ pub fn add_indexed(
     ensures buf_after { told_call result buf.new ≡ add_to buf.old at (an_index index.old) (content p) }
     ensures index { an_index index.new ≡ add_index buf.old at (an_index index.old) (content p) }
 {
-    let mut record = [0u8; RECORD_SIZE];
-    store(p, &mut record);
-    add_indexed_record(&record, buf, at, index)
+    add_indexed_record(&encoded(p), buf, at, index)
 }
 
 // Closes the page at a position: 21, 24.

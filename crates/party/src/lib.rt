@@ -2,7 +2,7 @@
 // the option beside one record. The limits of the eleven options stand here in one table.
 #![tactic(auto)]
 
-ghost use Rattle.std.specs.Prelude.{◌≡◌, [], ◌∷◌, take};
+ghost use Rattle.std.specs.Prelude.{◌≡◌, [], ◌∷◌, length, take};
 ghost use Rattle.party.specs.Limits.{limits_of, place_of, option_at};
 ghost use Rattle.party.specs.Text.{text_of, used, part_in};
 ghost use Rattle.party.specs.Party.{blank as blank_party, where_limit, names_of, where_numbered, Same};
@@ -34,6 +34,15 @@ pub struct Text {
     pub len: usize,
 }
 
+impl Text {
+    // The bytes that it uses: as many as its length says, or all 38 where that passes them.
+    pub fn used(&self) -> &[u8]
+        ensures { result.now ≡ (used self.now).bytes }
+    {
+        &self.bytes[..self.len.min(TEXT_MOST)]
+    }
+}
+
 // A party: its option, whether the body gave an account or identifier, that text, the BIC, as many names as count says, and in 50F the
 // digit of each name's line.
 #[derive(Clone, Copy)]
@@ -52,6 +61,18 @@ pub struct Party {
 pub struct Part {
     pub start: usize,
     pub len: usize,
+}
+
+impl Part {
+    // The part that is all of a body.
+    pub fn whole(body: &[u8]) -> Part
+        ensures { result ≡ record { start = 0; len = length body.now } }
+    {
+        Part {
+            start: 0,
+            len: body.len(),
+        }
+    }
 }
 
 // The part that holds nothing.
@@ -318,7 +339,7 @@ pub fn index_of(option: PartyOption) -> usize
 pub const OPTION_COUNT: usize = 11;
 
 // The options in the order of the table.
-static OPTIONS: [PartyOption; OPTION_COUNT] = [
+pub static OPTIONS: [PartyOption; OPTION_COUNT] = [
     PartyOption::Field50NoOption,
     PartyOption::Field50A,
     PartyOption::Field50F,
@@ -368,7 +389,7 @@ pub fn part_of(body: &[u8], part: Part) -> &[u8]
     &body[start..start + len]
 }
 
-// The blank record: what stands beside a refusal, and beside a page's end.
+// The blank record: what `load` gives where there is no record, and what the definitions have beside a refusal and a page's end.
 pub fn blank() -> Party
     ensures { result ≡ blank_party }
 {
@@ -387,11 +408,7 @@ pub fn blank() -> Party
 fn same_text(t: &Text, u: &Text) -> bool
     ensures { Decides result (used t.now ≡ used u.now) }
 {
-    if t.len != u.len {
-        return false;
-    }
-    let len = t.len.min(TEXT_MOST);
-    t.bytes[..len] == u.bytes[..len]
+    t.len == u.len && t.used() == u.used()
 }
 
 // Whether the texts of an option hold the same, where its limit for them is not 0.
@@ -405,12 +422,11 @@ fn same_where(limit: usize, t: &Text, u: &Text) -> bool
 fn same_names(p: &Party, q: &Party, count: usize) -> bool
     ensures { Decides result (names_of count p.now ≡ names_of count q.now) }
 {
-    for i in 0..count.min(4) {
-        if !same_text(&p.name_and_address[i], &q.name_and_address[i]) {
-            return false;
-        }
-    }
-    true
+    p.name_and_address
+        .iter()
+        .zip(&q.name_and_address)
+        .take(count)
+        .all(|(t, u)| same_text(t, u))
 }
 
 // Whether their first digits are the same, where the option has digits beside its texts.
@@ -430,27 +446,12 @@ fn same_numbers(numbering: Numbering, p: &Party, q: &Party, count: usize) -> boo
 pub fn same(p: Party, q: Party) -> bool
     ensures { Decides result (Same p q) }
 {
-    if p.option != q.option {
-        return false;
-    }
-    if p.present != q.present {
-        return false;
-    }
-    if p.count != q.count {
-        return false;
-    }
     let limits = limits_of(p.option);
-    if !same_where(limits.account_max, &p.account, &q.account) {
-        return false;
-    }
-    if !same_where(limits.bic_count, &p.bic, &q.bic) {
-        return false;
-    }
-    if !same_numbers(limits.numbering, &p, &q, p.count) {
-        return false;
-    }
-    if limits.max_names == 0 {
-        return true;
-    }
-    same_names(&p, &q, p.count)
+    p.option == q.option
+        && p.present == q.present
+        && p.count == q.count
+        && same_where(limits.account_max, &p.account, &q.account)
+        && same_where(limits.bic_count, &p.bic, &q.bic)
+        && same_numbers(limits.numbering, &p, &q, p.count)
+        && (limits.max_names == 0 || same_names(&p, &q, p.count))
 }

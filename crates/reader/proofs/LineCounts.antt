@@ -59,6 +59,12 @@ module _ (o : PartyOption) {m : Limits} (e : m ≡ limits_of o) (n : ℕ) where
   pub counts_least : m.max_lines ≡ 0 → is_counted o n ≡ leb m.min_lines n
   counts_least z = rw (← e, eq-eqb _ _ z) (and-true (leb m.min_lines n))
 
+  pub counts_few : n < m.min_lines → is_counted o n ≡ false
+  counts_few h = rw (← e, lt-leb _ _ h)
+
+  pub counts_most : m.min_lines ≤ n → (m.max_lines ≡ 0 → ⊥) → is_counted o n ≡ leb n m.max_lines
+  counts_most h z = rw (← e, le-leb _ _ h, ne_eqb _ _ z)
+
 -- a second line is there where the first does not run to the end
 pub lines_second : (s : List ℕ) (rest : ℕ) → length (lines s) ≡ suc (length (lines (drop rest s))) → leb 2 (length (lines s)) ≡ ltb rest (length s)
 unfolding lines

@@ -5,6 +5,8 @@ use mathlib.Core.List.{List, [], map}
 use Rattle.std.specs.Prelude.{Ok, Err, Option, None, Some, is_some}
 use Rattle.std.specs.Option.{unwrap_or}
 use Prim.Native.Nat.{ℕ}
+use lib.ListN.{length}
+use lib.Seq.{take-length}
 use borrow.Author.Tests.{eq-eqb, ne_eqb}
 use Rattle.errors.specs.declared.ParseError.{ParseError}
 use Rattle.errors.specs.Refusals.{Reply, accepted, refused, told_error}
@@ -40,6 +42,10 @@ head_present body (Some p) = refl
 pub head_text : (body : List ℕ) (a : Option Part) → part_in body (unwrap_or a (record { start = 0; len = 0 })) ≡ (head_at body a).text
 head_text body None = refl
 head_text body (Some p) = refl
+
+-- the part that is all of a body
+pub whole_part : (body : List ℕ) {p : Part} → p ≡ record { start = 0; len = length body } → part_in body p ≡ body
+whole_part body e = ap (part_in body) e ∙ take-length body
 
 -- a reading says what is said of it
 pub giving_reply : (r : Reply) (p : Party) → (giving r p).reply ≡ r

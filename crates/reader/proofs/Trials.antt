@@ -1,12 +1,16 @@
 -- What is tried, one place after the other: by its test, or by its letter. Assumes nothing.
-use mathlib.Core.Path.{◌≡◌, refl, ap}
+use mathlib.Core.Path.{◌≡◌, refl, sym, ap, ◌∙◌}
 use mathlib.Core.Bool.{Bool, true, false}
 use mathlib.Core.List.{List, [], ◌∷◌, ◌++◌}
-use Prim.Native.Nat.{ℕ, ◌+◌, ◌<◌}
+use Prim.Native.Nat.{ℕ, zero, suc, ◌+◌, ◌<◌}
+use native.Mathlib.Omega.{arith}
 use native.Mathlib.Numerals.{add-one}
 use lib.Dec.{eqb}
 use lib.ListN.{length, drop, get_or}
 use lib.Seq.{drop-cons}
+use denote.Bor.{Bor}
+use Rattle.std.specs.Prelude.{Option, None, Some, MatchOption}
+use Rattle.std.specs.List.{AllWithin, HoldsAt}
 use Rattle.errors.specs.Refusals.{Reply, accepted, refused}
 use Rattle.party.specs.declared.PartyOption.{PartyOption}
 use Rattle.party.specs.Limits.{limits_of}
@@ -15,7 +19,7 @@ use Rattle.reader.specs.Options.{read}
 use Rattle.reader.specs.declared.choices.Choice.{Choice}
 use Rattle.reader.specs.declared.choices.Choice.TheVariants.{Field50InstructingParty, Field50OrderingCustomerFGH, Field50OrderingCustomerAFK, Field50OrderingCustomerNCF, Field50Creditor, Field59, Field59Debtor}
 use Rattle.reader.specs.declared.choices.Trial.{Trial}
-use Rattle.reader.specs.Choices.{refusing, when, first_that, after_check, pick_of}
+use Rattle.reader.specs.Choices.{refusing, when, first_that, after_check, options_in, pick_of}
 
 -- a proof for each choice
 pub by_choice : (P : Choice → Type 0) → P Field50InstructingParty → P Field50OrderingCustomerFGH → P Field50OrderingCustomerAFK → P Field50OrderingCustomerNCF
@@ -57,18 +61,43 @@ first_none body = refl
 
 -- what a letter picks of options, one after the other
 module _ (letter : ℕ) (body : List ℕ) (detects : Reading) where
-  pub pick_here : (o : PartyOption) (os : List PartyOption) → eqb letter (limits_of o).letter ≡ true → pick_of letter (o ∷ os) body detects ≡ read o body
+  pick_here : (o : PartyOption) (os : List PartyOption) → eqb letter (limits_of o).letter ≡ true → pick_of letter (o ∷ os) body detects ≡ read o body
   unfolding pick_of
   pick_here o os e = rw (e, pick_of)
 
-  pub pick_next : (o : PartyOption) (os : List PartyOption) → eqb letter (limits_of o).letter ≡ false
+  pick_next : (o : PartyOption) (os : List PartyOption) → eqb letter (limits_of o).letter ≡ false
       → pick_of letter (o ∷ os) body detects ≡ pick_of letter os body detects
   unfolding pick_of
   pick_next o os e = rw (e, pick_of)
 
-  pub pick_none : pick_of letter [] body detects ≡ detects
+  pick_none : pick_of letter [] body detects ≡ detects
   unfolding pick_of
   pick_none = refl
+
+  abbrev pub Has : Trial → Type 0
+  Has t = true ≡ eqb letter (limits_of t.0).letter
+
+  abbrev pub Lacks : Trial → Type 0
+  Lacks t = false ≡ eqb letter (limits_of t.0).letter
+
+  found : (ts : List Trial) (t : Trial) → Has t → (i : ℕ) → i < length ts → HoldsAt (λ u. u ≡ t) ts i → AllWithin Lacks ts 0 i → pick_of letter (options_in ts) body detects ≡ read t.0 body
+  found [] t e i h s n = absurd (omega arith)
+  found (u ∷ ts) t e zero h s n = pick_here _ _ (ap (λ (u : Trial). eqb letter (limits_of u.0).letter) (s t) ∙ sym e) ∙ ap (λ (u : Trial). read u.0 body) (s t)
+  found (u ∷ ts) t e (suc i) h s n = pick_next _ _ (sym (n 0 t (omega arith) (omega arith))) ∙ found ts t e i (omega arith) s (λ k d a b. n (suc k) d (omega arith) (omega arith))
+
+  none : (ts : List Trial) → AllWithin Lacks ts 0 (length ts) → pick_of letter (options_in ts) body detects ≡ detects
+  none [] n = pick_none
+  none (u ∷ ts) n = pick_next _ _ (sym (n 0 u (omega arith) (omega arith))) ∙ none ts (λ k d a b. n (suc k) d (omega arith) (omega arith))
+
+  -- by the first trial that has it, or where none has
+  abbrev pub read_by : Option (Bor Trial) → Reading
+  read_by None = detects
+  read_by (Some x) = read x.now.0 body
+
+  pub pick_first : (ts : List Trial) (r : Option (Bor Trial)) → MatchOption r (AllWithin Lacks ts 0 (length ts)) (λ x. Has x.now × (i : ℕ) × (i < length ts) × HoldsAt (λ u. u ≡ x.now) ts i × AllWithin Lacks ts 0 i)
+      → pick_of letter (options_in ts) body detects ≡ read_by r
+  pick_first ts None n = none ts n
+  pick_first ts (Some x) (e, i, h, s, n) = found ts x.now e i h s n
 
 -- a check before a reading
 module _ {q : Reply} (r : Reading) where

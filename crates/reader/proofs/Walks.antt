@@ -161,10 +161,10 @@ module _ (w : LineSummary) where
   abbrev seen : List (List ℕ)
   seen = lines text
 
-  pub seen_any : {t : Bool} → w.first_numbered ≡ t → (t || any_numbered (drop 1 seen)) ≡ any_numbered seen
+  pub seen_any : {t : Bool} → w.first.numbered ≡ t → (t || any_numbered (drop 1 seen)) ≡ any_numbered seen
   seen_any e = ap (λ (u : Bool). u || any_numbered (drop 1 seen)) (sym e ∙ w.one) ∙ sym (any_split seen)
 
-  pub seen_later : {t : Bool} → w.second_numbered ≡ t → (t || any_numbered (lines (drop w.rest.at text))) ≡ any_numbered (drop 1 seen)
+  pub seen_later : {t : Bool} → w.second.numbered ≡ t → (t || any_numbered (lines (drop w.rest.at text))) ≡ any_numbered (drop 1 seen)
   seen_later e = (λ i. (sym e ∙ w.two) i || any_numbered (w.later i)) ∙ sym (any_later seen)
 
   pub seen_last : last_or (part_in text w.last) (lines (drop w.rest.at text)) ≡ last_line seen

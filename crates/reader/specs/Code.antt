@@ -34,6 +34,11 @@ abbrev pub head_at : List ℕ → Option Part → Head
 head_at body None = no_head
 head_at body (Some p) = passed_head true (part_in body p)
 
+-- how many lines precede the others: that of a head, or none
+abbrev pub lines_before : Option Part → ℕ
+lines_before None = 0
+lines_before (Some p) = 1
+
 -- whether a first line has an account, by what it is to the option: not a long one in 59 and 59A
 abbrev pub has_account : First → PartyOption → List ℕ → Bool
 has_account NoAccount o l = starts 47 l

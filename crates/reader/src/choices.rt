@@ -1,11 +1,10 @@
 // The seven choices among options of field50.rs and field59.rs, in one form: by a letter, or detected.
-ghost use Rattle.std.specs.Prelude.{◌≡◌, ◌≤◌, eqb, length, take, drop};
+ghost use Rattle.std.specs.Prelude.{◌≡◌, eqb, length, take, drop};
 ghost use Rattle.errors.specs.Refusals.{accepted};
 ghost use Rattle.party.specs.Limits.{limits_of};
 ghost use Rattle.party.specs.Text.{part_in};
 ghost use Rattle.field_utils.specs.Identifier.{is_numbered};
 ghost use Rattle.field_utils.specs.Lines.{lines};
-ghost use Rattle.record_bytes.specs.RecordBytes.{record_size};
 ghost use Rattle.reader.specs.Reading.{told_answer, told_into, leaves, read_into};
 ghost use Rattle.reader.specs.Options.{body_reply};
 ghost use Rattle.reader.specs.Detection.{any_numbered, first_line, last_line, bic_like, test_line, holds as holds_of};
@@ -93,25 +92,41 @@ fn trials_of(choice: Choice) -> &'static [Trial]
     }
 }
 
+// What is seen of a line: its length, and whether it is numbered.
+#[derive(Clone, Copy)]
+struct Seen {
+    len: usize,
+    numbered: bool,
+}
+
+impl Seen {
+    // Looks at a line.
+    fn of(line: &[u8]) -> Seen
+        ensures length { result.len ≡ length line.now }
+        ensures number { result.numbered ≡ is_numbered line.now }
+    {
+        Seen {
+            len: line.len(),
+            numbered: is_numbered_line(line),
+        }
+    }
+}
+
 // What the tests ask first of a text's lines: what is seen of two, and the others. A line that is not there is empty.
 #[derive(Clone, Copy)]
 struct LineSummary<'a> {
     // how many lines there are, at most 3
     count: usize,
-    // the lengths of the first line and of the second
-    first: usize,
-    second: usize,
-    // whether these are numbered
-    first_numbered: bool,
-    second_numbered: bool,
+    first: Seen,
+    second: Seen,
     // the second line, or the only one
     last: Part,
     rest: Lines<'a>,
     ghost counted: { count ≡ length (take 3 (lines rest.text.now)) },
-    ghost first_length: { first ≡ length (first_line (lines rest.text.now)) },
-    ghost second_length: { second ≡ length (first_line (drop 1 (lines rest.text.now))) },
-    ghost one: { first_numbered ≡ is_numbered (first_line (lines rest.text.now)) },
-    ghost two: { second_numbered ≡ is_numbered (first_line (drop 1 (lines rest.text.now))) },
+    ghost first_length: { first.len ≡ length (first_line (lines rest.text.now)) },
+    ghost second_length: { second.len ≡ length (first_line (drop 1 (lines rest.text.now))) },
+    ghost one: { first.numbered ≡ is_numbered (first_line (lines rest.text.now)) },
+    ghost two: { second.numbered ≡ is_numbered (first_line (drop 1 (lines rest.text.now))) },
     ghost last_is: { part_in rest.text.now last ≡ last_line (take 2 (lines rest.text.now)) },
     ghost later: { lines (drop rest.at rest.text.now) ≡ drop 2 (lines rest.text.now) },
 }
@@ -127,11 +142,9 @@ fn summarize(text: &[u8]) -> LineSummary<'_>
     let second = part_of(rest.text, two.unwrap_or(NO_PART));
     let more = rest.at < rest.text.len();
     LineSummary {
-        count: one.is_some() as usize + two.is_some() as usize + more as usize,
-        first: first.len(),
-        second: second.len(),
-        first_numbered: is_numbered_line(first),
-        second_numbered: is_numbered_line(second),
+        count: usize::from(one.is_some()) + usize::from(two.is_some()) + usize::from(more),
+        first: Seen::of(first),
+        second: Seen::of(second),
         last: two.or(one).unwrap_or(NO_PART),
         rest,
     }
@@ -152,14 +165,14 @@ impl LineSummary<'_> {
     {
         let mut rest = self.rest;
         let text = rest.text;
-        self.second_numbered || rest.any(|line| is_numbered_line(part_of(text, line)))
+        self.second.numbered || rest.any(|line| is_numbered_line(part_of(text, line)))
     }
 
     // Whether a line is numbered.
     fn any_numbered(&self) -> bool
         ensures { result ≡ holds_of Test.AnyNumbered (lines self.now.rest.text.now) }
     {
-        self.first_numbered || self.later_numbered()
+        self.first.numbered || self.later_numbered()
     }
 
     // The last line, as a part of the text.
@@ -175,9 +188,9 @@ impl LineSummary<'_> {
         ensures { result ≡ holds_of Test.FirstNumbered (lines self.now.rest.text.now) }
     {
         if starts_with_slash(self.rest.text) {
-            self.second_numbered
+            self.second.numbered
         } else {
-            self.first_numbered
+            self.first.numbered
         }
     }
 
@@ -192,7 +205,7 @@ impl LineSummary<'_> {
             Test::SlashFirst => 2 <= self.count && starts_with_slash(self.rest.text),
             Test::AnyNumbered => self.any_numbered(),
             Test::LastIsBic => is_bic_like(trim(self.last_line())),
-            Test::BicSized => self.count == 1 && BIC_SHORT <= self.first && self.first <= BIC_LONG,
+            Test::BicSized => self.count == 1 && (BIC_SHORT..=BIC_LONG).contains(&self.first.len),
             Test::FirstNumbered => self.first_numbered(),
         }
     }
@@ -202,9 +215,9 @@ impl LineSummary<'_> {
         ensures { result ≡ length (test_line (lines self.now.rest.text.now)) }
     {
         if starts_with_slash(self.rest.text) {
-            self.second
+            self.second.len
         } else {
-            self.first
+            self.first.len
         }
     }
 
@@ -212,8 +225,8 @@ impl LineSummary<'_> {
     fn short_bic_line(&self) -> usize
         ensures { result ≡ length (short_bic_line (lines self.now.rest.text.now)) }
     {
-        if limits_of(PartyOption::Field59A).account_max + 1 < self.first {
-            self.first
+        if limits_of(PartyOption::Field59A).account_max + 1 < self.first.len {
+            self.first.len
         } else {
             self.bic_line_length()
         }
@@ -226,7 +239,7 @@ impl LineSummary<'_> {
         match option {
             PartyOption::Field50C => !is_bic_length(text.len()),
             PartyOption::Field50A => !is_bic_length(self.bic_line_length()),
-            PartyOption::Field50G => !is_bic_length(self.second),
+            PartyOption::Field50G => !is_bic_length(self.second.len),
             PartyOption::Field59A => !is_bic_length(self.short_bic_line()),
             _ => false,
         }
@@ -261,17 +274,14 @@ fn asked_text(choice: Choice, body: &[u8]) -> &[u8]
 }
 
 // After 12, 13 and 42: the first option that accepts, of those that are open; 11 where none does.
-fn first_that(choice: Choice, body: &[u8], record: &mut [u8]) -> Result<(), ParseError>
-    requires { (body_reply body.now ≡ accepted) × (record_size ≤ length «record».old) }
+fn first_that(choice: Choice, body: &[u8], record: &mut [u8; RECORD_SIZE]) -> Result<(), ParseError>
+    requires { body_reply body.now ≡ accepted }
     ensures { told_into result «record».new ≡ leaves (first_that (wanted (lines body.now) (trials_of choice)) (tried_text choice body.now)) «record».old }
 {
     let text = tried_text(choice, body);
     let seen = summarize(asked_text(choice, body));
     for &Trial(option, test) in trials_of(choice) {
-        if !seen.is_open(option, test, text) {
-            continue;
-        }
-        if read_own_into(option, text, record).is_ok() {
+        if seen.is_open(option, test, text) && read_own_into(option, text, record).is_ok() {
             return Ok(());
         }
     }
@@ -283,11 +293,11 @@ fn first_that(choice: Choice, body: &[u8], record: &mut [u8]) -> Result<(), Pars
 pub fn parse_into(choice: Choice, body: &[u8], record: &mut [u8]) -> Result<(), ParseError>
     ensures { told_into result «record».new ≡ read_into (parse_of choice body.now) «record».old }
 {
-    if record.len() < RECORD_SIZE {
+    let Some(room) = record.first_chunk_mut() else {
         return Err(ParseError::ShortRecord);
-    }
+    };
     parse_body(body)?;
-    first_that(choice, body, record)
+    first_that(choice, body, room)
 }
 
 // Whether a letter is A to Z, or 0 for none.
@@ -319,12 +329,13 @@ pub fn parse_with_variant_into(
     if !is_letter(letter) {
         return Err(ParseError::NotALetter);
     }
-    for &Trial(option, _) in trials_of(choice) {
-        if has_letter(option, letter) {
-            return read_into(option, body, record);
-        }
+    let picked = trials_of(choice)
+        .iter()
+        .find(|trial| has_letter(trial.0, letter));
+    match picked {
+        Some(&Trial(option, _)) => read_into(option, body, record),
+        None => parse_into(choice, body, record),
     }
-    parse_into(choice, body, record)
 }
 
 // Detects, with the record by value.

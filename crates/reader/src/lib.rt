@@ -3,8 +3,8 @@
 #![tactic(auto)]
 
 use errors::ParseError;
-use field_utils::lines::{Lines, count_lines, find_lf, is_ascii, lines_of, suffix};
-use field_utils::{parse_name_and_address, parse_party_identifier, starts_with_slash};
+use field_utils::lines::{Lines, find_lf, is_ascii, lines_of, suffix};
+use field_utils::{Names, parse_name_and_address, parse_party_identifier, starts_with_slash};
 use party::{First, Layout, NO_PART, Part, Parts, Party, PartyOption, limits_of, part_of};
 use record_bytes::{RECORD_SIZE, load, store_parts};
 use swift_utils::{parse_account, parse_bic, parse_length};
@@ -12,17 +12,16 @@ use swift_utils::{parse_account, parse_bic, parse_length};
 pub mod choices;
 pub mod traits;
 
-ghost use Rattle.std.specs.Prelude.{◌≡◌, true, false, List, ℕ, suc, ◌+◌, ◌^◌, ◌≤◌, ◌<◌, length, drop, MatchResult};
+ghost use Rattle.std.specs.Prelude.{◌≡◌, true, false, List, ℕ, suc, ◌+◌, ◌^◌, ◌<◌, length, drop, MatchResult};
 ghost use Rattle.errors.specs.Refusals.{told};
 ghost use Rattle.errors.specs.declared.ParseError.TheVariants.{PartyIdentifier};
 ghost use Rattle.party.specs.Limits.{limits_of};
 ghost use Rattle.party.specs.Text.{part_in};
 ghost use Rattle.party.specs.Party.{party_in};
 ghost use Rattle.field_utils.specs.Lines.{starts, lines};
-ghost use Rattle.record_bytes.specs.RecordBytes.{record_size};
 ghost use Rattle.reader.specs.Reading.{told_answer, party_of, told_into, leaves, read_into};
 ghost use Rattle.reader.specs.Options.{is_counted, length_reply, account_reply, head_by, with_names, with_bic, after_head, by_lines, bic_only, text_only, body_reply, read_own, read as read_of};
-ghost use Rattle.reader.specs.Code.{told_parts, IsHead, has_account, account_by, head_at, nameless, reading_of};
+ghost use Rattle.reader.specs.Code.{told_parts, IsHead, has_account, account_by, head_at, lines_before, nameless, reading_of};
 
 // A text as an account: its length, then its bytes.
 fn account(text: &[u8], option: PartyOption) -> Result<(), ParseError>
@@ -41,23 +40,24 @@ pub fn account_length(text: &[u8], option: PartyOption) -> Result<(), ParseError
 }
 
 // Whether a first line has an account: it starts with a slash; in 59 and 59A it is not too long besides.
-fn has_account(line: &[u8], option: PartyOption, first: First) -> bool
-    ensures { result ≡ has_account first option line.now }
+fn has_account(line: &[u8], option: PartyOption) -> bool
+    ensures { result ≡ has_account (limits_of option).first option line.now }
 {
     if !starts_with_slash(line) {
         return false;
     }
-    match first {
-        First::ShortAccount => suffix(line, 1).len() <= limits_of(option).account_max,
+    let limits = limits_of(option);
+    match limits.first {
+        First::ShortAccount => suffix(line, 1).len() <= limits.account_max,
         _ => true,
     }
 }
 
 // 50K, 59, 59A: an account or none. A head is told by how many bytes of the line stand before its text.
-fn account_head(line: &[u8], option: PartyOption, first: First) -> Result<Option<usize>, ParseError>
-    ensures { IsHead line.now result (account_by first option line.now) }
+fn account_head(line: &[u8], option: PartyOption) -> Result<Option<usize>, ParseError>
+    ensures { IsHead line.now result (account_by (limits_of option).first option line.now) }
 {
-    if !has_account(line, option, first) {
+    if !has_account(line, option) {
         return Ok(None);
     }
     account(suffix(line, 1), option)?;
@@ -79,13 +79,9 @@ fn after_slash(line: &[u8]) -> Result<&[u8], ParseError>
 fn parse_head(line: &[u8], option: PartyOption) -> Result<Option<usize>, ParseError>
     ensures { IsHead line.now result (head_by (limits_of option).first option line.now) }
 {
-    let first = limits_of(option).first;
-    match first {
+    match limits_of(option).first {
         First::NoAccount => Ok(None),
-        First::Identified => match parse_party_identifier(line, 1, option)? {
-            Some(_) => Ok(Some(1)),
-            None => Ok(None),
-        },
+        First::Identified => Ok(parse_party_identifier(line, 1, option)?.map(|_| 1)),
         First::SlashAccount => {
             account(after_slash(line)?, option)?;
             Ok(Some(1))
@@ -98,16 +94,24 @@ fn parse_head(line: &[u8], option: PartyOption) -> Result<Option<usize>, ParseEr
             account(line, option)?;
             Ok(Some(0))
         }
-        _ => account_head(line, option, first),
+        _ => account_head(line, option),
     }
 }
 
-// Where the names or the BIC start, how many lines precede them, and the account or identifier that does.
+// The lines of the names or the BIC, and the account or identifier that precedes them.
 #[derive(Clone, Copy)]
 struct RestAt<'a> {
     lines: Lines<'a>,
-    start_idx: u8,
     account: Option<Part>,
+}
+
+impl RestAt<'_> {
+    // How many lines precede them: that of the account or identifier, or none.
+    fn start_idx(&self) -> u8
+        ensures { result ≡ lines_before self.now.account }
+    {
+        u8::from(self.account.is_some())
+    }
 }
 
 // The parts of a record without names.
@@ -127,37 +131,39 @@ fn nameless_parts(option: PartyOption, account: Option<Part>, bic: Part) -> Part
 
 // The lines that are left as names.
 fn read_names(option: PartyOption, later: RestAt<'_>) -> Result<Parts, ParseError>
-    ensures { told_parts later.entry.lines.text.now result ≡ reading_of option (with_names option (suc later.entry.start_idx) (head_at later.entry.lines.text.now later.entry.account) (lines (drop later.entry.lines.at later.entry.lines.text.now))) }
+    ensures { told_parts later.entry.lines.text.now result ≡ reading_of option (with_names option (suc (lines_before later.entry.account)) (head_at later.entry.lines.text.now later.entry.account) (lines (drop later.entry.lines.at later.entry.lines.text.now))) }
 {
-    let names = parse_name_and_address(later.lines, later.start_idx, option)?;
-    let parts = names.parts;
-    let digits = names.digits;
-    Ok(Parts {
-        option,
-        present: later.account.is_some(),
-        account: later.account.unwrap_or(NO_PART),
-        bic: NO_PART,
-        count: names.count,
-        name_and_address: parts,
+    let Names {
+        count,
+        parts,
         digits,
+    } = parse_name_and_address(later.lines, later.start_idx(), option)?;
+    Ok(Parts {
+        count,
+        digits,
+        name_and_address: parts,
+        ..nameless_parts(option, later.account, NO_PART)
     })
 }
 
 // The next line as a BIC.
 fn read_bic(option: PartyOption, later: RestAt<'_>) -> Result<Parts, ParseError>
-    ensures { told_parts later.entry.lines.text.now result ≡ reading_of option (with_bic (suc later.entry.start_idx) (head_at later.entry.lines.text.now later.entry.account) (lines (drop later.entry.lines.at later.entry.lines.text.now))) }
+    ensures { told_parts later.entry.lines.text.now result ≡ reading_of option (with_bic (suc (lines_before later.entry.account)) (head_at later.entry.lines.text.now later.entry.account) (lines (drop later.entry.lines.at later.entry.lines.text.now))) }
 {
     let mut lines = later.lines;
     let Some(bic) = lines.next() else {
         return Err(ParseError::BicMissing);
     };
-    parse_bic(part_of(later.lines.text, bic), later.start_idx as usize + 1)?;
+    parse_bic(
+        part_of(later.lines.text, bic),
+        usize::from(later.start_idx()) + 1,
+    )?;
     Ok(nameless_parts(option, later.account, bic))
 }
 
 // The lines after the first one, or all, as the option has them.
 fn read_rest(option: PartyOption, later: RestAt<'_>) -> Result<Parts, ParseError>
-    ensures { told_parts later.entry.lines.text.now result ≡ reading_of option (after_head option (suc later.entry.start_idx) (head_at later.entry.lines.text.now later.entry.account) (lines (drop later.entry.lines.at later.entry.lines.text.now))) }
+    ensures { told_parts later.entry.lines.text.now result ≡ reading_of option (after_head option (suc (lines_before later.entry.account)) (head_at later.entry.lines.text.now later.entry.account) (lines (drop later.entry.lines.at later.entry.lines.text.now))) }
 {
     if limits_of(option).max_names == 0 {
         read_bic(option, later)
@@ -176,7 +182,7 @@ fn counts(option: PartyOption, rest: Lines<'_>) -> bool
     if limits.max_lines == 0 && limits.min_lines <= 2 {
         return limits.min_lines < 2 || rest.at < rest.text.len();
     }
-    let n = 1 + count_lines(rest.rest());
+    let n = 1 + rest.count();
     limits.min_lines <= n && (limits.max_lines == 0 || n <= limits.max_lines)
 }
 
@@ -208,12 +214,10 @@ fn read_lines(option: PartyOption, body: &[u8]) -> Result<Parts, ParseError>
     let later = match parse_head(part_of(body, first), option)? {
         Some(skip) => RestAt {
             lines: rest,
-            start_idx: 1,
             account: Some(part_behind(first, skip)),
         },
         None => RestAt {
             lines: lines_of(body),
-            start_idx: 0,
             account: None,
         },
     };
@@ -225,11 +229,7 @@ fn read_bic_only(option: PartyOption, body: &[u8]) -> Result<Parts, ParseError>
     ensures { told_parts body.now result ≡ reading_of option (bic_only body.now) }
 {
     parse_bic(body, 1)?;
-    let whole = Part {
-        start: 0,
-        len: body.len(),
-    };
-    Ok(nameless_parts(option, None, whole))
+    Ok(nameless_parts(option, None, Part::whole(body)))
 }
 
 // A body that is a text without LF.
@@ -240,11 +240,7 @@ fn read_text_only(option: PartyOption, body: &[u8]) -> Result<Parts, ParseError>
         return Err(ParseError::LineCount);
     }
     account(body, option)?;
-    let whole = Part {
-        start: 0,
-        len: body.len(),
-    };
-    Ok(nameless_parts(option, Some(whole), NO_PART))
+    Ok(nameless_parts(option, Some(Part::whole(body)), NO_PART))
 }
 
 // The most bytes of a body.
@@ -280,13 +276,12 @@ fn read_own(option: PartyOption, body: &[u8]) -> Result<Parts, ParseError>
 pub(crate) fn read_own_into(
     option: PartyOption,
     body: &[u8],
-    record: &mut [u8],
+    record: &mut [u8; RECORD_SIZE],
 ) -> Result<(), ParseError>
-    requires { record_size ≤ length «record».old }
     ensures { told_into result «record».new ≡ leaves (read_own option body.now) «record».old }
 {
     let parts = read_own(option, body)?;
-    store_parts(parts, body, record);
+    store_parts(parts, body, &mut record[..]);
     Ok(())
 }
 
@@ -294,11 +289,11 @@ pub(crate) fn read_own_into(
 pub fn read_into(option: PartyOption, body: &[u8], record: &mut [u8]) -> Result<(), ParseError>
     ensures { told_into result «record».new ≡ read_into (read_of option body.now) «record».old }
 {
-    if record.len() < RECORD_SIZE {
+    let Some(room) = record.first_chunk_mut() else {
         return Err(ParseError::ShortRecord);
-    }
+    };
     parse_body(body)?;
-    read_own_into(option, body, record)
+    read_own_into(option, body, room)
 }
 
 // The reader of an option, with the record by value. What was found has one user, so that it is copied nowhere.

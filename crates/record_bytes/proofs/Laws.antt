@@ -5,12 +5,11 @@ use mathlib.Core.Path.{◌≡◌, refl, ◌∙◌, sym, ap}
 use mathlib.Core.Bool.{Bool, true, false, not, ◌&&◌}
 use mathlib.Core.List.{List, [], ◌∷◌, ◌++◌, append_assoc, append-nil}
 use native.Mathlib.Omega.{arith}
-use native.Mathlib.Nat.{add-zero}
 use native.Mathlib.Numerals.{add-one}
 use borrow.Author.Tests.{le-leb, lt-leb, leb-true, leb-false, not-true, not-false}
 use lib.Dec.{leb}
 use lib.ListN.{length, get_or, take, drop, set, length-append, length-take, length-drop, take-append-drop, get_or-eq_default}
-use lib.Seq.{take-take, take-append-add, paste, take_at, drop_at, take_all, take-add, take-append-le, drop-append-le, drop-drop, drop-cons, drop-set-lt, take-suc-set, append_snoc, length-take-le, take-paste, drop-paste, get_or-take, get_or-drop}
+use lib.Seq.{take-take, take-append-add, paste, take_at, drop_at, take_all, take-add, take-append-le, drop-append-le, drop-drop, drop-set-lt, take-suc-set, append_snoc, length-take-le, take-paste, drop-paste, get_or-take, get_or-drop}
 use Rattle.std.specs.Array.{IsFirstChunk}
 use Rattle.std.proofs.lemmas.List.{drop_all}
 use Rattle.party.specs.declared.Text.{Text}
@@ -18,6 +17,7 @@ use Rattle.party.specs.declared.Party.{Party}
 use Rattle.party.specs.Limits.{place_of}
 use Rattle.party.specs.Text.{text_most, padded, text_of, used}
 use Rattle.party.specs.Party.{IsParty, blank}
+use Rattle.party.proofs.Laws.{take_min}
 use Rattle.record_bytes.specs.Code.{head_put}
 use Rattle.record_bytes.specs.RecordBytes.{text_size, digits_at, record_size, byte_of, bit, encoded_text, encoded_texts, texts_of, nth_text, encoded, stored, text_from, text_at, has_option, holds_record, party_from, decoded, laid_out}
 
@@ -57,49 +57,24 @@ module _ (s : List ℕ) {b : Bool} (e : b ≡ holds_record s) where
   field_size h = holds_size s (sym e ∙ not-false b h)
 
 -- ---- a text among bytes
-module _ (s : List ℕ) (n : ℕ) where
-  pub text_length_lem : (text_at n s).len ≡ get_or s (3 + text_size * n) 0
-  unfolding text_at
-  text_length_lem = get_or-take text_size (drop (3 + text_size * n) s) 0 0 (omega arith) ∙ get_or-drop (3 + text_size * n) s 0 0 ∙ ap (λ (k : ℕ). get_or s k 0) (add-zero (3 + text_size * n))
-
-  -- its bytes, where there are as many
-  module _ (h : 3 + text_size * n + text_size ≤ length s) where
-    pub text_bytes : (text_at n s).bytes ≡ take text_most (drop (3 + text_size * n + 1) s)
-    unfolding text_at
-    text_bytes = rw (drop-cons s (3 + text_size * n) 0 (omega arith), add-one)
-
-    pub text_size_lem : length (text_at n s).bytes ≡ text_most
-    text_size_lem = ap length text_bytes ∙ length-take-le text_most (drop (3 + text_size * n + 1) s) (simp length-drop (omega arith))
-
--- as many bytes of a text as its length says are at most all
-take_within : (n m : ℕ) (l : List ℕ) → take (min n m) l ≡ take n (take m l)
-take_within n m l = go (leb n m) refl
-  where
-    go : (t : Bool) → leb n m ≡ t → take (min n m) l ≡ take n (take m l)
-    go true e =
-        let h = leb-true n m e in
-        let k : min n m ≡ n = omega arith in
-        ap (λ (i : ℕ). take i l) k ∙ sym (take-take n m l h)
-    go false e =
-        let h = leb-false n m e in
-        let k : min n m ≡ m = omega arith in
-        ap (λ (i : ℕ). take i l) k ∙ sym (take_all n (take m l) (omega (arith, length-take m l)))
+-- it has 38 bytes, where there are as many
+pub text_size_lem : (s : List ℕ) (n : ℕ) → 3 + text_size * n + text_size ≤ length s → length (text_at n s).bytes ≡ text_most
+unfolding text_at
+text_size_lem s n h = omega (arith, length-drop 1 (take text_size (drop (3 + text_size * n) s)), length-take text_size (drop (3 + text_size * n) s), length-drop (3 + text_size * n) s)
 
 full : (l : List ℕ) → length l ≡ text_most → (text_of l).bytes ≡ l
 unfolding text_of padded
 full l h = rw (take_all text_most l (omega arith), h) (append-nil l)
 
 pub text_here :
-    (s : List ℕ) (n : ℕ) (t : Text) → let at = 3 + text_size * n in at + text_size ≤ length s → t ≡ text_of (take (at + text_size - (at + 1)) (drop (at + 1) s)) →
-    (record { bytes = t.bytes; len = get_or s at 0 }) ≡ text_at n s
+    {slot : List ℕ} (s : List ℕ) (n : ℕ) (t : Text) → 3 + text_size * n + text_size ≤ length s → slot ≡ take text_size (drop (3 + text_size * n) s) → t ≡ text_of (take text_most (drop 1 slot)) →
+    (record { bytes = t.bytes; len = get_or slot 0 0 }) ≡ text_at n s
 unfolding text_at
-text_here s n t h e =
-    let at = 3 + text_size * n in
-    let width : at + text_size - (at + 1) ≡ text_most = omega arith in
-    let size : length (take text_most (drop (at + 1) s)) ≡ text_most = length-take-le text_most (drop (at + 1) s) (simp length-drop (omega arith)) in
-    let bytes : t.bytes ≡ take text_most (drop (at + 1) s) =
-    ap (λ (u : Text). u.bytes) e ∙ (ap (λ (k : ℕ). (text_of (take k (drop (at + 1) s))).bytes) width ∙ full _ size) in
-    rw (bytes, drop-cons s at 0 (omega arith), add-one)
+text_here {slot} s n t h e f =
+    let whole : length slot ≡ text_size = ap length e ∙ length-take-le text_size (drop (3 + text_size * n) s) (simp length-drop (omega arith)) in
+    let all : length (drop 1 slot) ≡ text_most = simp length-drop (omega arith) in
+    let bytes : t.bytes ≡ drop 1 slot = ap (λ (u : Text). u.bytes) f ∙ ap (λ (l : List ℕ). (text_of l).bytes) (take_all text_most (drop 1 slot) (omega arith)) ∙ full _ all in
+    rw (bytes, e) refl
 
 -- ---- the record of bytes: its names and digits by their places
 module _ (s : List ℕ) where
@@ -232,15 +207,18 @@ module _ {s r : List ℕ} (h : IsFirstChunk s r record_size) where
   pub chunk_text : (n : ℕ) → n < 6 → nth_text n (laid_out s) ≡ text_at n r
   chunk_text n l = ap (nth_text n) chunk_party ∙ nth_party r n l
 
-  pub chunk_used :
-      (n : ℕ) {k : ℕ} → let at = 3 + text_size * n in n < 6 → k ≡ min (get_or r at 0) text_most →
-      take (at + 1 + k - (at + 1)) (drop (at + 1) r) ≡ (used (nth_text n (laid_out s))).bytes
-  chunk_used n {k} l e =
-      let at = 3 + text_size * n in
-      let width : at + 1 + k - (at + 1) ≡ k = omega arith in
-      ap (λ (i : ℕ). take i (drop (at + 1) r)) (width ∙ e)
-      ∙ take_within (get_or r at 0) text_most (drop (at + 1) r)
-      ∙ rw (chunk_text n l, text_length_lem r n, text_bytes r n (omega (arith, chunk_size))) refl
+  -- of the bytes of a text: its length, and as many of them as it says
+  module _ (n : ℕ) {slot : List ℕ} (l : n < 6) (e : slot ≡ take text_size (drop (3 + text_size * n) r)) where
+    pub chunk_length : (nth_text n (laid_out s)).len ≡ get_or slot 0 0
+    unfolding text_at
+    chunk_length = rw (chunk_text n l, e) refl
+
+    pub chunk_used : {k : ℕ} → k ≡ min (get_or slot 0 0) text_most → take (1 + k - 1) (drop 1 slot) ≡ (used (nth_text n (laid_out s))).bytes
+    unfolding text_at
+    chunk_used {k} f =
+        let whole : length slot ≡ text_size = ap length e ∙ length-take-le text_size (drop (3 + text_size * n) r) (simp length-drop (omega (arith, chunk_size))) in
+        let width : 1 + k - 1 ≡ k = omega arith in
+        ap (λ (i : ℕ). take i (drop 1 slot)) width ∙ sym (take_min (get_or slot 0 0) (drop 1 slot) k (omega (arith, length-drop 1 slot, whole))) ∙ rw (chunk_text n l, e) refl
 
   pub chunk_digit : (i : ℕ) → i < 4 → get_or (laid_out s).digits i 0 ≡ get_or r (digits_at + i) 0
   chunk_digit i l = ap (λ (p : Party). get_or p.digits i 0) chunk_party ∙ party_digit r i l

@@ -15,7 +15,7 @@ ghost use Rattle.std.proofs.Math.Seq.{paste};
 ghost use Rattle.party.specs.Text.{text_most, text_of, used};
 ghost use Rattle.party.specs.Party.{party_in, blank as blank_party};
 ghost use Rattle.record_bytes.specs.Code.{head_put, parts_of};
-ghost use Rattle.record_bytes.specs.RecordBytes.{text_size, digits_at, record_size, byte_of, encoded_text, encoded_texts, texts_of, nth_text, stored, text_at, has_option, holds_record, party_from, decoded, laid_out};
+ghost use Rattle.record_bytes.specs.RecordBytes.{text_size, digits_at, record_size, byte_of, encoded_text, encoded_texts, texts_of, nth_text, encoded, stored, text_at, has_option, holds_record, party_from, decoded, laid_out};
 
 // Where the texts stand: after the option, the presence and the count.
 pub const TEXTS_AT: usize = 3;
@@ -82,6 +82,23 @@ fn put_fields(
     record[DIGITS_AT..].copy_from_slice(&digits);
 }
 
+// A record over bytes of its size.
+fn put_record(p: Party, record: &mut [u8; RECORD_SIZE])
+    ensures { record.new ≡ encoded p }
+{
+    put_fields(p.option, p.present, p.count, p.digits, record);
+    put_texts(p, record);
+}
+
+// The bytes of a record.
+pub fn encoded(p: Party) -> [u8; RECORD_SIZE]
+    ensures { result ≡ encoded p }
+{
+    let mut record = [0; RECORD_SIZE];
+    put_record(p, &mut record);
+    record
+}
+
 // Stores a record at the start of the bytes, and says whether there are as many; where there are not, no byte changes.
 pub fn store(p: Party, out: &mut [u8]) -> bool
     ensures value { result ≡ leb record_size (length out.old) }
@@ -90,8 +107,7 @@ pub fn store(p: Party, out: &mut [u8]) -> bool
     let Some(record) = out.first_chunk_mut() else {
         return false;
     };
-    put_fields(p.option, p.present, p.count, p.digits, record);
-    put_texts(p, record);
+    put_record(p, record);
     true
 }
 
@@ -151,15 +167,23 @@ pub fn store_parts(parts: Parts, body: &[u8], out: &mut [u8]) -> bool
     true
 }
 
+// The bytes of the text with a number among the six: its length, then its bytes.
+fn slot(record: &[u8; RECORD_SIZE], n: usize) -> &[u8; TEXT_SIZE]
+    requires { n < 6 }
+    ensures { result.now ≡ take text_size (drop (3 + text_size * n) record.now) }
+{
+    record[TEXTS_AT + TEXT_SIZE * n..].first_chunk().unwrap()
+}
+
 // The text with a number among the six.
 fn text_at(record: &[u8; RECORD_SIZE], n: usize) -> Text
     requires { n < 6 }
     ensures { result ≡ text_at n record.now }
 {
-    let at = TEXTS_AT + TEXT_SIZE * n;
+    let slot = slot(record, n);
     Text {
-        len: record[at] as usize,
-        ..text_of(&record[at + 1..at + TEXT_SIZE])
+        len: slot[0] as usize,
+        ..text_of(&slot[1..])
     }
 }
 
@@ -218,7 +242,7 @@ pub fn text_length(s: &[u8], n: usize) -> usize
     ensures { result ≡ (nth_text n (laid_out s.now)).len }
 {
     match s.first_chunk::<RECORD_SIZE>() {
-        Some(record) if n < 6 => record[TEXTS_AT + TEXT_SIZE * n] as usize,
+        Some(record) if n < 6 => slot(record, n)[0] as usize,
         _ => 0,
     }
 }
@@ -229,9 +253,9 @@ pub fn used_text(s: &[u8], n: usize) -> &[u8]
 {
     match s.first_chunk::<RECORD_SIZE>() {
         Some(record) if n < 6 => {
-            let at = TEXTS_AT + TEXT_SIZE * n;
-            let len = (record[at] as usize).min(TEXT_MOST);
-            &record[at + 1..at + 1 + len]
+            let slot = slot(record, n);
+            let len = (slot[0] as usize).min(TEXT_MOST);
+            &slot[1..1 + len]
         }
         _ => &[],
     }

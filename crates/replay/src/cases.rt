@@ -9,8 +9,9 @@ use crate::record::{has_only, load, stale_room};
 use party::PartyOption;
 use record_bytes::{DIGITS_AT, RECORD_SIZE, option_of};
 use yewdome::{
-    yewdome_kept_parse, yewdome_kept_parse_with_variant, yewdome_kept_read, yewdome_party_measure,
-    yewdome_party_parse, yewdome_party_parse_with_variant, yewdome_party_place, yewdome_party_read,
+    POSITION_ROOM, yewdome_kept_parse, yewdome_kept_parse_with_variant, yewdome_kept_read,
+    yewdome_party_measure, yewdome_party_parse, yewdome_party_parse_with_variant,
+    yewdome_party_place, yewdome_party_read,
 };
 
 // What reads a body: an option, a choice, or a choice with a letter.
@@ -67,16 +68,15 @@ fn gives(record: &[u8], size: usize, code: u32, text: &[u8]) -> bool
     yewdome_party_place(record, &mut room[8..end]) == code && has_only(&room, text)
 }
 
-// Whether the record is measured and placed as a text or, where there is a refusal, refused: in buffers one byte shorter than a length, as
-// long and one byte longer.
-fn writes(record: &[u8], text: &[u8], len: usize, refusal: u32) -> bool {
+// Whether the record is measured and placed as the text that is due or refused with the number that is: in buffers one byte shorter than a
+// length, as long and one byte longer.
+fn writes(record: &[u8], len: usize, due: Result<&[u8], u32>) -> bool {
     if len == 0 || 240 < len {
         return false;
     }
-    let (code, short) = if refusal == 0 {
-        (len as u32, 24 * 65536)
-    } else {
-        (refusal, refusal)
+    let (code, short, text) = match due {
+        Ok(text) => (len as u32, 24 * POSITION_ROOM, text),
+        Err(refusal) => (refusal, refusal, b"".as_slice()),
     };
     yewdome_party_measure(record) == code
         && gives(record, len - 1, short, b"")
@@ -90,15 +90,15 @@ fn is_written(line: Line<'_>, record: &mut [u8; RECORD_SIZE], text: &[u8]) -> bo
     let mut room = [0u8; 240];
     let rusts = unescape(line.field(20), &mut room);
     if line.number(8) == 22 {
-        return writes(record, b"", rusts.len(), 22 * 65536);
+        return writes(record, rusts.len(), Err(22 * POSITION_ROOM));
     }
-    if !writes(record, text, text.len(), 0) {
+    if !writes(record, text.len(), Ok(text)) {
         return false;
     }
     match option_of(record) {
         PartyOption::Field50F => {
             put(b"1234", &mut record[DIGITS_AT..]);
-            writes(record, rusts, rusts.len(), 0)
+            writes(record, rusts.len(), Ok(rusts))
         }
         _ => true,
     }

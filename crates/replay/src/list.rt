@@ -1,6 +1,8 @@
 // A line of the list: its fields, and the numbers and bytes that a field stands for. tests/README.md has the format.
 ghost use Rattle.std.specs.Prelude.{◌<◌, ◌≤◌, length};
 
+use yewdome::POSITION_ROOM;
+
 // What a field that is no number gives; no number of the list is so high.
 const NO_NUMBER: u16 = u16::MAX;
 
@@ -33,7 +35,7 @@ impl<'a> Line<'a> {
         requires { k < 100 }
         ensures { result ≤ 4294967295 }
     {
-        (self.number(k) * 65536 + self.number(k + 1)) as u64
+        (self.number(k) * POSITION_ROOM as usize + self.number(k + 1)) as u64
     }
 }
 

@@ -8,8 +8,8 @@ use page_reader::body_at;
 use page_reader::index::{INDEX_SIZE, look_up_body};
 use record_bytes::RECORD_SIZE;
 use yewdome::{
-    yewdome_page_add, yewdome_page_add_indexed, yewdome_page_body, yewdome_page_close,
-    yewdome_page_look_up, yewdome_page_read,
+    PACK_UNIT, POSITION_ROOM, READ_END, yewdome_page_add, yewdome_page_add_indexed,
+    yewdome_page_body, yewdome_page_close, yewdome_page_look_up, yewdome_page_read,
 };
 
 // Whether a call goes by the index: an add fills it, and a read looks a field up.
@@ -89,7 +89,7 @@ impl Page {
             Way::Indexed => INDEXED,
         };
         counts.tick(first + line.number(1));
-        if 65536 <= code {
+        if POSITION_ROOM <= code {
             return Ok(());
         }
         self.position = code as usize;
@@ -128,7 +128,7 @@ impl Page {
         let body = page.get(start..start + len).unwrap_or(b"");
         match way {
             Way::Plain => {
-                yewdome_page_body(page, at) == (start as u64) * 4294967296 + len as u64
+                yewdome_page_body(page, at) == (start as u64) * PACK_UNIT + len as u64
                     && body_at(page, at) == body
             }
             Way::Indexed => look_up_body(page, &self.index, at) == body,
@@ -145,12 +145,12 @@ impl Page {
     ) -> Result<(), Difference> {
         let mut room = stale_room();
         let code = self.answer(way, line.number(1), &mut room[8..249]);
-        if code != line.pair(2) * 4294967296 + line.pair(4) {
+        if code != line.pair(2) * PACK_UNIT + line.pair(4) {
             return Err(Difference::Code);
         }
         let mut due = [0u8; RECORD_SIZE];
         load(record, 2, record.field(1), &mut due);
-        let stored: &[u8] = if code < 65536 { &due } else { b"" };
+        let stored: &[u8] = if code < READ_END { &due } else { b"" };
         if !has_only(&room, stored) {
             return Err(Difference::Record);
         }
@@ -190,7 +190,7 @@ fn replace(buf: &mut [u8], at: usize, from: usize, to: usize, new: &[u8]) -> usi
 
 // Counts a read or a lookup: a record, a refusal or the end.
 fn count_read(way: Way, code: u64, counts: &mut Counts) {
-    counts.tick(match (way, code / 65536) {
+    counts.tick(match (way, code / READ_END) {
         (Way::Plain, 0) => READ,
         (Way::Plain, 1) => READ + 2,
         (Way::Plain, _) => READ + 1,

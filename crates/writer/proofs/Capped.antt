@@ -2,10 +2,10 @@
 use Prim.Native.Nat.{ℕ, zero, suc, ◌≤◌, ◌<◌, min}
 use mathlib.Core.Path.{◌≡◌, refl, sym, ◌∙◌, ap}
 use mathlib.Core.Bool.{Bool, true, false, not, ◌&&◌}
-use mathlib.Core.List.{List, [], ◌∷◌, map}
+use mathlib.Core.List.{List, [], ◌∷◌, ◌++◌, map, append-nil}
 use native.Mathlib.Omega.{arith}
 use lib.Dec.{leb, ltb, eqb}
-use lib.ListN.{length, take, drop, length-take, length-map}
+use lib.ListN.{length, take, drop, length-take, length-map, drop_of_length-le}
 use lib.Seq.{get_or-take, drop-append_seam}
 use borrow.Author.Tests.{le-leb, lt-leb, leb-true, leb-false, eq-eqb, ne_eqb, eqb-true, eqb-false}
 use Rattle.party.specs.declared.PartyOption.{PartyOption}
@@ -21,9 +21,9 @@ use Rattle.party.proofs.Laws.{map_take, take_min}
 use Rattle.swift_utils.specs.Bytes.{among}
 use Rattle.field_utils.specs.Names.{parse_name_and_address}
 use Rattle.field_utils.specs.Tags.{tag_of}
-use Rattle.record_bytes.specs.RecordBytes.{byte_of, record_size, stored, decoded}
-use Rattle.record_bytes.proofs.Laws.{none, Sizes}
-use Rattle.record_bytes.proofs.Theorems.{capped_text, capped, stored_capped}
+use Rattle.record_bytes.specs.RecordBytes.{byte_of, record_size, encoded, stored, decoded}
+use Rattle.record_bytes.proofs.Laws.{none, Sizes, stored_whole}
+use Rattle.record_bytes.proofs.Theorems.{encoded_size, capped_text, capped, stored_capped}
 use Rattle.writer.specs.Writing.{name_lines, written_body, written_field}
 use Rattle.writer.specs.Given.{passes, every, is_line, is_account, is_bic, are_names, is_taken, is_given}
 use Rattle.writer.specs.Placing.{measure, place}
@@ -236,3 +236,23 @@ module _ (p : Party) (h : IsParty p) where
     pub place_stored : (buffer : List ℕ) → place bytes_say buffer ≡ place (content p) buffer
     unfolding place
     place_stored buffer = rw (given_stored, field_stored)
+
+  -- the bytes of a record are those of one that is stored over them
+  pub encoded_stored : encoded p ≡ stored p (encoded p)
+  encoded_stored =
+      let size = encoded_size p h in
+      sym (
+      stored_whole p (encoded p) (omega (arith, size))
+      ∙ ap (◌++◌ (encoded p)) (drop_of_length-le (encoded p) {i = record_size} (omega (arith, size)))
+      ∙ append-nil (encoded p)
+      )
+
+  pub measure_encoded : measure (content (decoded (encoded p))) ≡ measure (content p)
+  measure_encoded =
+      ap (λ (s : List ℕ). measure (content (decoded s))) encoded_stored
+      ∙ measure_stored (encoded p) (omega (arith, encoded_size p h))
+
+  pub place_encoded : (buffer : List ℕ) → place (content (decoded (encoded p))) buffer ≡ place (content p) buffer
+  place_encoded buffer =
+      ap (λ (s : List ℕ). place (content (decoded s)) buffer) encoded_stored
+      ∙ place_stored (encoded p) (omega (arith, encoded_size p h)) buffer

@@ -1,5 +1,5 @@
 -- The names that a record uses, one after the other. Assumes nothing.
-use Prim.Native.Nat.{ℕ, suc, ◌≤◌, ◌<◌, ◌+◌, min}
+use Prim.Native.Nat.{ℕ, zero, suc, ◌≤◌, ◌<◌, ◌+◌, ◌*◌, min}
 use mathlib.Core.Path.{◌≡◌, refl, ◌∙◌, sym, ap}
 use mathlib.Core.Bool.{Bool, true, false, ◌&&◌}
 use mathlib.Core.List.{List, [], ◌∷◌, ◌++◌, map}
@@ -9,6 +9,7 @@ use native.Mathlib.Omega.{arith}
 use lib.Dec.{ltb}
 use lib.ListN.{length, take, drop, get_or, length-map, length-append, length-take, drop_of_length-le, get_or-map}
 use lib.Seq.{drop-cons, drop-drop, get_or-drop, get_or-take}
+use Rattle.std.specs.List.{fold, list_all, range_with_len}
 use Rattle.party.specs.declared.PartyOption.{PartyOption}
 use Rattle.party.specs.declared.Text.{Text}
 use Rattle.party.specs.declared.Party.{Party}
@@ -19,8 +20,10 @@ use Rattle.party.specs.declared.Numbering.{Numbering}
 use Rattle.party.specs.declared.Numbering.TheVariants.{Unnumbered, Numbered, InTurn}
 use Rattle.party.proofs.Laws.{map_take, take_min}
 use Rattle.field_utils.specs.Names.{dropped_prefix}
+use Rattle.record_bytes.specs.RecordBytes.{nth_text, laid_out}
+use Rattle.record_bytes.proofs.Laws.{name_text, used_most}
 use Rattle.writer.specs.Writing.{number_of, name_lines}
-use Rattle.writer.specs.Code.{lead, led, name_count, is_name, all_names}
+use Rattle.writer.specs.Code.{lead, follows, led, name_count, name_on, is_name, all_names}
 
 -- the text that stands for one past the end
 abbrev pub none : Text
@@ -29,6 +32,10 @@ none = record { bytes = []; len = 0 }
 -- the first n names of a record
 abbrev pub names_in : ℕ → Party → List Used
 names_in n p = take n (map used p.name_and_address)
+
+-- whether the name at a place passes
+abbrev pub name_passes : Party → Numbering → ℕ → ℕ → Bool
+name_passes p f longest i = is_name f longest (i + 1) (get_or p.digits i 0) (used (nth_text (2 + i) p))
 
 -- how long a name's number is
 pub number_length_lem : (f : Numbering) (d : ℕ) → length (number_of f d) ≡ dropped_prefix f
@@ -40,6 +47,16 @@ pub marks_most : (f : Numbering) → dropped_prefix f ≤ 2
 marks_most Unnumbered = omega arith
 marks_most Numbered = omega arith
 marks_most InTurn = omega arith
+
+lead_most : (b : Bool) → length (lead b) ≤ 1
+lead_most true = omega arith
+lead_most false = omega arith
+
+pub name_most : (s : List ℕ) (first : Bool) (i : ℕ) → length (name_on first i (laid_out s)) ≤ 41
+name_most s first i =
+    let p = laid_out s in
+    let f = (limits_of p.option).numbering in
+    simp (length-append, number_length_lem) (omega (arith, lead_most (follows first i), marks_most f, used_most s (2 + i)))
 
 -- the lines of names have as many digits as there are names, and none where the option has none beside its texts
 number_used : (f : Numbering) (n : ℕ) (ds : List ℕ) (i : ℕ) → i < n → number_of f (get_or (where_numbered f (take n ds)) i 0) ≡ number_of f (get_or ds i 0)
@@ -126,13 +143,6 @@ module _ (p : Party) (four : length p.name_and_address ≡ 4) where
     unfolding led name_lines
     left_next f later i h = rw (names_next i h, digit_here p.digits i, digits_next p.digits i)
 
-    pub left_length :
-        (f : Numbering) (later : Bool) (i : ℕ) → i < n →
-        length (led later (name_lines f (drop i p.digits) (drop i (names_in n p))))
-        ≡ length (lead later) + dropped_prefix f + length (used (get_or p.name_and_address i none)).bytes
-        + length (led true (name_lines f (drop (suc i) p.digits) (drop (suc i) (names_in n p))))
-    left_length f later i h = rw (left_next f later i h) (simp (length-append, number_length_lem) (omega arith))
-
     pub left_end : (f : Numbering) (later : Bool) (i : ℕ) → n ≤ i → led later (name_lines f (drop i p.digits) (drop i (names_in n p))) ≡ []
     unfolding led name_lines
     left_end f later i h = rw (names_end i h)
@@ -148,3 +158,35 @@ module _ (p : Party) (four : length p.name_and_address ≡ 4) where
     pub all_end : (f : Numbering) (longest i : ℕ) → n ≤ i → all_names f longest (suc i) (drop i p.digits) (drop i (names_in n p)) ≡ true
     unfolding all_names
     all_end f longest i h = rw (names_end i h)
+
+    -- it is the test of each name that is left, by its place
+    pub all_places :
+        (f : Numbering) (longest i m : ℕ) → m + i ≡ n →
+        list_all (name_passes p f longest) (range_with_len i m) ≡ all_names f longest (suc i) (drop i p.digits) (drop i (names_in n p))
+    all_places f longest i zero h = sym (all_end f longest i (omega (arith, h)))
+    all_places f longest i (suc m) h =
+        rw (add-one i, all_places f longest (suc i) m (omega (arith, h)), name_text p i)
+        (sym (all_next f longest i (omega (arith, h))))
+
+    -- the lengths of the lines that are left, added up
+    module _ (first : Bool) where
+      abbrev f : Numbering
+      f = (limits_of p.option).numbering
+
+      abbrev left : ℕ → List ℕ
+      left i = led (follows first i) (name_lines f (drop i p.digits) (drop i (names_in n p)))
+
+      left_more : (i : ℕ) → i < n → length (left i) ≡ length (name_on first i p) + length (left (suc i))
+      left_more i h =
+          let next = rw (← name_text p i) at (left_next f (follows first i) i h) in
+          omega (arith, ap length next, length-append (name_on first i p) (left (suc i)))
+
+      pub lengths_sum : (total i m : ℕ) → m + i ≡ n → fold (λ (a x : ℕ). a + x) total (map (λ (k : ℕ). length (name_on first k p)) (range_with_len i m)) ≡ total + length (left i)
+      lengths_sum total i zero h = omega (arith, ap length (left_end f (follows first i) i (omega (arith, h))))
+      lengths_sum total i (suc m) h =
+          rw (add-one i, lengths_sum (total + length (name_on first i p)) (suc i) m (omega (arith, h)))
+          (omega (arith, left_more i (omega (arith, h))))
+
+      pub lengths_most : ((k : ℕ) → length (name_on first k p) ≤ 41) → (i m : ℕ) → m + i ≡ n → length (left i) ≤ 41 * m
+      lengths_most short i zero h = omega (arith, ap length (left_end f (follows first i) i (omega (arith, h))))
+      lengths_most short i (suc m) h = omega (arith, left_more i (omega (arith, h)), short i, lengths_most short (suc i) m (omega (arith, h)))

@@ -9,7 +9,9 @@ use borrow.Author.Tests.{le-leb}
 use lib.ListN.{length, take, drop, set, length-append}
 use lib.Seq.{set_split, append_snoc, take-length, take-paste, drop-paste, drop-drop, length-paste, paste-zero}
 use Rattle.writer.specs.Writing.{put, placed}
+use Rattle.writer.specs.declared.Cursor.{Cursor}
 use Rattle.writer.specs.Code.{Puts}
+use Rattle.writer.specs.Cursor.{Moves}
 
 pub put_put : (d : List ℕ) (at : ℕ) (s t : List ℕ) → at ≤ length d → put (put d at s) (at + length s) t ≡ put d at (s ++ t)
 put_put d at s t h =
@@ -63,6 +65,13 @@ space_first d at s t room = omega (arith, length-append s t)
 -- the text is another's
 pub puts_as : {d e s t : List ℕ} {at n : ℕ} → s ≡ t → Puts d at s e n → Puts d at t e n
 puts_as e p = rw e at p
+
+-- the same of a cursor, which is moved
+pub moves_both : {x y z : Cursor} (s t : List ℕ) → Moves x y s → x.at + length (s ++ t) ≤ length x.buf.now → Moves y z t → Moves x z (s ++ t)
+moves_both s t first room second = record { puts = both s t first.puts room second.puts; same_reference = second.same_reference ∙ first.same_reference }
+
+pub moves_as : {x y : Cursor} {s t : List ℕ} → s ≡ t → Moves x y s → Moves x y t
+moves_as e m = rw e at m
 
 -- a text that is put in pieces: what is done, and what is left
 pub record Partway (d : List ℕ) (at : ℕ) (whole e : List ℕ) (m : ℕ) (rest : List ℕ) : Type 0 where

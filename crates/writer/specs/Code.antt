@@ -1,5 +1,5 @@
 -- The working forms of the writer's private functions: the parts that they write and test.
-use Rattle.std.specs.Prelude.{ℕ, suc, ◌+◌, ◌-◌, ◌≤◌, min, ◌≡◌, Bool, true, false, not, ◌&&◌, List, [], ◌∷◌, ◌++◌, map, ltb, eqb, length, get_or, drop}
+use Rattle.std.specs.Prelude.{ℕ, zero, suc, ◌+◌, ◌-◌, ◌≤◌, min, ◌≡◌, Bool, true, false, not, ◌&&◌, List, [], ◌∷◌, ◌++◌, map, ltb, eqb, length, get_or, drop}
 use Rattle.errors.specs.Refusals.{Reply}
 use Rattle.party.specs.declared.PartyOption.{PartyOption}
 use Rattle.party.specs.declared.Party.{Party}
@@ -10,6 +10,7 @@ use Rattle.party.specs.declared.Numbering.{Numbering}
 use Rattle.swift_utils.specs.Bytes.{among}
 use Rattle.field_utils.specs.Lines.{starts}
 use Rattle.field_utils.specs.Names.{skip_of, dropped_prefix, parse_line, parse_count}
+use Rattle.record_bytes.specs.RecordBytes.{nth_text}
 use Rattle.writer.specs.Writing.{slash_of, number_of, name_lines, put}
 use Rattle.writer.specs.Given.{passes, every, is_line, is_account, is_taken}
 
@@ -28,6 +29,11 @@ abbrev pub lead : Bool → List ℕ
 lead true = 10 ∷ []
 lead false = []
 
+-- whether an LF stands before the i-th of the lines, by whether one stands before the first
+abbrev pub follows : Bool → ℕ → Bool
+follows first zero = first
+follows first (suc i) = true
+
 -- lines, each with its LF; whether the first of them has one is said
 unfoldable pub led : Bool → List (List ℕ) → List ℕ
 led later [] = []
@@ -45,6 +51,10 @@ name_count o count = elim (ltb 0 (limits_of o).max_names) [ true ↦ min count 4
 abbrev pub head_of : PartyOption → Bool → Used → List ℕ
 head_of o true u = slash_of o ++ u.bytes
 head_of o false u = []
+
+-- a name's line as it is written, by the name's place from 0 on
+abbrev pub name_on : Bool → ℕ → Party → List ℕ
+name_on first i p = lead (follows first i) ++ (number_of (limits_of p.option).numbering (get_or p.digits i 0) ++ (used (nth_text (2 + i) p)).bytes)
 
 -- a record's names as they are written
 abbrev pub names_on : Bool → Party → List ℕ

@@ -6,3 +6,4 @@ pub mod Sender
 pub mod Longest
 pub mod Code
 pub mod Lent
+pub mod Cursor

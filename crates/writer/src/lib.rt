@@ -17,7 +17,8 @@ ghost use Rattle.record_bytes.specs.RecordBytes.{nth_text, decoded, laid_out};
 ghost use Rattle.writer.specs.Writing.{slash_of, number_of, put, written_field, fits, placed};
 ghost use Rattle.writer.specs.Given.{passes, every, text_reply, is_presence, is_bic, is_taken, is_given};
 ghost use Rattle.writer.specs.Placing.{measure as measure_of, place as place_in, told_measured, told_placing};
-ghost use Rattle.writer.specs.Code.{Counted, Puts, lead, has_head, head_of, name_count, names_on, rest_on, line_reply, number_in, is_name, head_test, names_pass, count_test, texts_test, slash_name};
+ghost use Rattle.writer.specs.Cursor.{Moves};
+ghost use Rattle.writer.specs.Code.{Counted, lead, follows, head_of, name_count, name_on, names_on, rest_on, line_reply, number_in, is_name, head_test, names_pass, count_test, texts_test, slash_name};
 
 use errors::ParseError;
 use field_utils::lines::{find_lf, is_ascii};
@@ -28,8 +29,7 @@ use party::{First, Limits, Numbering, Party, PartyOption, TEXT_MOST, limits_of};
 use reader::account_length;
 use record_bytes::copies::copy;
 use record_bytes::{
-    RECORD_SIZE, count_of, digit_of, holds_record, option_of, present_of, store, text_length,
-    used_text,
+    count_of, digit_of, encoded, holds_record, option_of, present_of, text_length, used_text,
 };
 use swift_utils::{PLAIN, all_in, class_table, is_digit, parse_bic};
 
@@ -40,14 +40,14 @@ pub const FIELD_MOST: usize = 187;
 fn slash_count(option: PartyOption) -> usize
     ensures { Counted 1 (slash_of option) result }
 {
-    if limits_of(option).slash { 1 } else { 0 }
+    usize::from(limits_of(option).slash)
 }
 
 // How many LFs stand before a line: one, unless it is the first.
 fn lf_count(later: bool) -> usize
     ensures { Counted 1 (lead later) result }
 {
-    if later { 1 } else { 0 }
+    usize::from(later)
 }
 
 // How many bytes the option's tag has: 4 or 5.
@@ -66,7 +66,7 @@ pub fn put_text(text: &[u8], buf: &mut [u8], at: usize) -> bool
 }
 
 // A place in a lent buffer: what is put goes there, and the place after it is the next. The buffer stays the one that was lent, as
-// `same_reference` says.
+// `Moves` says.
 #[derive(Drop)]
 struct Cursor<'a> {
     buf: &'a mut [u8],
@@ -77,8 +77,7 @@ impl Cursor<'_> {
     // Puts a slice.
     fn put_bytes(&mut self, s: &[u8])
         requires { self.old.at + length s.now ≤ length self.old.buf.now }
-        ensures puts { Puts self.old.buf.now self.old.at s.now self.new.buf.now self.new.at }
-        ensures same_reference { self.new.buf.ghost_name ≡ self.old.buf.ghost_name }
+        ensures { Moves self.old self.new s.now }
     {
         copy(s, self.buf, self.at);
         self.at += s.len();
@@ -87,8 +86,7 @@ impl Cursor<'_> {
     // Puts a byte.
     fn put(&mut self, byte: u8)
         requires { self.old.at < length self.old.buf.now }
-        ensures puts { Puts self.old.buf.now self.old.at (byte ∷ []) self.new.buf.now self.new.at }
-        ensures same_reference { self.new.buf.ghost_name ≡ self.old.buf.ghost_name }
+        ensures { Moves self.old self.new (byte ∷ []) }
     {
         self.buf[self.at] = byte;
         self.at += 1;
@@ -97,8 +95,7 @@ impl Cursor<'_> {
     // Puts an LF, where it is asked for.
     fn put_lf(&mut self, later: bool)
         requires { self.old.at + length (lead later) ≤ length self.old.buf.now }
-        ensures puts { Puts self.old.buf.now self.old.at (lead later) self.new.buf.now self.new.at }
-        ensures same_reference { self.new.buf.ghost_name ≡ self.old.buf.ghost_name }
+        ensures { Moves self.old self.new (lead later) }
     {
         if later {
             self.put(b'\n');
@@ -108,8 +105,7 @@ impl Cursor<'_> {
     // Puts a name's number, where the option writes it before the name.
     fn put_number(&mut self, numbering: Numbering, digit: u8)
         requires { self.old.at + length (number_of numbering digit) ≤ length self.old.buf.now }
-        ensures puts { Puts self.old.buf.now self.old.at (number_of numbering digit) self.new.buf.now self.new.at }
-        ensures same_reference { self.new.buf.ghost_name ≡ self.old.buf.ghost_name }
+        ensures { Moves self.old self.new (number_of numbering digit) }
     {
         match numbering {
             Numbering::Unnumbered | Numbering::InTurn => {}
@@ -123,8 +119,7 @@ impl Cursor<'_> {
     // Puts a line: an LF unless it is the first line, a number, and a text.
     fn put_line(&mut self, later: bool, numbering: Numbering, digit: u8, text: &[u8])
         requires { self.old.at + length (lead later ++ (number_of numbering digit ++ text.now)) ≤ length self.old.buf.now }
-        ensures puts { Puts self.old.buf.now self.old.at (lead later ++ (number_of numbering digit ++ text.now)) self.new.buf.now self.new.at }
-        ensures same_reference { self.new.buf.ghost_name ≡ self.old.buf.ghost_name }
+        ensures { Moves self.old self.new (lead later ++ (number_of numbering digit ++ text.now)) }
     {
         self.put_lf(later);
         self.put_number(numbering, digit);
@@ -134,8 +129,7 @@ impl Cursor<'_> {
     // Puts a tag's letter, 0 for none.
     fn put_letter(&mut self, letter: u8)
         requires { self.old.at + length (capital letter) ≤ length self.old.buf.now }
-        ensures puts { Puts self.old.buf.now self.old.at (capital letter) self.new.buf.now self.new.at }
-        ensures same_reference { self.new.buf.ghost_name ≡ self.old.buf.ghost_name }
+        ensures { Moves self.old self.new (capital letter) }
     {
         if letter != 0 {
             self.put(letter);
@@ -145,8 +139,7 @@ impl Cursor<'_> {
     // Puts the option's tag.
     fn put_tag(&mut self, option: PartyOption)
         requires { self.old.at + length (tag_of option) ≤ length self.old.buf.now }
-        ensures puts { Puts self.old.buf.now self.old.at (tag_of option) self.new.buf.now self.new.at }
-        ensures same_reference { self.new.buf.ghost_name ≡ self.old.buf.ghost_name }
+        ensures { Moves self.old self.new (tag_of option) }
     {
         let limits = limits_of(option);
         self.put(b':');
@@ -159,8 +152,7 @@ impl Cursor<'_> {
     // Puts the slash before an account or identifier, where the option has it.
     fn put_slash(&mut self, option: PartyOption)
         requires { self.old.at + length (slash_of option) ≤ length self.old.buf.now }
-        ensures puts { Puts self.old.buf.now self.old.at (slash_of option) self.new.buf.now self.new.at }
-        ensures same_reference { self.new.buf.ghost_name ≡ self.old.buf.ghost_name }
+        ensures { Moves self.old self.new (slash_of option) }
     {
         if limits_of(option).slash {
             self.put(b'/');
@@ -246,7 +238,7 @@ struct Lent<'a> {
 }
 
 impl Lent<'_> {
-    ghost use Rattle.writer.specs.Lent.{lent_party};
+    ghost use Rattle.writer.specs.Lent.{lent_party, lent_head};
 
     // The limits of its option.
     fn limits(&self) -> &'static Limits
@@ -262,6 +254,28 @@ impl Lent<'_> {
         text_length(self.bytes, n) <= TEXT_MOST
     }
 
+    // The bytes of the account or identifier.
+    fn account(&self) -> &[u8]
+        ensures { result.now ≡ (used (lent_party self.now).account).bytes }
+    {
+        used_text(self.bytes, 0)
+    }
+
+    // The bytes of the BIC.
+    fn bic(&self) -> &[u8]
+        ensures { result.now ≡ (used (lent_party self.now).bic).bytes }
+    {
+        used_text(self.bytes, 1)
+    }
+
+    // The bytes of a name, by its place from 0 on.
+    fn name(&self, i: usize) -> &[u8]
+        requires { i < 4 }
+        ensures { result.now ≡ (used (nth_text (2 + i) (lent_party self.now))).bytes }
+    {
+        used_text(self.bytes, 2 + i)
+    }
+
     // How many names are used: as many as the count says, at most four, and none where the option has none.
     fn name_count(&self) -> usize
         ensures value { result ≡ name_count (lent_party self.now).option (lent_party self.now).count }
@@ -275,107 +289,105 @@ impl Lent<'_> {
 
     // Whether an account or identifier is written.
     fn has_head(&self) -> bool
-        ensures { result ≡ has_head (lent_party self.now).option (lent_party self.now).present }
+        ensures { result ≡ lent_head self.now }
     {
         self.present && 0 < self.limits().account_max
     }
 
-    // The length of an account or identifier, where it is written.
-    fn head_length(&self, written: bool) -> usize
-        ensures { Counted 39 (head_of (lent_party self.now).option written (used (lent_party self.now).account)) result }
+    // Whether an LF stands before a name, by its place from 0 on: before the first only where an account or identifier is written.
+    fn has_lf(&self, i: usize) -> bool
+        ensures { result ≡ follows (lent_head self.now) i }
     {
-        if !written {
+        0 < i || self.has_head()
+    }
+
+    // The length of an account or identifier, where it is written.
+    fn head_length(&self) -> usize
+        ensures { Counted 39 (head_of (lent_party self.now).option (lent_head self.now) (used (lent_party self.now).account)) result }
+    {
+        if !self.has_head() {
             return 0;
         }
-        slash_count(self.option) + used_text(self.bytes, 0).len()
+        slash_count(self.option) + self.account().len()
+    }
+
+    // The length of a name's line with the LF before it, by the name's place from 0 on.
+    fn name_length(&self, i: usize) -> usize
+        requires { i < 4 }
+        ensures { Counted 41 (name_on (lent_head self.now) i (lent_party self.now)) result }
+    {
+        lf_count(self.has_lf(i)) + dropped_prefix(self.limits().numbering) + self.name(i).len()
     }
 
     // The length of the names.
-    fn names_length(&self, later: bool) -> usize
-        ensures { Counted 164 (names_on later (lent_party self.now)) result }
+    fn names_length(&self) -> usize
+        ensures { Counted 164 (names_on (lent_head self.now) (lent_party self.now)) result }
     {
-        let mark = dropped_prefix(self.limits().numbering);
-        let n = self.name_count();
-        let mut after = later;
-        let mut total = 0;
-        for i in 0..n {
-            let text = used_text(self.bytes, 2 + i);
-            total += lf_count(after) + mark + text.len();
-            after = true;
-        }
-        total
+        (0..self.name_count()).map(|i| self.name_length(i)).sum()
     }
 
     // The length of the BIC, or of the names.
-    fn rest_length(&self, later: bool) -> usize
-        ensures { Counted 164 (rest_on later (lent_party self.now)) result }
+    fn rest_length(&self) -> usize
+        ensures { Counted 164 (rest_on (lent_head self.now) (lent_party self.now)) result }
     {
         if self.limits().bic_count == 0 {
-            return self.names_length(later);
+            return self.names_length();
         }
-        lf_count(later) + used_text(self.bytes, 1).len()
+        lf_count(self.has_head()) + self.bic().len()
     }
 
     // The length of the written field.
     fn written_length(&self) -> usize
         ensures { result ≡ length (written_field (content (lent_party self.now))) }
     {
-        let later = self.has_head();
-        tag_length(self.option) + self.head_length(later) + self.rest_length(later)
+        tag_length(self.option) + self.head_length() + self.rest_length()
     }
 
     // Puts an account or identifier, where it is written.
-    fn put_account(&self, out: &mut Cursor, written: bool)
-        requires { out.old.at + length (head_of (lent_party self.now).option written (used (lent_party self.now).account)) ≤ length out.old.buf.now }
-        ensures puts { Puts out.old.buf.now out.old.at (head_of (lent_party self.now).option written (used (lent_party self.now).account)) out.new.buf.now out.new.at }
-        ensures same_reference { out.new.buf.ghost_name ≡ out.old.buf.ghost_name }
+    fn put_account(&self, out: &mut Cursor)
+        requires { out.old.at + length (head_of (lent_party self.now).option (lent_head self.now) (used (lent_party self.now).account)) ≤ length out.old.buf.now }
+        ensures { Moves out.old out.new (head_of (lent_party self.now).option (lent_head self.now) (used (lent_party self.now).account)) }
     {
-        if written {
+        if self.has_head() {
             out.put_slash(self.option);
-            out.put_bytes(used_text(self.bytes, 0));
+            out.put_bytes(self.account());
         }
     }
 
     // Puts the names, each with the digit of its line where the option has it beside the name.
-    fn put_names(&self, out: &mut Cursor, later: bool)
-        requires { out.old.at + length (names_on later (lent_party self.now)) ≤ length out.old.buf.now }
-        ensures puts { Puts out.old.buf.now out.old.at (names_on later (lent_party self.now)) out.new.buf.now out.new.at }
-        ensures same_reference { out.new.buf.ghost_name ≡ out.old.buf.ghost_name }
+    fn put_names(&self, out: &mut Cursor)
+        requires { out.old.at + length (names_on (lent_head self.now) (lent_party self.now)) ≤ length out.old.buf.now }
+        ensures { Moves out.old out.new (names_on (lent_head self.now) (lent_party self.now)) }
     {
         let numbering = self.limits().numbering;
         let n = self.name_count();
-        let mut after = later;
         for i in 0..n {
-            let text = used_text(self.bytes, 2 + i);
-            out.put_line(after, numbering, digit_of(self.bytes, i), text);
-            after = true;
+            let digit = digit_of(self.bytes, i);
+            out.put_line(self.has_lf(i), numbering, digit, self.name(i));
         }
     }
 
     // Puts the BIC, or the names.
-    fn put_rest(&self, out: &mut Cursor, later: bool)
-        requires { out.old.at + length (rest_on later (lent_party self.now)) ≤ length out.old.buf.now }
-        ensures puts { Puts out.old.buf.now out.old.at (rest_on later (lent_party self.now)) out.new.buf.now out.new.at }
-        ensures same_reference { out.new.buf.ghost_name ≡ out.old.buf.ghost_name }
+    fn put_rest(&self, out: &mut Cursor)
+        requires { out.old.at + length (rest_on (lent_head self.now) (lent_party self.now)) ≤ length out.old.buf.now }
+        ensures { Moves out.old out.new (rest_on (lent_head self.now) (lent_party self.now)) }
     {
         if self.limits().bic_count == 0 {
-            self.put_names(out, later);
+            self.put_names(out);
         } else {
-            out.put_lf(later);
-            out.put_bytes(used_text(self.bytes, 1));
+            out.put_lf(self.has_head());
+            out.put_bytes(self.bic());
         }
     }
 
     // Puts the whole field.
     fn put_parts(&self, out: &mut Cursor)
         requires { out.old.at + length (written_field (content (lent_party self.now))) ≤ length out.old.buf.now }
-        ensures puts { Puts out.old.buf.now out.old.at (written_field (content (lent_party self.now))) out.new.buf.now out.new.at }
-        ensures same_reference { out.new.buf.ghost_name ≡ out.old.buf.ghost_name }
+        ensures { Moves out.old out.new (written_field (content (lent_party self.now))) }
     {
-        let later = self.has_head();
         out.put_tag(self.option);
-        self.put_account(out, later);
-        self.put_rest(out, later);
+        self.put_account(out);
+        self.put_rest(out);
     }
 
     // Puts the field at the start of a buffer.
@@ -399,27 +411,24 @@ impl Lent<'_> {
         }
     }
 
-    // Whether the account or identifier, where the option has one, is one that its reader gives.
+    // Whether the account or identifier, where the option has one, is one that its reader gives; one that is not there is empty.
     fn is_account(&self) -> bool
-        ensures { result ≡ head_test (lent_party self.now).option true (lent_party self.now) }
+        ensures { result ≡ head_test (lent_party self.now).option (lent_party self.now).present (lent_party self.now) }
     {
-        self.limits().account_max == 0
-            || self.is_whole(0) && is_account_text(self.option, used_text(self.bytes, 0))
-    }
-
-    // Whether one that is not there is empty, where the option has one.
-    fn is_no_account(&self) -> bool
-        ensures { result ≡ head_test (lent_party self.now).option false (lent_party self.now) }
-    {
-        self.limits().account_max == 0 || text_length(self.bytes, 0) == 0
+        if self.limits().account_max == 0 {
+            return true;
+        }
+        if !self.present {
+            return text_length(self.bytes, 0) == 0;
+        }
+        self.is_whole(0) && is_account_text(self.option, self.account())
     }
 
     // Whether the BIC, where the option has one, is one. A BIC has no LF.
     fn is_bic(&self) -> bool
         ensures { result ≡ every is_bic (where_limit (limits_of (lent_party self.now).option).bic_count (used (lent_party self.now).bic ∷ [])) }
     {
-        self.limits().bic_count == 0
-            || self.is_whole(1) && parse_bic(used_text(self.bytes, 1), 1).is_ok()
+        self.limits().bic_count == 0 || self.is_whole(1) && parse_bic(self.bic(), 1).is_ok()
     }
 
     // Whether a name, by its place from 0 on, is one of an option with such names, as its reader gives them.
@@ -430,7 +439,7 @@ impl Lent<'_> {
         if !self.is_whole(2 + i) {
             return false;
         }
-        let text = used_text(self.bytes, 2 + i);
+        let text = self.name(i);
         if !is_in_turn(text, i + 1, digit_of(self.bytes, i), numbering) {
             return false;
         }
@@ -445,13 +454,7 @@ impl Lent<'_> {
         ensures { result ≡ names_pass (lent_party self.now) }
     {
         let limits = self.limits();
-        let n = self.name_count();
-        for i in 0..n {
-            if !self.is_name(i, limits.numbering, limits.name_max) {
-                return false;
-            }
-        }
-        true
+        (0..self.name_count()).all(|i| self.is_name(i, limits.numbering, limits.name_max))
     }
 
     // Whether the names are as many as the count says, and as many as the option may have.
@@ -467,7 +470,7 @@ impl Lent<'_> {
     fn has_slash_name(&self) -> bool
         ensures { result ≡ slash_name (content (lent_party self.now)).names }
     {
-        self.name_count() != 0 && starts_with_slash(used_text(self.bytes, 2))
+        self.name_count() != 0 && starts_with_slash(self.name(0))
     }
 
     // Whether the first name would be taken for an account.
@@ -482,30 +485,16 @@ impl Lent<'_> {
 
     // Whether the account or identifier and the names are such that the option's reader gives.
     fn are_texts(&self) -> bool
-        ensures { result ≡ texts_test (lent_party self.now).option true (lent_party self.now) }
+        ensures { result ≡ texts_test (lent_party self.now).option (lent_party self.now).present (lent_party self.now) }
     {
-        self.is_account() && self.all_names()
-    }
-
-    // The same where there is no account or identifier.
-    fn are_bare_texts(&self) -> bool
-        ensures { result ≡ texts_test (lent_party self.now).option false (lent_party self.now) }
-    {
-        self.is_no_account() && !self.is_taken() && self.all_names()
+        self.is_account() && (self.present || !self.is_taken()) && self.all_names()
     }
 
     // Whether a lent record is the same as one that an accepted body gives.
     fn is_given(&self) -> bool
         ensures { result ≡ is_given (content (lent_party self.now)) }
     {
-        if !self.is_presence() || !self.is_bic() || !self.is_counted() {
-            return false;
-        }
-        if self.present {
-            self.are_texts()
-        } else {
-            self.are_bare_texts()
-        }
+        self.is_presence() && self.is_bic() && self.is_counted() && self.are_texts()
     }
 }
 
@@ -556,16 +545,12 @@ pub fn place_record(record: &[u8], buf: &mut [u8]) -> Result<usize, ParseError>
 pub fn measure(p: Party) -> Result<usize, ParseError>
     ensures { told_measured result ≡ measure_of (content p) }
 {
-    let mut record = [0u8; RECORD_SIZE];
-    store(p, &mut record);
-    measure_record(&record)
+    measure_record(&encoded(p))
 }
 
 // Places the field of a record, through its bytes.
 pub fn place(p: Party, buf: &mut [u8]) -> Result<usize, ParseError>
     ensures { told_placing result buf.new ≡ place_in (content p) buf.old }
 {
-    let mut record = [0u8; RECORD_SIZE];
-    store(p, &mut record);
-    place_record(&record, buf)
+    place_record(&encoded(p), buf)
 }

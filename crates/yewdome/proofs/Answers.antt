@@ -32,23 +32,34 @@ use Rattle.writer.proofs.Back.{accepted_is}
 use Rattle.writer.proofs.Theorems.{given_exact, written_most}
 use Rattle.page_writer.specs.IndexState.{IndexState}
 use Rattle.record_bytes.specs.RecordBytes.{record_size, decoded}
+use Rattle.yewdome.specs.declared.CallError.{CallError}
 use Rattle.yewdome.specs.Interface.{Called, code_of, arguments_reply, argument_reply, after_checks, index_after_checks, stored_call, given, measured_code, code_or, party_measure, placed_call, party_place}
-use Rattle.yewdome.specs.Code.{Named, allowed, checked, Measurable, Small, answer_code}
+use Rattle.yewdome.specs.Code.{Named, told_call_error, told_check, allowed, checked, Measurable, Small, answer_code}
 use Rattle.yewdome.proofs.LineBounds.{must_line, must_then, giving_line, read_line}
 
 -- ---- the tests of what is lent
 -- a call that does not pass them answers their refusal
-pub refuses : {T : Type 0} (t : Reply) (x : T) {r : ℕ} → allowed t x ≡ Err r → (c : Called) (bytes : List ℕ) → (record { code = r; bytes = bytes }) ≡ after_checks t c bytes
-refuses accepted x e c bytes = cc
-refuses (refused k n) x e c bytes = cc
+pub refuses : {T : Type 0} (t : Reply) (x : T) {r : Reply} → allowed t x ≡ Err r → {n : ℕ} → n ≡ code_of r → (c : Called) (bytes : List ℕ) → (record { code = n; bytes = bytes }) ≡ after_checks t c bytes
+refuses accepted x e q c bytes = cc
+refuses (refused k n) x {r} e q c bytes =
+    let same : r ≡ refused k n = cc in ap {B = Called} (λ (m : ℕ). record { code = m; bytes = bytes }) (q ∙ ap code_of same)
 
-pub refuses_index : {T : Type 0} (t : Reply) (x : T) {r : ℕ} → allowed t x ≡ Err r → (after b : IndexState) → b ≡ index_after_checks t after b
+pub refuses_index : {T : Type 0} (t : Reply) (x : T) {r : Reply} → allowed t x ≡ Err r → (after b : IndexState) → b ≡ index_after_checks t after b
 refuses_index accepted x e after b = cc
 refuses_index (refused k n) x e after b = refl
 
-pub refuses_code : {T : Type 0} (t : Reply) (x : T) {r : ℕ} → allowed t x ≡ Err r → (n : ℕ) → r ≡ code_or t n
+pub refuses_code : {T : Type 0} (t : Reply) (x : T) {r : Reply} → allowed t x ≡ Err r → (n : ℕ) → code_of r ≡ code_or t n
 refuses_code accepted x e n = cc
-refuses_code (refused k l) x e n = cc
+refuses_code (refused k l) x {r} e n = let same : r ≡ refused k l = cc in ap code_of same
+
+-- whose number is a tested record's
+pub refuses_named : {T : Type 0} (len : ℕ) (known : Bool) (x : T) {r : Reply} → allowed (arguments_reply len known) x ≡ Err r → Named r
+refuses_named len known x e =
+    go (arguments_reply len known) (must_then (leb record_size len) 42 0 (must known 41 0) (omega arith) (omega arith) (must_line known 41 0 (omega arith) (omega arith))) e
+  where
+    go : (t : Reply) → Named t → {r : Reply} → allowed t x ≡ Err r → Named r
+    go accepted h q = cc
+    go (refused k n) h {r} q = let same : refused k n ≡ r = cc in subst Named same h
 
 -- and one that does has what it asks for
 pub passes : {T : Type 0} (t : Reply) {x y : T} → allowed t x ≡ Ok y → (t ≡ accepted) × (y ≡ x)
@@ -58,7 +69,7 @@ passes (refused k n) e = cc
 pub asked : {T : Type 0} (len : ℕ) (known : Bool) (x : T) → checked len (then_some known x) ≡ allowed (arguments_reply len known) x
 asked len known x = go (leb record_size len) known
   where
-    go : (a b : Bool) → (elim a [ true ↦ ok_or (then_some b x) (code_of (refused 41 0)) | false ↦ Err (code_of (refused 42 0)) ]) ≡ allowed (must a 42 0 then must b 41 0) x
+    go : (a b : Bool) → (elim a [ true ↦ ok_or (then_some b x) (refused 41 0) | false ↦ Err (refused 42 0) ]) ≡ allowed (must a 42 0 then must b 41 0) x
     go true true = refl
     go true false = refl
     go false b = refl
@@ -89,16 +100,19 @@ reads_named r bytes o i h =
     by (refused k n) = refl
 
 -- a call that reads by what a place names: `R` is the reading, and `g` is what the tests gave
-module _ {T : Type 0} (known : Bool) (x : T) (R : T → Reading) (bytes : List ℕ) {o : Option T} {g : Result T ℕ} (k : o ≡ then_some known x) (h : g ≡ checked (length bytes) o) where
-  is_allowed : g ≡ allowed (arguments_reply (length bytes) known) x
+module _ {T : Type 0} (known : Bool) (x : T) (R : T → Reading) (bytes : List ℕ) {o : Option T} (k : o ≡ then_some known x) (g : Result T CallError) (h : told_check g ≡ checked (length bytes) o) where
+  is_allowed : told_check g ≡ allowed (arguments_reply (length bytes) known) x
   is_allowed = h ∙ ap (checked (length bytes)) k ∙ asked (length bytes) known x
 
-  pub not_read : {n : ℕ} → g ≡ Err n → (record { code = n; bytes = bytes }) ≡ given known (R x) bytes
-  not_read e = refuses (arguments_reply (length bytes) known) x (sym is_allowed ∙ e) (stored_call (R x).reply (R x).party bytes) bytes
+  pub not_read : {e : CallError} → g ≡ Err e → {n : ℕ} → n ≡ code_of (told_call_error e) → (record { code = n; bytes = bytes }) ≡ given known (R x) bytes
+  not_read e q = refuses (arguments_reply (length bytes) known) x (sym is_allowed ∙ ap told_check e) q (stored_call (R x).reply (R x).party bytes) bytes
+
+  pub not_read_named : {e : CallError} → g ≡ Err e → Named (told_call_error e)
+  not_read_named e = refuses_named (length bytes) known x (sym is_allowed ∙ ap told_check e)
 
   module _ {y : T} (e : g ≡ Ok y) where
     has_passed : (arguments_reply (length bytes) known ≡ accepted) × (y ≡ x)
-    has_passed = passes (arguments_reply (length bytes) known) (sym is_allowed ∙ e)
+    has_passed = passes (arguments_reply (length bytes) known) (sym is_allowed ∙ ap told_check e)
 
     -- into the lent record
     module _ (d : Result (Unit {0}) ParseError) (out : List ℕ) (i : told_into d out ≡ read_into (R y) bytes) {m : Result ℕ ParseError} (a : m ≡ result_and d (Ok 0)) where

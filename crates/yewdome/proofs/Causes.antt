@@ -19,6 +19,7 @@ use Rattle.writer.specs.Writing.{written_field}
 use Rattle.page_reader.specs.Pages.{runs, ReadOutcome, a_record, read_at}
 use Rattle.page_reader.proofs.Cases.{runs_most}
 use Rattle.page_reader.proofs.Records.{record_gave}
+use Rattle.page_writer.specs.Adding.{with_lf}
 use Rattle.kept.specs.declared.Causes.{Causes}
 use Rattle.kept.specs.Kept.{causes_of, is_none, Kept, keeping, kept_of}
 use Rattle.kept.specs.Fields.{field_causes, causes_by}
@@ -26,7 +27,7 @@ use Rattle.kept.proofs.FieldExact.{field_less}
 use Rattle.record_bytes.specs.RecordBytes.{bit, decoded}
 use Rattle.record_bytes.proofs.Theorems.{bit_small, bit_back}
 use Rattle.yewdome.specs.Interface.{position_room, cause, causes_code, code_or, kept_code}
-use Rattle.yewdome.specs.Code.{Named, WasRead, WasFiled}
+use Rattle.yewdome.specs.Code.{Named}
 
 -- ---- the number
 -- it is 0 exactly where there is none
@@ -113,28 +114,28 @@ kept_named r text body = go r.reply
     go (refused k n) h = h
 
 -- ---- the causes of the record in the bytes that it was read into
-pub read_told : (page : List ℕ) (at : ℕ) (bytes : List ℕ) → WasRead page at bytes → {o : PartyOption} {b : Bool} → o ≡ (decoded bytes).option → b ≡ (decoded bytes).present
+pub read_told : (page : List ℕ) (at : ℕ) (bytes : List ℕ) → (read_at page at).outcome ≡ a_record (decoded bytes) → {o : PartyOption} {b : Bool} → o ≡ (decoded bytes).option → b ≡ (decoded bytes).present
     → field_causes o b page at ≡ causes_by page at (read_at page at).outcome
 read_told page at bytes w q r =
-    (λ i. field_causes ((q ∙ ap (λ (p : Party). p.option) w.loads) i) ((r ∙ ap (λ (p : Party). p.present) w.loads) i) page at) ∙ ap (causes_by page at) (sym w.read)
+    (λ i. field_causes (q i) (r i) page at) ∙ ap (causes_by page at) (sym w)
 
 -- ---- a field that was filed with as many bytes as the read moved past, where more follows it
-module _ (page : List ℕ) (at : ℕ) (bytes : List ℕ) (moved written : ℕ) (f : WasFiled page at bytes moved written) where
+module _ (page : List ℕ) (at : ℕ) (bytes : List ℕ) (moved : ℕ) (read : (read_at page at).outcome ≡ a_record (decoded bytes)) (moves : (read_at page at).next ≡ at + moved) where
   abbrev p : Party
-  p = f.given.was.party
+  p = decoded bytes
 
   abbrev s : List ℕ
   s = drop at page
 
   -- the read ends within the page
   pub filed_within : at + moved ≤ length page
-  filed_within = omega (arith, f.given.moves, (record_gave page at p f.given.was.read).next)
+  filed_within = omega (arith, moves, (record_gave page at p read).next)
 
-  pub filed_none : at + moved < length page → moved ≡ written → 0 ≡ causes_code (causes_by page at (read_at page at).outcome)
-  filed_none h e = sym (ap (λ (x : ReadOutcome). causes_code (causes_by page at x)) f.given.was.read ∙ go (is_none (causes_by page at (a_record p))) refl)
+  pub filed_none : (written : ℕ) → written ≡ length (with_lf (written_field (content p))) → at + moved < length page → moved ≡ written → 0 ≡ causes_code (causes_by page at (read_at page at).outcome)
+  filed_none written writes h e = sym (ap (λ (x : ReadOutcome). causes_code (causes_by page at x)) read ∙ go (is_none (causes_by page at (a_record p))) refl)
     where
       go : (t : Bool) → is_none (causes_by page at (a_record p)) ≡ t → causes_code (causes_by page at (a_record p)) ≡ 0
       go true n = eqb-true (causes_code (causes_by page at (a_record p))) 0 (code_none (causes_by page at (a_record p)) ∙ n)
       go false n =
-          let k = field_less page at p f.given.was.read n in
-          absurd (omega (arith, k, h, e, f.given.moves, f.writes, (record_gave page at p f.given.was.read).next, length-append (written_field (content p)) (10 ∷ []), length-take-le (runs s) s (runs_most s)))
+          let k = field_less page at p read n in
+          absurd (omega (arith, k, h, e, moves, writes, (record_gave page at p read).next, length-append (written_field (content p)) (10 ∷ []), length-take-le (runs s) s (runs_most s)))

@@ -23,7 +23,7 @@ use Rattle.kept.specs.Fields.{causes_by}
 use Rattle.record_bytes.specs.RecordBytes.{record_size, decoded}
 use Rattle.yewdome.specs.Filing.{open_page, filed_as}
 use Rattle.yewdome.specs.Interface.{causes_unit, packed, code_of, read_code, causes_code, caused_number, page_kept}
-use Rattle.yewdome.specs.Code.{Small, IsMove, move_code, step_by, is_record, IsRead, WasFiled, told_step}
+use Rattle.yewdome.specs.Code.{Small, IsMove, move_code, step_by, is_record, told_step}
 use Rattle.yewdome.proofs.Pages.{kind_code, kind_within, add_within, add_taken, filed_small, page_line, onward_from}
 use Rattle.yewdome.proofs.Theorems.{page_loads}
 
@@ -64,11 +64,11 @@ module _ {page : List ℕ} {at : ℕ} {k : Kind} {next : ℕ} {into : List ℕ} 
   by_outcome : {b : Bool} → is_record k ≡ b → {x : ReadOutcome} → r.outcome ≡ x → is_record (kind_of x) ≡ b
   by_outcome e q = ap is_record (sym (kind ∙ ap kind_of q)) ∙ e
 
-  pub is_read : is_record k ≡ true → IsRead page at into moved
+  pub is_read : is_record k ≡ true → (r.outcome ≡ a_record (decoded into)) × (r.next ≡ at + moved)
   is_read e = go r.outcome refl
     where
-      go : (x : ReadOutcome) → r.outcome ≡ x → IsRead page at into moved
-      go (a_record p) q = record { was = record { party = p; read = q; loads = g.loads q }; moves = omega (arith, goes_to, onward) }
+      go : (x : ReadOutcome) → r.outcome ≡ x → (r.outcome ≡ a_record (decoded into)) × (r.next ≡ at + moved)
+      go (a_record p) q = (q ∙ ap a_record (sym (g.loads q)), omega (arith, goes_to, onward))
       go the_end q = absurd (false≢true (by_outcome e q))
       go (a_refusal i m) q = absurd (false≢true (by_outcome e q))
 
@@ -104,22 +104,19 @@ module _ {page : List ℕ} {at : ℕ} {k : Kind} {next : ℕ} {into : List ℕ} 
         go true (a_refusal i m) q h = ap (λ (m : ℕ). told_step m now position) (number c q) ∙ rw q
         go false x q h = ap (λ (m : ℕ). told_step m now position) (number c refl)
 
-pub moved_few : {page : List ℕ} {at : ℕ} {bytes : List ℕ} {moved : ℕ} → IsRead page at bytes moved → moved ≤ page_most
-moved_few {page} {at} w = omega (arith, w.moves, next_most page at)
+pub moved_few : (page : List ℕ) (at : ℕ) {moved : ℕ} → (read_at page at).next ≡ at + moved → moved ≤ page_most
+moved_few page at moves = omega (arith, moves, next_most page at)
 
 -- ---- a record, added
-module _ {page : List ℕ} {at : ℕ} {into : List ℕ} {moved : ℕ} (w : IsRead page at into moved) (now : List ℕ) (position : ℕ) (f : Result ℕ ParseError) {left : List ℕ} (a : told_call f left ≡ add now position no_index (content (decoded into))) where
+module _ (page : List ℕ) (at : ℕ) (into : List ℕ) (moved : ℕ) (read : (read_at page at).outcome ≡ a_record (decoded into)) (moves : (read_at page at).next ≡ at + moved) (now : List ℕ) (position : ℕ) (f : Result ℕ ParseError) {left : List ℕ} (a : told_call f left ≡ add now position no_index (content (decoded into))) where
   abbrev p : Party
-  p = w.was.party
+  p = decoded into
 
   abbrev c : Call
   c = add now position no_index (content p)
 
   abbrev to_step : Step OpenPage ℕ
   to_step = step_by true page (open_page now position) (read_here page at)
-
-  filed_is : told_call f left ≡ c
-  filed_is = a ∙ ap (λ (q : Party). add now position no_index (content q)) w.was.loads
 
   -- the step, by what the add answered
   abbrev after : Filed → Step OpenPage ℕ
@@ -129,24 +126,24 @@ module _ {page : List ℕ} {at : ℕ} {into : List ℕ} {moved : ℕ} (w : IsRea
   is_after q =
       let r = read_at page at in
       let told : after (told_filed f) ≡ step_by true page (open_page now position) (record { at = at; gave = record { outcome = a_record p; body = r.body; next = r.next } }) =
-      λ j. record { state = record { buffer = (filed_is j).buffer; position = last_given (filed_is j).answer position; index = sym (index_none now position (content p)) j }; answer = caused_number page (read_here page at) (filed_as (filed_is j).answer p) } in
-      ap after (sym q) ∙ told ∙ (λ j. step_by true page (open_page now position) (record { at = at; gave = record { outcome = sym w.was.read j; body = r.body; next = r.next } }))
+      λ j. record { state = record { buffer = (a j).buffer; position = last_given (a j).answer position; index = sym (index_none now position (content p)) j }; answer = caused_number page (read_here page at) (filed_as (a j).answer p) } in
+      ap after (sym q) ∙ told ∙ (λ j. step_by true page (open_page now position) (record { at = at; gave = record { outcome = sym read j; body = r.body; next = r.next } }))
 
   past : moved ≡ (read_at page at).next - at
-  past = omega (arith, w.moves)
+  past = omega (arith, moves)
 
   pub add_small : Small f
-  add_small = filed_small f filed_is (add_within now position no_index (content p))
+  add_small = filed_small f a (add_within now position no_index (content p))
 
   -- it was filed: how many bytes were written, and what the step answers
-  pub filed_as_lem : {to : ℕ} → f ≡ Ok to → (position ≤ to) × WasFiled page at into moved (to - position)
+  pub filed_as_lem : {to : ℕ} → f ≡ Ok to → (position ≤ to) × (to - position ≡ length (with_lf (written_field (content p))))
   filed_as_lem {to} q =
-      let w1 : to ≡ position + length (with_lf (written_field (content p))) = (add_taken now position no_index (content p) (sym (ap (λ (x : Call). x.answer) filed_is) ∙ ap told_filed q)).0 in
-      (omega (arith, w1), record { given = w; writes = omega (arith, w1) })
+      let w1 : to ≡ position + length (with_lf (written_field (content p))) = (add_taken now position no_index (content p) (sym (ap (λ (x : Call). x.answer) a) ∙ ap told_filed q)).0 in
+      (omega (arith, w1), omega (arith, w1))
 
   pub was_filed : {to : ℕ} → f ≡ Ok to → {k : ℕ} → k ≡ causes_code (causes_by page at (read_at page at).outcome) → told_step (k * causes_unit + moved) left to ≡ to_step
   was_filed {to} q e =
-      (λ j. told_step ((e ∙ ap (λ (x : ReadOutcome). causes_code (causes_by page at x)) w.was.read) j * causes_unit + past j) left to) ∙ is_after (ap told_filed q)
+      (λ j. told_step ((e ∙ ap (λ (x : ReadOutcome). causes_code (causes_by page at x)) read) j * causes_unit + past j) left to) ∙ is_after (ap told_filed q)
 
   pub was_refused : {e : ParseError} → f ≡ Err e → {k : ℕ} → k ≡ code_of (told_error e) → told_step (packed k moved) left position ≡ to_step
   was_refused q z = (λ j. told_step (packed (z j) (past j)) left position) ∙ is_after (ap told_filed q)

@@ -12,6 +12,7 @@ use lib.Dec.{eqb}
 use Rattle.errors.specs.Refusals.{accepted, refused}
 use Rattle.party.specs.declared.Party.{Party}
 use Rattle.party.specs.Party.{content}
+use Rattle.writer.specs.Code.{Puts}
 use Rattle.writer.proofs.Puts.{puts_byte, space, Partway, begun, finished, kept, next}
 use Rattle.page_reader.specs.Pages.{page_most, ReadOutcome, a_record, the_end, a_refusal, PageRead, read_at, kind_of, outline}
 use Rattle.page_reader.specs.Reads.{Read, read_here, is_the_end, is_last, reads}
@@ -132,6 +133,16 @@ module _ (files : Bool) (page : List ℕ) where
       pub state : (left s at).state ≡ (walk_by files page buffer).state
       pub stored : Partway answers 0 (walk_by files page buffer).answers numbers count (left s at).answers
 
+    -- or nothing is left
+    pub record Whole (s : OpenPage) (numbers : List ℕ) (count : ℕ) : Type 0 where
+      pub state : s ≡ (walk_by files page buffer).state
+      pub puts : Puts answers 0 (walk_by files page buffer).answers numbers count
+
+    -- by where the next read is
+    abbrev pub Going : OpenPage → List ℕ → Option ℕ → ℕ → Type 0
+    Going s numbers (Some at) count = Partly s numbers at count
+    Going s numbers None count = Whole s numbers count
+
     pub begins : Partly (open_page buffer 0) answers 0 0
     begins =
         let e : left (open_page buffer 0) 0 ≡ walk_by files page buffer = ap (run (step_by files page) (open_page buffer 0)) (rest_start page) in
@@ -147,6 +158,11 @@ module _ (files : Bool) (page : List ℕ) where
         let w = v.stored in
         let fits : 0 + length (walk_by files page buffer).answers ≤ length answers = omega (arith, run_length (step_by files page) (open_page buffer 0) (reads page), reads_most page, room) in
         omega (arith, kept w fits, space w.done (left s at).answers w.puts (rw w.left fits), run_length (step_by files page) s (rest page at), rest_some page at)
+
+    -- and with no more numbers nothing is left
+    pub none_left : length page < length answers → (s : OpenPage) (numbers : List ℕ) (o : Option ℕ) {count : ℕ} → Going s numbers o count → length answers ≤ count → o ≡ None
+    none_left room s numbers None g h = refl
+    none_left room s numbers (Some at) g h = absurd (omega (arith, h, there room g))
 
     -- the code's step at a position, in a turn of the loop: its answer, with the position and the buffer that it left
     pub record Turn (s : OpenPage) (numbers : List ℕ) (at count answer position : ℕ) (now : List ℕ) : Type 0 where
@@ -173,7 +189,7 @@ module _
         let w : Partway answers 0 whole numbers count (answer ∷ later) = subst (Partway answers 0 whole numbers count) (e ∙ ap (λ (x : Step OpenPage ℕ). x.answer ∷ later) (sym t.step)) t.inv.stored in
         next (answer ∷ []) later w fits (puts_byte numbers count answer (omega (arith, kept w fits, there files page buffer answers t.room t.inv)))
 
-    pub finishes : is_last (read_at page at) at ≡ true → Walks files page buffer answers (count + 1) position now (set numbers count answer)
+    finishes : is_last (read_at page at) at ≡ true → Whole files page buffer answers (open_page now position) (set numbers count answer) (count + 1)
     finishes e =
         let l = left_last files page s at e in
         record {
@@ -181,7 +197,7 @@ module _
           puts = finished (stores [] (ap (λ (x : Run OpenPage ℕ). x.answers) l));
         }
 
-    pub continues : is_last (read_at page at) at ≡ false → {to : ℕ} → to ≡ (read_at page at).next → Partly files page buffer answers (open_page now position) (set numbers count answer) to (count + 1)
+    continues : is_last (read_at page at) at ≡ false → {to : ℕ} → to ≡ (read_at page at).next → Partly files page buffer answers (open_page now position) (set numbers count answer) to (count + 1)
     continues e {to} q =
         let later : left files page (turn files page s at).state (read_at page at).next ≡ left files page (open_page now position) to = sym (λ j. left files page (t.step j).state (q j)) in
         let l = left_next files page s at e in
@@ -192,6 +208,17 @@ module _
           stored = stores (left files page (open_page now position) to).answers
               (ap (λ (x : Run OpenPage ℕ). x.answers) l ∙ ap (λ (x : Run OpenPage ℕ). (turn files page s at).answer ∷ x.answers) later);
         }
+
+    pub goes_on : (o : Option ℕ) → o ≡ follows (outline (read_at page at)) at → Going files page buffer answers (open_page now position) (set numbers count answer) o (count + 1)
+    goes_on None e = finishes (none_last (read_at page at) at e refl)
+    goes_on (Some n) e = let w = some_next (read_at page at) at e refl in continues w.0 w.1
+
+-- what was walked, where nothing is left
+module _ {files : Bool} {page buffer answers : List ℕ} {now numbers : List ℕ} {count position : ℕ} where
+  pub walked : {o : Option ℕ} → Going files page buffer answers (open_page now position) numbers o count → o ≡ None → {bytes : List ℕ} → bytes ≡ now → Walks files page buffer answers count position bytes numbers
+  walked {o} g e q =
+      let w : Going files page buffer answers (open_page now position) numbers None count = subst (λ (o : Option ℕ). Going files page buffer answers (open_page now position) numbers o count) e g in
+      record { state = ap (λ (bs : List ℕ). open_page bs position) q ∙ w.state; puts = w.puts }
 
 -- ---- what the calls give
 read_numbers : (page : List ℕ) (s : OpenPage) (rs : List Read) → (run (step_by false page) s rs).answers ≡ map read_number rs

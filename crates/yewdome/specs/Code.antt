@@ -1,31 +1,42 @@
 -- The working forms of the private functions: what keeps a number within 32 bits, and the loop over a page.
-use Rattle.std.specs.Prelude.{ℕ, ◌+◌, ◌≤◌, ◌<◌, ◌≡◌, Bool, true, false, ◌||◌, List, Option, Some, None, Result, Ok, Err, leb, eqb, length, ok_or}
+use Rattle.std.specs.Prelude.{ℕ, ◌+◌, ◌≤◌, ◌<◌, ◌≡◌, Bool, true, false, ◌||◌, List, Option, Some, None, Result, Ok, Err, leb, eqb, ok_or}
 use Rattle.errors.specs.declared.ParseError.{ParseError}
 use Rattle.errors.specs.Refusals.{Reply, accepted, refused, told_error}
-use Rattle.party.specs.declared.Party.{Party}
-use Rattle.party.specs.Party.{content}
 use Rattle.reader.specs.Options.{body_most}
-use Rattle.writer.specs.Writing.{written_field, field_most}
+use Rattle.writer.specs.Writing.{field_most}
 use Rattle.writer.specs.Placing.{Measured, length_is, refused_with}
 use Rattle.writer.specs.Code.{Puts}
-use Rattle.page_reader.specs.Pages.{page_most, ReadOutcome, a_record, read_at, Kind, a_record_given, the_end_given, a_refusal_given, Outline}
+use Rattle.page_reader.specs.Pages.{page_most, ReadOutcome, Kind, a_record_given, the_end_given, a_refusal_given, Outline}
 use Rattle.page_reader.specs.Reads.{Read, reads}
-use Rattle.page_writer.specs.Adding.{with_lf, Filed, position_after, refusal}
+use Rattle.page_writer.specs.Adding.{Filed, position_after, refusal}
 use Rattle.page_writer.specs.Fold.{Step, Run, run}
 use Rattle.page_writer.specs.WholePage.{OpenPage}
-use Rattle.record_bytes.specs.RecordBytes.{record_size, decoded}
+use Rattle.record_bytes.specs.RecordBytes.{record_size}
+use Rattle.yewdome.specs.declared.CallError.{CallError}
+use Rattle.yewdome.specs.declared.CallError.TheVariants.{NoneSuch, ShortAnswers, Refused}
 use Rattle.yewdome.specs.Filing.{file_outcome, open_page}
 use Rattle.yewdome.specs.Interface.{position_room, packed, code_of, answer_number, caused_number}
 
 -- ---- the tests of what is lent
--- what passes them, or their refusal as a number
-abbrev pub allowed : {T : Type 0} → Reply → T → Result T ℕ
+-- a call's refusal: the interface's own, or that of the crates below
+abbrev pub told_call_error : CallError → Reply
+told_call_error NoneSuch = refused 41 0
+told_call_error ShortAnswers = refused 43 0
+told_call_error (Refused e) = told_error e
+
+-- what they gave
+abbrev pub told_check : {T : Type 0} → Result T CallError → Result T Reply
+told_check (Ok x) = Ok x
+told_check (Err e) = Err (told_call_error e)
+
+-- what passes them, or their refusal
+abbrev pub allowed : {T : Type 0} → Reply → T → Result T Reply
 allowed accepted x = Ok x
-allowed (refused k n) x = Err (code_of (refused k n))
+allowed (refused k n) x = Err (refused k n)
 
 -- what is asked for by a place that names it or nothing, where a lent record has so many bytes
-abbrev pub checked : {T : Type 0} → ℕ → Option T → Result T ℕ
-checked len o = elim (leb record_size len) [ true ↦ ok_or o (code_of (refused 41 0)) | false ↦ Err (code_of (refused 42 0)) ]
+abbrev pub checked : {T : Type 0} → ℕ → Option T → Result T Reply
+checked len o = elim (leb record_size len) [ true ↦ ok_or o (refused 41 0) | false ↦ Err (refused 42 0) ]
 
 -- ---- numbers within 32 bits
 -- a refusal has a number from 1 on, and a line of at most 2,048
@@ -85,22 +96,6 @@ step_by files page s r =
 -- the whole loop
 abbrev pub walk_by : Bool → List ℕ → List ℕ → Run OpenPage ℕ
 walk_by files page buffer = run (step_by files page) (open_page buffer 0) (reads page)
-
--- a record that was read into bytes
-pub record WasRead (page : List ℕ) (at : ℕ) (bytes : List ℕ) : Type 0 where
-  pub party : Party
-  pub read : (read_at page at).outcome ≡ a_record party
-  pub loads : decoded bytes ≡ party
-
--- with the bytes that the read moved past
-pub record IsRead (page : List ℕ) (at : ℕ) (bytes : List ℕ) (moved : ℕ) : Type 0 where
-  pub was : WasRead page at bytes
-  pub moves : (read_at page at).next ≡ at + moved
-
--- and filed: with the bytes that were written
-pub record WasFiled (page : List ℕ) (at : ℕ) (bytes : List ℕ) (moved written : ℕ) : Type 0 where
-  pub given : IsRead page at bytes moved
-  pub writes : written ≡ length (with_lf (written_field (content given.was.party)))
 
 -- a read that gives a record
 abbrev pub is_record : Kind → Bool

@@ -3,19 +3,22 @@
 // the filing of a page give more beside it. A refusal changes no byte and no number that is lent.
 #![tactic(auto)]
 
-ghost use Rattle.std.specs.Prelude.{◌≡◌, true, ◌+◌, ◌*◌, ◌<◌, ◌≤◌, length, leb};
+ghost use Rattle.std.specs.Prelude.{◌≡◌, true, ◌+◌, ◌*◌, ◌<◌, length, leb};
 ghost use Rattle.std.specs.Bool.{then_some};
-ghost use Rattle.errors.specs.Refusals.{told_error};
 ghost use Rattle.party.specs.Limits.{option_at};
+ghost use Rattle.party.specs.Party.{content};
 ghost use Rattle.reader.specs.Reading.{told_answer};
-ghost use Rattle.page_reader.specs.Pages.{page_most, read_at, outline, told_kind, told_read_into};
+ghost use Rattle.writer.specs.Writing.{written_field};
+ghost use Rattle.page_reader.specs.Pages.{a_record, read_at, outline, told_kind, told_read_into};
 ghost use Rattle.page_reader.specs.Reads.{read_here};
 ghost use Rattle.page_writer.specs.IndexState.{no_index, an_index};
+ghost use Rattle.page_writer.specs.Adding.{with_lf};
 ghost use Rattle.kept.specs.Kept.{told_kept};
 ghost use Rattle.kept.specs.Fields.{causes_by};
+ghost use Rattle.record_bytes.specs.RecordBytes.{decoded};
 ghost use Rattle.yewdome.specs.Filing.{open_page};
 ghost use Rattle.yewdome.specs.Interface.{causes_unit, packed, code_of, argument_reply, stored_call, code_or, party_read, choice_at, party_parse, party_parse_with_variant, profile_read, profile_parse, profile_parse_with_variant, party_measure, party_place, page_read, causes_code, kept_read_code, kept_parse_code, kept_variant_code, page_kept, page_look_up, page_body, page_add, page_add_index, page_close, page_answers, page_file};
-ghost use Rattle.yewdome.specs.Code.{Named, allowed, checked, Small, answer_code, IsMove, move_code, step_by, is_record, follows, WasRead, IsRead, WasFiled, told_step, Walks};
+ghost use Rattle.yewdome.specs.Code.{Named, told_call_error, told_check, allowed, checked, Small, answer_code, IsMove, move_code, step_by, is_record, follows, told_step, Walks};
 
 use errors::{ParseError, Refusal};
 use kept::{Causes, field_causes};
@@ -29,38 +32,41 @@ use record_bytes::{RECORD_SIZE, has_option, option_of, present_of, store};
 use writer::{measure_record, place_record};
 
 // A position, a line of a body and how many bytes a read moved past are below this.
-const POSITION_ROOM: u32 = 65536;
+pub const POSITION_ROOM: u32 = 65536;
 
 // A read's end: this and the bytes moved past.
-const READ_END: u64 = POSITION_ROOM as u64;
+pub const READ_END: u64 = POSITION_ROOM as u64;
 
 // Beside these stand the causes of a field.
-const CAUSES_UNIT: u64 = 2 * READ_END;
+pub const CAUSES_UNIT: u64 = 2 * READ_END;
 
 // Two numbers of 32 bits in one.
-const PACK_UNIT: u64 = 1 << 32;
+pub const PACK_UNIT: u64 = 1 << 32;
 
-// The interface's own numbers, × 65,536: 41 no such option or choice, 42 a lent record of under 241 bytes, 43 too few numbers lent for
-// answers. Document 01 has none of them.
-const NONE_SUCH: u32 = 41 * POSITION_ROOM;
+// What a call refuses for. Document 01 has neither of the interface's own two.
+#[derive(Clone, Copy)]
+enum CallError {
+    // 41: no such option or choice
+    NoneSuch,
+    // 43: too few numbers lent for answers
+    ShortAnswers,
+    // what the crates below refuse for: 42, a lent record of under 241 bytes, or document 01's
+    Refused(ParseError),
+}
 
-const SHORT_RECORD: u32 = 42 * POSITION_ROOM;
-
-const SHORT_ANSWERS: u32 = 43 * POSITION_ROOM;
-
-// What a call asks for, where a record is lent that has room for one; else the interface's own refusal, before document 01's.
-fn check<T: Drop>(record: &[u8], asked: Option<T>) -> Result<T, u32>
-    ensures { result ≡ checked (length «record».now) asked }
+// What a call asks for, where a record is lent that has room for one; else its refusal, before document 01's.
+fn check<T: Drop>(record: &[u8], asked: Option<T>) -> Result<T, CallError>
+    ensures { told_check result ≡ checked (length «record».now) asked }
 {
     if record.len() < RECORD_SIZE {
-        return Err(SHORT_RECORD);
+        return Err(CallError::Refused(ParseError::ShortRecord));
     }
-    asked.ok_or(NONE_SUCH)
+    asked.ok_or(CallError::NoneSuch)
 }
 
 // The same of a record lent to be measured, placed or added, whose first byte is the option's place.
-fn check_record(record: &[u8]) -> Result<(), u32>
-    ensures { result ≡ allowed (argument_reply «record».now) tt }
+fn check_record(record: &[u8]) -> Result<(), CallError>
+    ensures { told_check result ≡ allowed (argument_reply «record».now) tt }
 {
     check(record, has_option(record).then_some(()))
 }
@@ -92,11 +98,21 @@ fn known_choice(place: u8) -> Option<Choice>
 }
 
 // A refusal as a number.
-fn code(e: ParseError) -> u32
-    requires { Named (told_error e) }
-    ensures { result ≡ code_of (told_error e) }
+fn code(e: CallError) -> u32
+    requires { Named (told_call_error e) }
+    ensures { result ≡ code_of (told_call_error e) }
 {
-    let refusal = Refusal::from(e);
+    let refusal = match e {
+        CallError::NoneSuch => Refusal {
+            number: 41,
+            line: 0,
+        },
+        CallError::ShortAnswers => Refusal {
+            number: 43,
+            line: 0,
+        },
+        CallError::Refused(e) => Refusal::from(e),
+    };
     u32::from(refusal.number) * POSITION_ROOM + refusal.line as u32
 }
 
@@ -114,7 +130,7 @@ fn answered(answer: Result<usize, ParseError>) -> u32
 {
     match answer {
         Ok(n) => n as u32,
-        Err(e) => code(e),
+        Err(e) => code(CallError::Refused(e)),
     }
 }
 
@@ -128,7 +144,7 @@ fn store_answer(answer: Result<Party, ParseError>, out: &mut [u8]) -> u32
             store(party, out);
             0
         }
-        Err(e) => code(e),
+        Err(e) => code(CallError::Refused(e)),
     }
 }
 
@@ -138,7 +154,7 @@ pub fn yewdome_party_read(option: u8, body: &[u8], record: &mut [u8]) -> u32
 {
     match check(record, known_option(option)) {
         Ok(option) => answered(read_into(option, body, record).and(Ok(0))),
-        Err(refusal) => refusal,
+        Err(e) => code(e),
     }
 }
 
@@ -148,7 +164,7 @@ pub fn yewdome_party_parse(choice: u8, body: &[u8], record: &mut [u8]) -> u32
 {
     match check(record, known_choice(choice)) {
         Ok(choice) => answered(parse_into(choice, body, record).and(Ok(0))),
-        Err(refusal) => refusal,
+        Err(e) => code(e),
     }
 }
 
@@ -163,7 +179,7 @@ pub fn yewdome_party_parse_with_variant(
 {
     match check(record, known_choice(choice)) {
         Ok(choice) => answered(parse_with_variant_into(choice, body, letter, record).and(Ok(0))),
-        Err(refusal) => refusal,
+        Err(e) => code(e),
     }
 }
 
@@ -173,7 +189,7 @@ pub fn yewdome_profile_read(option: u8, body: &[u8], record: &mut [u8]) -> u32
 {
     match check(record, known_option(option)) {
         Ok(option) => store_answer(profile::read(option, body), record),
-        Err(refusal) => refusal,
+        Err(e) => code(e),
     }
 }
 
@@ -183,7 +199,7 @@ pub fn yewdome_profile_parse(choice: u8, body: &[u8], record: &mut [u8]) -> u32
 {
     match check(record, known_choice(choice)) {
         Ok(choice) => store_answer(profile::parse(choice, body), record),
-        Err(refusal) => refusal,
+        Err(e) => code(e),
     }
 }
 
@@ -198,7 +214,7 @@ pub fn yewdome_profile_parse_with_variant(
 {
     match check(record, known_choice(choice)) {
         Ok(choice) => store_answer(profile::parse_with_variant(choice, body, letter), record),
-        Err(refusal) => refusal,
+        Err(e) => code(e),
     }
 }
 
@@ -208,7 +224,7 @@ pub fn yewdome_party_measure(record: &[u8]) -> u32
 {
     match check_record(record) {
         Ok(()) => answered(measure_record(record)),
-        Err(refusal) => refusal,
+        Err(e) => code(e),
     }
 }
 
@@ -218,7 +234,7 @@ pub fn yewdome_party_place(record: &[u8], buf: &mut [u8]) -> u32
 {
     match check_record(record) {
         Ok(()) => answered(place_record(record, buf)),
-        Err(refusal) => refusal,
+        Err(e) => code(e),
     }
 }
 
@@ -231,7 +247,7 @@ fn moved_past(outcome: Result<Option<()>, ParseError>, moved: usize) -> u64
     match outcome {
         Ok(Some(())) => u64::from(moved),
         Ok(None) => READ_END + u64::from(moved),
-        Err(e) => pack(code(e), moved),
+        Err(e) => pack(code(CallError::Refused(e)), moved),
     }
 }
 
@@ -275,7 +291,7 @@ pub fn yewdome_page_add(record: &[u8], buf: &mut [u8], position: usize) -> u32
 {
     match check_record(record) {
         Ok(()) => answered(add_record(record, buf, position)),
-        Err(refusal) => refusal,
+        Err(e) => code(e),
     }
 }
 
@@ -291,7 +307,7 @@ pub fn yewdome_page_add_indexed(
 {
     match check_record(record) {
         Ok(()) => answered(add_indexed_record(record, buf, position, index)),
-        Err(refusal) => refusal,
+        Err(e) => code(e),
     }
 }
 
@@ -320,7 +336,7 @@ fn kept_code(kept: Result<Causes, ParseError>) -> u32
 {
     match kept {
         Ok(causes) => causes_code(causes),
-        Err(e) => code(e),
+        Err(e) => code(CallError::Refused(e)),
     }
 }
 
@@ -330,7 +346,7 @@ pub fn yewdome_kept_read(option: u8, body: &[u8]) -> u32
 {
     match known_option(option) {
         Some(option) => kept_code(kept::read(option, body)),
-        None => NONE_SUCH,
+        None => code(CallError::NoneSuch),
     }
 }
 
@@ -340,7 +356,7 @@ pub fn yewdome_kept_parse(choice: u8, body: &[u8]) -> u32
 {
     match known_choice(choice) {
         Some(choice) => kept_code(kept::parse(choice, body)),
-        None => NONE_SUCH,
+        None => code(CallError::NoneSuch),
     }
 }
 
@@ -350,16 +366,8 @@ pub fn yewdome_kept_parse_with_variant(choice: u8, body: &[u8], letter: u8) -> u
 {
     match known_choice(choice) {
         Some(choice) => kept_code(kept::parse_with_variant(choice, body, letter)),
-        None => NONE_SUCH,
+        None => code(CallError::NoneSuch),
     }
-}
-
-// The causes in a field that was read into bytes.
-fn record_causes(page: &[u8], at: usize, bytes: &[u8]) -> u32
-    requires { WasRead page.now at bytes.now }
-    ensures { result ≡ causes_code (causes_by page.now at (read_at page.now at).outcome) }
-{
-    causes_code(field_causes(option_of(bytes), present_of(bytes), page, at))
 }
 
 // Whether a read of a page gave a record.
@@ -369,12 +377,67 @@ fn is_record(outcome: Result<Option<()>, ParseError>) -> bool
     matches!(outcome, Ok(Some(())))
 }
 
-// The causes in a field whose record a read gave, and how many bytes it moved past, as a number.
-fn with_causes(causes: u32, moved: usize) -> u64
-    requires { moved ≤ page_most }
-    ensures { result ≡ causes * causes_unit + moved }
-{
-    u64::from(causes) * CAUSES_UNIT + moved as u64
+// A page that is filled: its buffer, which stays the one that was lent, as `same_reference` says, and the position to add at.
+#[derive(Drop)]
+struct NewPage<'a> {
+    buf: &'a mut [u8],
+    position: usize,
+}
+
+// A record that a read of a page gave: where it was read, its bytes, and how many bytes of the page the read moved past.
+#[derive(Clone, Copy)]
+struct ReadRecord<'a> {
+    page: &'a [u8],
+    at: usize,
+    bytes: &'a [u8],
+    moved: usize,
+    ghost read: { (read_at page.now at).outcome ≡ a_record (decoded bytes.now) },
+    ghost moves: { (read_at page.now at).next ≡ at + moved },
+}
+
+impl ReadRecord<'_> {
+    // The causes in its field.
+    fn causes(&self) -> u32
+        ensures { result ≡ causes_code (causes_by self.now.page.now self.now.at (read_at self.now.page.now self.now.at).outcome) }
+    {
+        let option = option_of(self.bytes);
+        let present = present_of(self.bytes);
+        causes_code(field_causes(option, present, self.page, self.at))
+    }
+
+    // The causes of one that was filed, by the bytes that were written besides. Where more follows the field and the read moved past as many,
+    // nothing was left off.
+    fn filed_causes(&self, written: usize) -> u32
+        requires { written ≡ length (with_lf (written_field (content (decoded self.now.bytes.now)))) }
+        ensures { result ≡ causes_code (causes_by self.now.page.now self.now.at (read_at self.now.page.now self.now.at).outcome) }
+    {
+        if self.at + self.moved < self.page.len() && self.moved == written {
+            return 0;
+        }
+        self.causes()
+    }
+
+    // The causes, and how many bytes the read moved past, as a number.
+    fn with_causes(&self, causes: u32) -> u64
+        ensures { result ≡ causes * causes_unit + self.now.moved }
+    {
+        u64::from(causes) * CAUSES_UNIT + self.moved as u64
+    }
+
+    // Adds it to a page, and moves that page's position on: the read's answer.
+    fn file(&self, out: &mut NewPage) -> u64
+        ensures answer { told_step result out.new.buf.now out.new.position ≡ step_by true self.now.page.now (open_page out.old.buf.now out.old.position) (read_here self.now.page.now self.now.at) }
+        ensures same_reference { out.new.buf.ghost_name ≡ out.old.buf.ghost_name }
+    {
+        match add_record(self.bytes, out.buf, out.position) {
+            Ok(to) => {
+                let causes = self.filed_causes(to - out.position);
+                out.position = to;
+                self.with_causes(causes)
+            }
+            Err(e) => pack(code(CallError::Refused(e)), self.moved as u32),
+        }
+    }
 }
 
 // What `yewdome_page_read` gives at a position and, where that is a record, which is stored nowhere, the causes of its field × 131,072.
@@ -385,43 +448,15 @@ pub fn yewdome_page_kept(page: &[u8], at: usize) -> u64
     let read = read_at_into(page, at, &mut record);
     let moved = read.next - at;
     if is_record(read.outcome) {
-        with_causes(record_causes(page, at, &record), moved)
+        let given = ReadRecord {
+            page,
+            at,
+            bytes: &record,
+            moved,
+        };
+        given.with_causes(given.causes())
     } else {
         moved_past(read.outcome, moved)
-    }
-}
-
-// The causes in one that was filed besides, by the bytes that the read moved past and those that were written. Where more follows the field
-// and they are as many, nothing was left off.
-fn filed_causes(page: &[u8], at: usize, bytes: &[u8], moved: usize, written: usize) -> u32
-    requires { WasFiled page.now at bytes.now moved written }
-    ensures { result ≡ causes_code (causes_by page.now at (read_at page.now at).outcome) }
-{
-    if at + moved < page.len() && moved == written {
-        return 0;
-    }
-    record_causes(page, at, bytes)
-}
-
-// Adds the record that a read gave to the page in the buffer, and moves that page's position on: the read's answer.
-fn file(
-    page: &[u8],
-    at: usize,
-    bytes: &[u8],
-    moved: usize,
-    buf: &mut [u8],
-    position: &mut usize,
-) -> u64
-    requires { IsRead page.now at bytes.now moved }
-    ensures { told_step result buf.new position.new ≡ step_by true page.now (open_page buf.old position.old) (read_here page.now at) }
-{
-    match add_record(bytes, buf, *position) {
-        Ok(to) => {
-            let causes = filed_causes(page, at, bytes, moved, to - *position);
-            *position = to;
-            with_causes(causes, moved)
-        }
-        Err(e) => pack(code(e), moved as u32),
     }
 }
 
@@ -435,23 +470,24 @@ fn next_read(read: PageRead<()>, at: usize) -> Option<usize>
     }
 }
 
-// Reads the page at a position and, where it files, adds the record that it gives to the page in the buffer. Gives the answer, and where the
-// next read is.
-fn step(
-    page: &[u8],
-    at: usize,
-    files: bool,
-    buf: &mut [u8],
-    position: &mut usize,
-) -> (u64, Option<usize>)
-    ensures answer { told_step result.0 buf.new position.new ≡ step_by files page.now (open_page buf.old position.old) (read_here page.now at) }
+// Reads the page at a position and, where it files, adds the record that it gives to the new page. Gives the answer, and where the next read
+// is.
+fn step(page: &[u8], at: usize, files: bool, out: &mut NewPage) -> (u64, Option<usize>)
+    ensures answer { told_step result.0 out.new.buf.now out.new.position ≡ step_by files page.now (open_page out.old.buf.now out.old.position) (read_here page.now at) }
+    ensures same_reference { out.new.buf.ghost_name ≡ out.old.buf.ghost_name }
     ensures next { result.1 ≡ follows (outline (read_at page.now at)) at }
 {
     let mut record = [0; RECORD_SIZE];
     let read = read_at_into(page, at, &mut record);
     let moved = read.next - at;
     let answer = if files && is_record(read.outcome) {
-        file(page, at, &record, moved, buf, position)
+        let given = ReadRecord {
+            page,
+            at,
+            bytes: &record,
+            moved,
+        };
+        given.file(out)
     } else {
         moved_past(read.outcome, moved)
     };
@@ -464,17 +500,15 @@ fn walk(page: &[u8], files: bool, buf: &mut [u8], answers: &mut [u64]) -> (usize
     requires { length page.now < length answers.old }
     ensures { Walks files page.now buf.old answers.old result.0 result.1 buf.new answers.new }
 {
-    let mut at = 0;
-    let mut position = 0;
+    let mut next = Some(0);
+    let mut out = NewPage { buf, position: 0 };
     for (count, slot) in answers.iter_mut().enumerate() {
-        let (answer, next) = step(page, at, files, buf, &mut position);
-        *slot = answer;
-        match next {
-            Some(next) => at = next,
-            None => return (count + 1, position),
-        }
+        let Some(at) = next else {
+            return (count, out.position);
+        };
+        (*slot, next) = step(page, at, files, &mut out);
     }
-    unreachable!()
+    (answers.len(), out.position)
 }
 
 // Reads the page from its start to the last read, and stores what `yewdome_page_read` gives of each. Gives how many there are.
@@ -482,7 +516,7 @@ pub fn yewdome_page_answers(page: &[u8], answers: &mut [u64]) -> u32
     ensures { (record { code = result; answers = answers.new }) ≡ page_answers page.now answers.old }
 {
     if answers.len() <= page.len() {
-        return SHORT_ANSWERS;
+        return code(CallError::ShortAnswers);
     }
     let (count, _) = walk(page, false, &mut [], answers);
     count as u32
@@ -495,7 +529,7 @@ pub fn yewdome_page_file(page: &[u8], buf: &mut [u8], answers: &mut [u64]) -> u6
     ensures { (record { code = result; bytes = buf.new; answers = answers.new }) ≡ page_file page.now buf.old answers.old }
 {
     if answers.len() <= page.len() {
-        return u64::from(SHORT_ANSWERS);
+        return u64::from(code(CallError::ShortAnswers));
     }
     let (count, position) = walk(page, true, buf, answers);
     pack(count as u32, yewdome_page_close(buf, position))

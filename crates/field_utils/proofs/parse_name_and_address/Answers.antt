@@ -25,7 +25,7 @@ use Rattle.field_utils.proofs.NameTexts.{Passed, no_parts, passed_none, passed_r
 use Rattle.field_utils.proofs.AllBytes.{all_part}
 use Rattle.field_utils.proofs.NamePlaces.{marked_none, marked_more, marked_past, marked_all}
 use Rattle.field_utils.proofs.parse_name_and_address.Goals as goal
-use Rattle.field_utils.proofs.parse_name_and_address.Goals.{in_default, in-Some+in_ok-parse_line+then-loop-b-test+then-not-is_legal, After-loop-b, After-part_of-input, At-lines, At-loop-b, Joined-next}
+use Rattle.field_utils.proofs.parse_name_and_address.Goals.{in_default, in-Some+in_ok-parse_line+then-loop-b-test+then-not-is_legal, After-loop-b, After-part_of-text, At-lines, At-loop-b, Joined-next}
 
 -- at the head of the loop over the lines
 module _ (t : At-lines) where
@@ -92,15 +92,15 @@ module _ (t : At-lines) where
     passed_before h = subst (Passed _ _ _ _ _ _ _ _ _) (fits.line ∙ ap (λ (l : List ℕ). l ∷ lines (drop after.at body)) (sym (is_there h))) t.lines.invariant.2
 
 -- where a line was found
-module _ (k : After-part_of-input) where
+module _ (k : After-part_of-text) where
   abbrev top : At-lines
-  top = (goal.at.After-part_of-input k).At-lines
+  top = (goal.at.After-part_of-text k).At-lines
 
   abbrev there : Part
   there = k.in-Some.part
 
   abbrev line : List ℕ
-  line = k.part_of-input.result.now
+  line = k.part_of-text.result.now
 
   -- its place among the names, and its body line
   abbrev turn : ℕ
@@ -119,7 +119,7 @@ module _ (k : After-part_of-input) where
   counts = omega (arith, found_there.moved, k.lines.invariant.1)
 
   so_far : Passed (body top) (numbering top) (limits top).name_max (earlier top) (skip top) (names top) (count top) (parts top) (digits top) (line ∷ lines (drop onward (body top)))
-  so_far = passed_before top k.next.ensures.steps k.in-Some.is k.part_of-input.ensures
+  so_far = passed_before top k.next.ensures.steps k.in-Some.is k.part_of-text.ensures
 
   -- what the line says before its bytes, and whole
   abbrev shape : Reply
@@ -135,19 +135,19 @@ module _ (k : After-part_of-input) where
 -- past the test of its number and its length, at its bytes: those left say the rest
 by_bytes : (l : At-loop-b) {t : Bool}
     → all legal (part l.loop-b.b-index (length l.untested-b-items.result.now) l.untested-b-items.result.now) ≡ t
-    → says (goal.at.At-loop-b l).After-part_of-input ≡ must t 3 (number (goal.at.At-loop-b l).After-part_of-input)
+    → says (goal.at.At-loop-b l).After-part_of-text ≡ must t 3 (number (goal.at.At-loop-b l).After-part_of-text)
 by_bytes l h = line_bytes _ _ _ _ _ (sym l.in_ok-parse_line.ensures) (l.loop-b.invariant ∙ h)
 
 -- a line that passed
 module _ (e : After-loop-b) where
-  abbrev at_line : After-part_of-input
-  at_line = (goal.at.After-loop-b e).After-part_of-input
+  abbrev at_line : After-part_of-text
+  at_line = (goal.at.After-loop-b e).After-part_of-text
 
   passes : says at_line ≡ accepted
   passes = by_bytes (goal.at.After-loop-b e).At-loop-b (all_done legal e.untested-b-items.result.now _ (length e.untested-b-items.result.now) e.loop-b-test.false)
 
   line_is : line at_line ≡ part_in (body (top at_line)) (there at_line)
-  line_is = is_there (top at_line) e.next.ensures.steps e.in-Some.is e.part_of-input.ensures
+  line_is = is_there (top at_line) e.next.ensures.steps e.in-Some.is e.part_of-text.ensures
 
   -- what is kept of it starts before its end
   room : skip (top at_line) ≤ (there at_line).len
@@ -178,23 +178,23 @@ lines-init c =
 
 pub returns-in_err-parse_line-clause-result_value : goal.returns-in_err-parse_line-clause-result_value
 returns-in_err-parse_line-clause-result_value c =
-    let at = (goal.at.returns-in_err-parse_line-clause-result_value c).After-part_of-input in
+    let at = (goal.at.returns-in_err-parse_line-clause-result_value c).After-part_of-text in
     let p = err_from_is_err_and c.from_residual.result c.from_residual.ensures.1 in
     rw (p.1, p.2) (refusal at (line_refused _ _ _ _ _ (sym c.in_err-parse_line.ensures)))
 
 -- where the test of all bytes passed, those of a line are legal
 pub untested-b-items-requires : goal.untested-b-items-requires
 untested-b-items-requires c = λ e.
-    let k = (goal.at.untested-b-items-requires c).After-part_of-input in
+    let k = (goal.at.untested-b-items-requires c).After-part_of-text in
     let from = c.args.lines.at in
     let all_legal = sym (by_entries 1 legal class_legal _ c.rest.result.now c.class_table.ensures) ∙ sym c.all_in-known.ensures ∙ e in
-    ap (all legal) (is_there (top k) c.next.ensures.steps c.in-Some.is c.part_of-input.ensures)
+    ap (all legal) (is_there (top k) c.next.ensures.steps c.in-Some.is c.part_of-text.ensures)
     ∙ all_part legal (body (top k)) from (there k).start (there k).len (omega (arith, c.lines.invariant.4, (found_there k).onward)) (sym (ap (all legal) c.rest.ensures) ∙ all_legal)
 
 pub overflow_add-start : goal.overflow_add-start
 overflow_add-start c =
     let at = goal.at.overflow_add-start c in
-    let f = found_there at.After-part_of-input in
+    let f = found_there at.After-part_of-text in
     omega (arith, room at.After-loop-b, f.before, f.within)
 
 pub overflow_sub-len : goal.overflow_sub-len
@@ -203,7 +203,7 @@ overflow_sub-len c = room (goal.at.overflow_sub-len c).After-loop-b
 pub lines-preserved-then-count-lt4 : goal.lines-preserved-then-count-lt4
 lines-preserved-then-count-lt4 c =
     let at = goal.at.lines-preserved-then-count-lt4 c in
-    let k = at.After-part_of-input in
+    let k = at.After-part_of-text in
     let g = c.next.ensures.steps in (
       text_stays (top k) g c.in-Some.is,
       counts k,
@@ -215,7 +215,7 @@ lines-preserved-then-count-lt4 c =
 pub lines-preserved : goal.lines-preserved
 lines-preserved c =
     let at = goal.at.lines-preserved c in
-    let k = at.After-part_of-input in
+    let k = at.After-part_of-text in
     let g = c.next.ensures.steps in (
       text_stays (top k) g c.in-Some.is,
       counts k,
@@ -237,7 +237,7 @@ module _ (m : Joined-next) where
             let l = w.untested-b-items.result.now in
             let fails = all_fails legal l w.loop-b.b-index (length l) w.loop-b-test.true (omega arith) (sym w.is_legal.ensures ∙ w.if-not-is_legal.true) in
             let says = line_bytes _ _ _ _ _ (sym w.in_ok-parse_line.ensures) (w.loop-b.invariant ∙ fails) in
-            rw (same_Some _ _ (sym e ∙ w.illegal-is)) (sym (read_refused (option last) m.limits_of-limits.ensures (suc (earlier last)) (names last) (passed_refused (passed_before last m.next.ensures.steps w.in-Some.is w.part_of-input.ensures) says)))
+            rw (same_Some _ _ (sym e ∙ w.illegal-is)) (sym (read_refused (option last) m.limits_of-limits.ensures (suc (earlier last)) (names last) (passed_refused (passed_before last m.next.ensures.steps w.in-Some.is w.part_of-text.ensures) says)))
       ]
 
   no_more : m.match-next.illegal ≡ None → m.next.result ≡ None

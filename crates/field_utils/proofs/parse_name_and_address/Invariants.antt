@@ -9,7 +9,7 @@ use Rattle.field_utils.proofs.NamePlaces.{Marked}
 use Rattle.field_utils.proofs.parse_name_and_address.Given as goal
 
 abbrev pub invariant-loop-b : goal.invariant-loop-b
-invariant-loop-b l = all legal l.input ≡ all legal (part l.b-index (length l.b-items) l.b-items)
+invariant-loop-b l = all legal l.text ≡ all legal (part l.b-index (length l.b-items) l.b-items)
 
 abbrev pub invariant-lines : goal.invariant-lines
 invariant-lines l =

@@ -5,7 +5,7 @@ use Prim.Native.Nat.{◌+◌}
 use native.Mathlib.Omega.{arith}
 use lib.Dec.{ltb, eqb}
 use lib.ListN.{get_or}
-use Rattle.page_reader.specs.declared.BodyPlace.{BodyPlace}
+use Rattle.party.specs.declared.Part.{Part}
 use Rattle.page_reader.specs.Pages.{read_at}
 use Rattle.page_reader.proofs.Bodies.{There, part_there, place_there}
 use Rattle.kept.specs.Kept.{causes_of}
@@ -24,5 +24,5 @@ slice_bounds-causes_of-end c = omega (arith, (there (goal.at.slice_bounds-causes
 pub returns : goal.returns
 returns c =
     let a = c.args in
-    let closing = c.is_cr_after-closing_cr.ensures ∙ ap (λ (p : BodyPlace). ltb 0 p.start && eqb (get_or a.page.now (p.start + p.len) 0) 13) c.body_place-place.ensures in
+    let closing = c.is_cr_after-closing_cr.ensures ∙ ap (λ (p : Part). ltb 0 p.start && eqb (get_or a.page.now (p.start + p.len) 0) 13) c.body_place-place.ensures in
     c.causes_of.ensures ∙ (λ i. causes_of a.option a.present (part_there (there (goal.at.returns c).After-body_place-place) i) false (closing i))

@@ -17,35 +17,35 @@ use Rattle.page_writer.proofs.are_carried.Goals.{After-find_lf-lf, then-opens_at
 
 module _ (f : After-find_lf-lf) where
   abbrev b : List ℕ
-  b = f.args.field.now
+  b = f.args.body.now
 
   abbrev i : ℕ
-  i = f.loop-start.i
+  i = f.loop-i.i
 
   abbrev lf : ℕ
   lf = f.find_lf-lf.result
 
   -- the pieces from the start are carried as those from there on
-  from_there : {t : Bool} → lines_carried (pieces (drop i b)) ≡ t → lines_carried (pieces (drop f.args.start b)) ≡ t
-  from_there q = f.loop-start.invariant.0 ∙ q
+  from_there : {t : Bool} → lines_carried (pieces (drop i b)) ≡ t → lines_carried (pieces b) ≡ t
+  from_there q = f.loop-i.invariant.0 ∙ q
 
   -- by the piece that an LF ends
   by_lf : {x y z : Bool} → lf < length b → ends_cr (part i lf b) ≡ x → opens (line_at (drop (lf + 1) b)) ≡ y → ends_at (drop (lf + 1) b) ≡ z
-      → lines_carried (pieces (drop f.args.start b)) ≡ (not x && not (y || z) && lines_carried (pieces (drop (lf + 1) b)))
-  by_lf h p q r = from_there (carried_lf b i lf f.find_lf-lf.ensures f.loop-start.invariant.1 h ∙ rw (p, q, r))
+      → lines_carried (pieces b) ≡ (not x && not (y || z) && lines_carried (pieces (drop (lf + 1) b)))
+  by_lf h p q r = from_there (carried_lf b i lf f.find_lf-lf.ensures f.loop-i.invariant.1 h ∙ rw (p, q, r))
 
 pub slice_bounds-ends_cr-end : goal.slice_bounds-ends_cr-end
-slice_bounds-ends_cr-end c = omega (arith, c.find_lf-lf.ensures, c.loop-start.invariant.1, upto_length 10 (drop (i c) (b c)), length-drop (i c) (b c))
+slice_bounds-ends_cr-end c = omega (arith, c.find_lf-lf.ensures, c.loop-i.invariant.1, upto_length 10 (drop (i c) (b c)), length-drop (i c) (b c))
 
 pub returns-then-ends_cr : goal.returns-then-ends_cr
 returns-then-ends_cr c =
     let f = (goal.at.returns-then-ends_cr c).After-find_lf-lf in
-    sym (from_there f (carried_cr (b f) (i f) (lf f) c.find_lf-lf.ensures c.loop-start.invariant.1 (sym c.ends_cr.ensures ∙ c.if-ends_cr.true)))
+    sym (from_there f (carried_cr (b f) (i f) (lf f) c.find_lf-lf.ensures c.loop-i.invariant.1 (sym c.ends_cr.ensures ∙ c.if-ends_cr.true)))
 
-pub returns-then-field-lf : goal.returns-then-field-lf
-returns-then-field-lf c =
-    let f = (goal.at.returns-then-field-lf c).After-find_lf-lf in
-    sym (from_there f (carried_last (b f) (i f) (lf f) c.find_lf-lf.ensures c.loop-start.invariant.1 (omega arith) ∙ rw (sym c.ends_cr.ensures ∙ c.if-ends_cr.false) (empty_is (b f) (i f))))
+pub returns-then-body-lf : goal.returns-then-body-lf
+returns-then-body-lf c =
+    let f = (goal.at.returns-then-body-lf c).After-find_lf-lf in
+    sym (from_there f (carried_last (b f) (i f) (lf f) c.find_lf-lf.ensures c.loop-i.invariant.1 (omega arith) ∙ rw (sym c.ends_cr.ensures ∙ c.if-ends_cr.false) (empty_is (b f) (i f))))
 
 pub returns-then-opens_at : goal.returns-then-opens_at
 returns-then-opens_at c =
@@ -56,9 +56,9 @@ returns-then-opens_at c =
       | then-opens_at-via-else-opens_at+then-ends_at w ↦ sym (by_lf f (omega arith) cr (sym c.opens_at.ensures ∙ w.if-opens_at.false) (sym w.ends_at.ensures ∙ w.if-ends_at.true))
     ]
 
-pub loop-start-preserved : goal.loop-start-preserved
-loop-start-preserved c =
-    let f = (goal.at.loop-start-preserved c).After-find_lf-lf in (
+pub loop-i-preserved : goal.loop-i-preserved
+loop-i-preserved c =
+    let f = (goal.at.loop-i-preserved c).After-find_lf-lf in (
       by_lf f (omega arith) (sym c.ends_cr.ensures ∙ c.if-ends_cr.false) (sym c.opens_at.ensures ∙ c.if-opens_at.false) (sym c.ends_at.ensures ∙ c.if-ends_at.false),
       omega arith,
     )

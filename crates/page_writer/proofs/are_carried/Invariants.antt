@@ -6,8 +6,8 @@ use Rattle.writer.specs.Writing.{pieces}
 use Rattle.page_writer.specs.Adding.{lines_carried}
 use Rattle.page_writer.proofs.are_carried.Given as goal
 
-abbrev pub invariant-loop-start : goal.invariant-loop-start
-invariant-loop-start l = (lines_carried (pieces (drop l.start l.field)) ≡ lines_carried (pieces (drop l.i l.field))) × (l.i ≤ length l.field)
+abbrev pub invariant-loop-i : goal.invariant-loop-i
+invariant-loop-i l = (lines_carried (pieces l.body) ≡ lines_carried (pieces (drop l.i l.body))) × (l.i ≤ length l.body)
 
-abbrev pub decreases-loop-start : goal.decreases-loop-start
-decreases-loop-start l = length l.field - l.i
+abbrev pub decreases-loop-i : goal.decreases-loop-i
+decreases-loop-i l = length l.body - l.i

@@ -1,70 +1,94 @@
 -- Each test decides a part of what the records say.
-use Rattle.std.proofs.Common.{◌∙◌, sym, ap}
-use borrow.Author.Tests.{not-true, not-false}
+use Rattle.std.proofs.Common.{◌≡◌, ◌∙◌, sym, ap}
+use Rattle.std.proofs.lemmas.Bool.Decides.{Decides-eqb}
+use denote.Enum.Bare.{same_true, same_false}
+use Rattle.party.specs.contracts.PartyOption.{the_type}
+use Rattle.party.specs.declared.Party.{Party}
 use Rattle.party.specs.Decides.{Decides}
 use Rattle.party.specs.Limits.{limits_of}
-use Rattle.party.specs.Party.{where_limit}
-use Rattle.party.proofs.Laws.{holds, fails, decides_as, equal_true, equal_false, where_none, where_same}
-use denote.Enum.Bare.{differs_true, differs_false}
-use Rattle.party.specs.contracts.PartyOption.{the_type}
+use Rattle.party.specs.Party.{where_limit, Same}
+use Rattle.party.proofs.Laws.{decides_as, decides_so, both_then, both_else, equal_decides, where_none, where_same}
 use Rattle.party.proofs.Content.{SameHead, SameAccount, SameBic, SameNames, SameDigits, head, account, bic, names, digits, same}
 use Rattle.party.proofs.same.Goals as goal
-use Rattle.party.proofs.same.Goals.{After-limits_of-limits, After-same_where, After-same_where-2, After-same_numbers}
+use Rattle.party.proofs.same.Goals.{Joined-same_where-2, then-eq, else-eq, then-p-q, else-p-q, then-p-q-2, else-p-q-2, then-same_where, else-same_where, then-same_where-2, else-same_where-2}
 
--- past the tests of option, presence and count
-headed : (c : After-limits_of-limits) → SameHead c.args.p c.args.q
-headed c = record {
-  option = differs_false the_type tt _ _ (sym c.ne.ensures ∙ c.if-ne.false);
-  present = equal_true _ _ (not-false _ c.if-p-q.false);
-  count = c.if-p-q-2.false;
-}
+-- what the tests before that of the names decide, in their order
+abbrev Kind : Party → Party → Type 0
+Kind p q = (p.option ≡ q.option) × (p.present ≡ q.present)
 
--- the tests of account, BIC and digits
-accounted : (c : After-same_where) → Decides c.same_where.result (SameAccount c.args.p c.args.q)
-accounted c = rw c.limits_of-limits.ensures at c.same_where.ensures
+abbrev Counted : Party → Party → Type 0
+Counted p q = Kind p q × (p.count ≡ q.count)
 
-with_bic : (c : After-same_where-2) → Decides c.same_where-2.result (SameBic c.args.p c.args.q)
-with_bic c = rw c.limits_of-limits.ensures at c.same_where-2.ensures
+abbrev ButNames : Party → Party → Type 0
+ButNames p q = ((Counted p q × SameAccount p q) × SameBic p q) × SameDigits p q
 
-with_digits : (c : After-same_numbers) → Decides c.same_numbers.result (SameDigits c.args.p c.args.q)
-with_digits c = rw c.limits_of-limits.ensures at c.same_numbers.ensures
+headed : (p q : Party) → ButNames p q → SameHead p q
+headed p q h = record { option = h.0.0.0.0.0; present = h.0.0.0.0.1; count = h.0.0.0.1 }
 
-pub returns-then-ne : goal.returns-then-ne
-returns-then-ne c = fails (λ e. differs_true the_type _ _ (sym c.ne.ensures ∙ c.if-ne.true) (head e).option)
+but_names : (p q : Party) → Same p q → ButNames p q
+but_names p q e =
+    let h = head e in
+    (((((h.option, h.present), h.count), account h e), bic h e), digits h e)
 
-pub returns-then-p-q : goal.returns-then-p-q
-returns-then-p-q c = fails (λ e. equal_false _ _ (not-true _ c.if-p-q.true) (head e).present)
+with_names : (p q : Party) → ButNames p q → SameNames p q → Same p q
+with_names p q h n = same (headed p q h) h.0.0.1 h.0.1 n h.1
 
-pub returns-then-p-q-2 : goal.returns-then-p-q-2
-returns-then-p-q-2 c = fails (λ e. c.if-p-q-2.true (head e).count)
+module _ (c : Joined-same_where-2) where
+  abbrev p : Party
+  p = c.args.p
 
-pub returns-then-not-same_where : goal.returns-then-not-same_where
-returns-then-not-same_where c =
-    let at = goal.at.returns-then-not-same_where c in
-    fails (λ e. (accounted at.After-same_where).no c.if-not-same_where.true (account (headed at.After-limits_of-limits) e))
+  abbrev q : Party
+  q = c.args.q
 
-pub returns-then-not-same_where-2 : goal.returns-then-not-same_where-2
-returns-then-not-same_where-2 c =
-    let at = goal.at.returns-then-not-same_where-2 c in
-    fails (λ e. (with_bic at.After-same_where-2).no c.if-not-same_where-2.true (bic (headed at.After-limits_of-limits) e))
+  kind : Decides c.if-eq.value (Kind p q)
+  kind =
+      let option : Decides c.eq.result (p.option ≡ q.option) = record {
+        yes = λ e. same_true the_type tt _ _ (sym c.eq.ensures ∙ e);
+        no = λ e. same_false the_type _ _ (sym c.eq.ensures ∙ e);
+      } in
+      elim c.if-eq.branch [
+        | then-eq w ↦ both_then option w.if-eq.true w.value-is (equal_decides _ _)
+        | else-eq w ↦ both_else option w.if-eq.false w.value-is
+      ]
 
-pub returns-then-not-same_numbers : goal.returns-then-not-same_numbers
-returns-then-not-same_numbers c =
-    let at = goal.at.returns-then-not-same_numbers c in
-    fails (λ e. (with_digits at.After-same_numbers).no c.if-not-same_numbers.true (digits (headed at.After-limits_of-limits) e))
+  counted : Decides c.if-p-q.value (Counted p q)
+  counted = elim c.if-p-q.branch [
+    | then-p-q w ↦ both_then kind w.if-p-q.true w.value-is (decides_so (Decides-eqb _ _))
+    | else-p-q w ↦ both_else kind w.if-p-q.false w.value-is
+  ]
+
+  accounted : Decides c.if-p-q-2.value (Counted p q × SameAccount p q)
+  accounted = elim c.if-p-q-2.branch [
+    | then-p-q-2 w ↦ both_then counted w.if-p-q-2.true w.value-is (rw c.limits_of-limits.ensures at w.same_where.ensures)
+    | else-p-q-2 w ↦ both_else counted w.if-p-q-2.false w.value-is
+  ]
+
+  with_bic : Decides c.if-same_where.value ((Counted p q × SameAccount p q) × SameBic p q)
+  with_bic = elim c.if-same_where.branch [
+    | then-same_where w ↦ both_then accounted w.if-same_where.true w.value-is (rw c.limits_of-limits.ensures at w.same_where-then-same_where.ensures)
+    | else-same_where w ↦ both_else accounted w.if-same_where.false w.value-is
+  ]
+
+  with_digits : Decides c.if-same_where-2.value (ButNames p q)
+  with_digits = elim c.if-same_where-2.branch [
+    | then-same_where-2 w ↦ both_then with_bic w.if-same_where-2.true w.value-is (rw c.limits_of-limits.ensures at w.same_numbers.ensures)
+    | else-same_where-2 w ↦ both_else with_bic w.if-same_where-2.false w.value-is
+  ]
 
 pub returns-then-limits-eq0 : goal.returns-then-limits-eq0
 returns-then-limits-eq0 c =
-    let at = goal.at.returns-then-limits-eq0 c in
-    holds
-    (same (headed at.After-limits_of-limits) ((accounted at.After-same_where).yes c.if-not-same_where.false)
-    ((with_bic at.After-same_where-2).yes c.if-not-same_where-2.false) (where_none _ _ _ (rw c.limits_of-limits.ensures at c.if-limits-eq0.true)) ((with_digits at.After-same_numbers).yes c.if-not-same_numbers.false))
+    let at = (goal.at.returns-then-limits-eq0 c).Joined-same_where-2 in
+    let rest = (with_digits at).yes c.if-same_numbers.true in
+    decides_as (λ e. with_names _ _ rest (where_none _ _ _ (rw c.limits_of-limits.ensures at c.if-limits-eq0.true))) (λ e. c.if-limits-eq0.true) (decides_so (Decides-eqb _ _))
 
-pub returns : goal.returns
-returns c =
-    let at = goal.at.returns c in
-    let by_names = λ (n : SameNames c.args.p c.args.q).
-    same (headed at.After-limits_of-limits) ((accounted at.After-same_where).yes c.if-not-same_where.false)
-    ((with_bic at.After-same_where-2).yes c.if-not-same_where-2.false) n ((with_digits at.After-same_numbers).yes c.if-not-same_numbers.false) in
-    decides_as (λ n. by_names (ap (where_limit (limits_of c.args.p.option).max_names) n))
-    (λ e. where_same _ _ _ (rw c.limits_of-limits.ensures at c.if-limits-eq0.false) (names (headed at.After-limits_of-limits) e)) c.same_names.ensures
+pub returns-else-limits-eq0 : goal.returns-else-limits-eq0
+returns-else-limits-eq0 c =
+    let at = (goal.at.returns-else-limits-eq0 c).Joined-same_where-2 in
+    let rest = (with_digits at).yes c.if-same_numbers.true in
+    decides_as (λ n. with_names _ _ rest (ap (where_limit (limits_of c.args.p.option).max_names) n))
+    (λ e. where_same _ _ _ (rw c.limits_of-limits.ensures at c.if-limits-eq0.false) (names (headed _ _ rest) e)) c.same_names.ensures
+
+pub returns-else-same_numbers : goal.returns-else-same_numbers
+returns-else-same_numbers c =
+    let d = with_digits (goal.at.returns-else-same_numbers c).Joined-same_where-2 in
+    decides_as (λ h. absurd (d.no c.if-same_numbers.false h)) (but_names _ _) d

@@ -1,58 +1,46 @@
--- What the tests of the texts say of the records' names.
-use Rattle.std.proofs.Common.{◌≡◌, ◌∙◌, ℕ, List, [], map, take, length, get_or, sym, arith}
-use lib.ListN.{length-map, get_or-map}
+-- The test of each two names says whether all that count hold the same.
+use Rattle.std.proofs.Common.{◌≡◌, ◌<◌, ℕ, List, [], ◌∷◌, map, take, length, Bool, true, false, refl, rules, arith}
+use Prim.Native.Nat.{zero, suc}
+use mathlib.Core.List.{head-eq_of_cons-eq, tail-eq_of_cons-eq}
+use Rattle.std.specs.Bool.{MatchBool}
+use Rattle.std.specs.List.{zip, AllWithin, HoldsAt}
+use Rattle.std.proofs.lemmas.Iterator.{YieldsList-from_slice, YieldsList-from_zip, YieldsList-from_take, cases_from_all}
 use Rattle.party.specs.declared.Text.{Text}
-use Rattle.party.specs.declared.Party.{Party}
-use Rattle.party.specs.Text.{Used, used}
-use Rattle.party.specs.Party.{names_of, IsParty}
-use Rattle.party.proofs.Laws.{holds, map_take, agree_more, agree_not, agree_all, fails}
+use Rattle.party.specs.Decides.{Decides}
+use Rattle.party.specs.Text.{used}
+use Rattle.party.proofs.Laws.{holds, fails}
 use Rattle.party.proofs.same_names.Goals as goal
 
--- what each of the four texts uses
-abbrev texts : Party → List Used
-texts p = map used p.name_and_address
+abbrev Alike : Text × Text → Type 0
+Alike x = used x.0 ≡ used x.1
 
-named : (count : ℕ) (p : Party) → names_of count p ≡ take count (texts p)
-named count p = map_take used count p.name_and_address
+abbrev Unlike : Text × Text → Type 0
+Unlike x = Alike x → ⊥
 
--- the text that stands for one past the end
-abbrev none : Text
-none = record { bytes = []; len = 0 }
+alike : (n : ℕ) (l m : List Text) → length l ≡ length m → AllWithin Alike (take n (zip l m)) 0 (length (take n (zip l m))) → map used (take n l) ≡ map used (take n m)
+alike zero l m e h = refl
+alike (suc n) [] [] e h = refl
+alike (suc n) [] (u ∷ m) e h = absurd (omega (arith, e))
+alike (suc n) (t ∷ l) [] e h = absurd (omega (arith, e))
+alike (suc n) (t ∷ l) (u ∷ m) e h = rw (h 0 (t, u) (omega arith) (omega arith), alike n l m (omega (arith, e)) (λ k d low high. h (suc k) d (omega arith) (omega (arith, high))))
 
-text_at : (p : Party) (i : ℕ) → get_or (texts p) i (used none) ≡ used (get_or p.name_and_address i none)
-text_at p i = get_or-map used p.name_and_address i none
+unlike : (n : ℕ) (l m : List Text) (k : ℕ) → k < length (take n (zip l m)) → HoldsAt Unlike (take n (zip l m)) k → map used (take n l) ≡ map used (take n m) → ⊥
+unlike zero l m k h differ e = absurd (omega (arith, h))
+unlike (suc n) [] m k h differ e = absurd (omega (arith, h))
+unlike (suc n) (t ∷ l) [] k h differ e = absurd (omega (arith, h))
+unlike (suc n) (t ∷ l) (u ∷ m) zero h differ e = differ (t, u) (head-eq_of_cons-eq e)
+unlike (suc n) (t ∷ l) (u ∷ m) (suc k) h differ e = unlike n l m k (omega (arith, h)) differ (tail-eq_of_cons-eq e)
 
-texts_size : (p : Party) → IsParty p → length (texts p) ≡ 4
-texts_size p h = length-map p.name_and_address used ∙ h.size
-
-pub returns-then-not-same_text : goal.returns-then-not-same_text
-returns-then-not-same_text c =
-    let p = c.args.p.now in
-    let q = c.args.q.now in
-    let n = c.args.count in
-    let i = c.loop-i.i in
-    let differ = c.same_text.ensures.no c.if-not-same_text.true in
-    fails
-    (λ e. agree_not (texts p) (texts q) n i (used none) (omega arith)
-    (λ f. differ (sym (text_at p i) ∙ (f ∙ text_at q i))) (sym (named n p) ∙ (e ∙ named n q)))
-
-pub loop-i-preserved : goal.loop-i-preserved
-loop-i-preserved c =
-    let p = c.args.p.now in
-    let q = c.args.q.now in
-    let i = c.loop-i.i in
-    let same = c.same_text.ensures.yes c.if-not-same_text.false in
-    let h : length p.name_and_address ≡ 4 = omega arith in
-    let k : length q.name_and_address ≡ 4 = omega arith in
-    agree_more (texts p) (texts q) i (used none) (omega (arith, length-map p.name_and_address used)) (omega (arith, length-map q.name_and_address used)) c.loop-i.invariant
-    (text_at p i ∙ (same ∙ sym (text_at q i)))
+decided : (r : Bool) (n : ℕ) (l m : List Text) → length l ≡ length m
+    → MatchBool r (AllWithin Alike (take n (zip l m)) 0 (length (take n (zip l m)))) ((k : ℕ) × (k < length (take n (zip l m))) × HoldsAt Unlike (take n (zip l m)) k)
+    → Decides r (map used (take n l) ≡ map used (take n m))
+decided true n l m e h = holds (alike n l m e h)
+decided false n l m e h = fails (unlike n l m h.0 h.1 h.2)
 
 pub returns : goal.returns
 returns c =
-    let p = c.args.p.now in
-    let q = c.args.q.now in
-    let n = c.args.count in
-    let h : length p.name_and_address ≡ 4 = omega arith in
-    let k : length q.name_and_address ≡ 4 = omega arith in
-    let sizes : length (texts p) ≡ length (texts q) = length-map p.name_and_address used ∙ (h ∙ sym (length-map q.name_and_address used ∙ k)) in
-    holds (named n p ∙ (agree_all (texts p) (texts q) n c.loop-i.i sizes (omega (arith, length-map p.name_and_address used)) c.loop-i.invariant ∙ sym (named n q)))
+    let p = c.args.p.now.name_and_address in
+    let q = c.args.q.now.name_and_address in
+    let same : length p ≡ length q = omega arith in
+    decided c.all.result c.args.count p q same
+    (cases_from_all c.all.new.self _ _ Alike Unlike c.all.ensures.ran (YieldsList-from_take c.args.count (YieldsList-from_zip (YieldsList-from_slice p cc) (YieldsList-from_slice q cc)) cc) (λ x f k. search rules) (λ x f k. search rules))

@@ -13,7 +13,7 @@ use Rattle.field_utils.proofs.Places.{found, ended}
 use Rattle.reader.specs.Reading as reading
 use Rattle.reader.specs.Reading.{party_of}
 use Rattle.reader.specs.Options.{with_bic}
-use Rattle.reader.specs.Code.{head_at}
+use Rattle.reader.specs.Code.{lines_before, head_at}
 use Rattle.reader.proofs.Readings.{refusing, accepting}
 use Rattle.reader.proofs.Into.{exits}
 use Rattle.reader.proofs.read_bic.Goals as goal
@@ -28,22 +28,22 @@ module _ (c : After-parse_bic) where
   left = lines (drop c.args.later.lines.at text)
 
   abbrev there : List (List ℕ) → reading.Found
-  there ls = with_bic (suc c.args.later.start_idx) (head_at text c.args.later.account) ls
+  there ls = with_bic (suc (lines_before c.args.later.account)) (head_at text c.args.later.account) ls
 
   line : left ≡ part_in text c.in-Some.bic ∷ lines (drop c.next.new.self.at text)
   line = (found c.next.ensures.steps c.in-Some.is).line
 
-  said : {r : Reply} → r ≡ parse_bic (c.args.later.start_idx + 1) c.part_of.result.now → (there left).reply ≡ r
+  said : {r : Reply} → r ≡ parse_bic (c.from.result + 1) c.part_of.result.now → (there left).reply ≡ r
   said e =
       ap (λ (ls : List (List ℕ)). (there ls).reply) line
-      ∙ (λ i. parse_bic (sym (add-one c.args.later.start_idx) i) (sym c.part_of.ensures i))
+      ∙ (λ i. parse_bic (sym (ap (λ (k : ℕ). k + 1) (c.from.ensures ∙ c.start_idx.ensures) ∙ add-one (lines_before c.args.later.account)) i) (sym c.part_of.ensures i))
       ∙ sym e
 
 pub returns-in_default : goal.returns-in_default
 returns-in_default c =
     let a = c.args in
     refusing a.option _ a.later.lines.text.now BicMissing
-    (ap (λ (ls : List (List ℕ)). (with_bic (suc a.later.start_idx) (head_at a.later.lines.text.now a.later.account) ls).reply)
+    (ap (λ (ls : List (List ℕ)). (with_bic (suc (lines_before a.later.account)) (head_at a.later.lines.text.now a.later.account) ls).reply)
     (ended c.next.ensures.steps c.in_default.is).0)
 
 pub returns-in_err-parse_bic : goal.returns-in_err-parse_bic

@@ -14,7 +14,7 @@ use Rattle.field_utils.specs.Lines.{lines}
 use Rattle.reader.specs.declared.RestAt.{RestAt}
 use Rattle.reader.specs.Reading as reading
 use Rattle.reader.specs.Options.{Head, is_counted, head_by, after_head, by_lines}
-use Rattle.reader.specs.Code.{IsHead, told_parts, passed_head, head_at, reading_of}
+use Rattle.reader.specs.Code.{IsHead, told_parts, passed_head, lines_before, head_at, reading_of}
 use Rattle.reader.proofs.Readings.{refusing}
 use Rattle.reader.proofs.Bodies.{lines_count, head_refused, head_there, head_none}
 use Rattle.reader.proofs.Into.{exits}
@@ -60,7 +60,7 @@ module _ (c : Joined-branch-2) where
   head = head_by (limits_of (option at)).first (option at) (line at)
 
   abbrev rest : RestAt → reading.Found
-  rest b = after_head (option at) (suc b.start_idx) (head_at b.lines.text.now b.account) (lines (drop b.lines.at b.lines.text.now))
+  rest b = after_head (option at) (suc (lines_before b.account)) (head_at b.lines.text.now b.account) (lines (drop b.lines.at b.lines.text.now))
 
   made : {o : Option ℕ} → c.in_ok-skip.field-0 ≡ o → IsHead (line at) (Ok o) head
   made e = subst (λ (o : Option ℕ). IsHead (line at) (Ok o) head) e (subst (λ (l : List ℕ). IsHead l (Ok c.in_ok-skip.field-0) (head_by (limits_of (option at)).first (option at) l)) c.part_of.ensures c.in_ok-skip.ensures)

@@ -13,7 +13,7 @@ empty : (t : Text) → t.len ≡ 0 → [] ≡ (used t).bytes
 empty t e = rw e
 
 pub returns-in-Some : goal.returns-in-Some
-returns-in-Some c = chunk_used c.in-Some.ensures.cases c.args.n c.if-n-lt6.true c.min-len.ensures
+returns-in-Some c = chunk_used c.in-Some.ensures.cases c.args.n c.if-n-lt6.true c.slot-slot.ensures c.min-len.ensures
 
 pub returns-in_default : goal.returns-in_default
 returns-in_default c =

@@ -14,30 +14,34 @@ overflow_sub-moved c =
     let a = c.args in
     (onward (read a.page.now a.at c.read_at_into-read.ensures.result_value c.read_at_into-read.ensures.bytes)).0
 
-pub file-answer-requires : goal.file-answer-requires
-file-answer-requires c =
+pub invariant_of-given : goal.invariant_of-given
+invariant_of-given c =
     let a = c.args in
-    is_read (read a.page.now a.at c.read_at_into-read.ensures.result_value c.read_at_into-read.ensures.bytes) (sym c.is_record.ensures ∙ c.if-is_record.true)
+    let w = is_read (read a.page.now a.at c.read_at_into-read.ensures.result_value c.read_at_into-read.ensures.bytes) (sym c.is_record.ensures ∙ c.if-is_record.true) in
+    record { read = w.0; moves = w.1 }
 
 pub moved_past-answer-requires : goal.moved_past-answer-requires
 moved_past-answer-requires c =
     let a = c.args in
     is_move (read a.page.now a.at c.read_at_into-read.ensures.result_value c.read_at_into-read.ensures.bytes)
 
-pub returns : goal.returns
-returns c =
+pub returns-clause-answer : goal.returns-clause-answer
+returns-clause-answer c =
     let a = c.args in
     let g = (read a.page.now a.at c.read_at_into-read.ensures.result_value c.read_at_into-read.ensures.bytes) in
-    record {
-      answer = elim c.if-files.branch [
-        | then-files+then-is_record w ↦ (λ i. told_step (w.answer-is i) (w.buf-is i) (w.position-is i)) ∙ w.file-answer.ensures
-            ∙ ap (λ (b : Bool). step_by b a.page.now (open_page a.buf.now a.position.now) (read_here a.page.now a.at)) (sym w.if-files.true)
-        | else-files w ↦ (λ i. told_step (w.answer-is i) (w.buf-is i) (w.position-is i))
-            ∙ none_filed g a.files a.buf.now a.position.now
-            (elim w.else-files.branch [
-              | else-files-via-then-files+else-is_record v ↦ rw v.if-files.true (sym v.is_record.ensures ∙ v.if-is_record.false)
-              | else-files-via-else-files v ↦ rw v.if-files.false
-            ]) w.moved_past-answer.ensures
-      ];
-      next = c.next_read.ensures ∙ ap (λ (y : Outline). follows y a.at) g.gave;
-    }
+    elim c.if-files.branch [
+      | then-files+then-is_record w ↦ (λ i. told_step (w.answer-is i) (w.out-is i).buf.now (w.out-is i).position) ∙ w.file-answer.ensures.answer
+          ∙ ap (λ (b : Bool). step_by b a.page.now (open_page a.out.now.buf.now a.out.now.position) (read_here a.page.now a.at)) (sym w.if-files.true)
+      | else-files w ↦ (λ i. told_step (w.answer-is i) (w.out-is i).buf.now (w.out-is i).position)
+          ∙ none_filed g a.files a.out.now.buf.now a.out.now.position
+          (elim w.else-files.branch [
+            | else-files-via-then-files+else-is_record v ↦ rw v.if-files.true (sym v.is_record.ensures ∙ v.if-is_record.false)
+            | else-files-via-else-files v ↦ rw v.if-files.false
+          ]) w.moved_past-answer.ensures
+    ]
+
+pub returns-clause-next : goal.returns-clause-next
+returns-clause-next c =
+    let a = c.args in
+    let g = (read a.page.now a.at c.read_at_into-read.ensures.result_value c.read_at_into-read.ensures.bytes) in
+    c.next_read.ensures ∙ ap (λ (y : Outline). follows y a.at) g.gave

@@ -1,26 +1,29 @@
 -- `yewdome::walk` meets its contract: each turn but the last moves past at least one byte, and what is left ends as the whole run does.
 -- Assumes nothing.
+use Rattle.std.proofs.Common.{◌≡◌, length, ◌∙◌, rules}
+use lib.Seq.{set-get_or}
 use native.Mathlib.Omega.{arith}
-use Rattle.page_reader.specs.Pages.{read_at}
 use Rattle.yewdome.specs.Filing.{open_page}
-use Rattle.yewdome.proofs.Walks.{none_last, some_next, there, Turn, finishes, continues}
+use Rattle.yewdome.proofs.Walks.{goes_on, walked, none_left}
 use Rattle.yewdome.proofs.walk.Goals as goal
-use Rattle.yewdome.proofs.walk.Goals.{After-step-answer}
-
--- a turn, by its step
-turn : (f : After-step-answer) → let l = f.loop-count in
-    Turn f.args.files f.args.page.now f.args.buf.now f.args.answers.now (open_page l.buf l.position) l.answers l.at l.count f.step-answer.result.0 f.step-answer.new.position f.step-answer.new.buf
-turn f = record { room = f.requires; inv = f.loop-count.invariant; step = f.step-answer.ensures.answer }
 
 pub loop-count-preserved : goal.loop-count-preserved
 loop-count-preserved c =
-    let n = some_next (read_at c.args.page.now c.loop-count.at) c.loop-count.at c.step-answer.ensures.next c.in-Some.is in
-    continues (turn (goal.at.loop-count-preserved c).After-step-answer) n.0 n.1
+    let partly = rw c.in-Some.is at c.loop-count.invariant.going in
+    record {
+      going = goes_on (record { room = c.requires; inv = partly; step = c.step.ensures.answer }) c.step.result.1 c.step.ensures.next;
+      same_reference = c.step.ensures.same_reference ∙ c.loop-count.invariant.same_reference;
+    }
 
-pub returns-in-None : goal.returns-in-None
-returns-in-None c =
-    finishes (turn (goal.at.returns-in-None c).After-step-answer) (none_last (read_at c.args.page.now c.loop-count.at) c.loop-count.at c.step-answer.ensures.next c.in-None.is)
+pub returns-in_default : goal.returns-in_default
+returns-in_default c =
+    let l = c.loop-count in
+    rw (set-get_or l.answers l.count 0) (walked l.invariant.going c.in_default.is (search rules))
 
-pub unreachable-requires : goal.unreachable-requires
-unreachable-requires c =
-    let a = c.args in omega (arith, there a.files a.page.now a.buf.now a.answers.now c.requires c.loop-count.invariant)
+pub returns : goal.returns
+returns c =
+    let a = c.args in
+    let l = c.loop-count in
+    let last = none_left a.files a.page.now a.buf.now a.answers.now c.requires (open_page l.out.buf.now l.out.position) l.answers l.next l.invariant.going (omega arith) in
+    let all : length l.answers ≡ l.count = omega arith in
+    rw all (walked l.invariant.going last (search rules))

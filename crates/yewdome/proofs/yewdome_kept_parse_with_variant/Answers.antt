@@ -23,4 +23,4 @@ returns-in-Some c =
 pub returns-in-None : goal.returns-in-None
 returns-in-None c =
     let a = c.args in
-    kept_none_such (leb a.choice 6) (choice_at a.choice) (λ (x : Choice). kept_parse_with_variant x a.body.now a.letter) c.known_choice.ensures c.in-None.is
+    c.code.ensures ∙ kept_none_such (leb a.choice 6) (choice_at a.choice) (λ (x : Choice). kept_parse_with_variant x a.body.now a.letter) c.known_choice.ensures c.in-None.is

@@ -24,4 +24,4 @@ returns-in-Some c =
 pub returns-in-None : goal.returns-in-None
 returns-in-None c =
     let a = c.args in
-    kept_none_such (leb a.option 10) (option_at a.option) (λ (o : PartyOption). kept_read o a.body.now) c.known_option.ensures c.in-None.is
+    c.code.ensures ∙ kept_none_such (leb a.option 10) (option_at a.option) (λ (o : PartyOption). kept_read o a.body.now) c.known_option.ensures c.in-None.is

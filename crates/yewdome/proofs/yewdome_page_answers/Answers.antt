@@ -5,7 +5,8 @@ use Rattle.yewdome.proofs.yewdome_page_answers.Goals as goal
 
 pub returns-then-answers-page : goal.returns-then-answers-page
 returns-then-answers-page c =
-    let a = c.args in answers_short a.page.now a.answers.now (omega arith)
+    let a = c.args in
+    rw c.code.ensures (answers_short a.page.now a.answers.now (omega arith))
 
 pub overflow_cast-result : goal.overflow_cast-result
 overflow_cast-result c =

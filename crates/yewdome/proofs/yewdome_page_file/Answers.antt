@@ -6,7 +6,7 @@ use Rattle.yewdome.proofs.yewdome_page_file.Goals as goal
 pub returns-then-answers-page : goal.returns-then-answers-page
 returns-then-answers-page c =
     let a = c.args in
-    rw c.from.ensures (file_short a.page.now a.answers.now (omega arith) a.buf.now)
+    rw c.from.ensures (rw c.code.ensures (file_short a.page.now a.answers.now (omega arith) a.buf.now))
 
 pub overflow_cast-count : goal.overflow_cast-count
 overflow_cast-count c =

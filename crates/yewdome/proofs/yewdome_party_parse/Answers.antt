@@ -3,20 +3,25 @@ use lib.Dec.{leb}
 use Rattle.reader.specs.declared.choices.Choice.{Choice}
 use Rattle.reader.specs.Choices.{parse}
 use Rattle.yewdome.specs.Interface.{choice_at}
-use Rattle.yewdome.proofs.Answers.{not_read, read_small, was_read, parse_line_lem}
+use Rattle.yewdome.proofs.Answers.{not_read, not_read_named, read_small, was_read, parse_line_lem}
 use Rattle.yewdome.proofs.yewdome_party_parse.Goals as goal
 
 pub answered-requires : goal.answered-requires
 answered-requires c =
     let a = c.args in
-    read_small (leb a.choice 6) (choice_at a.choice) (λ (x : Choice). parse x a.body.now) a.«record».now c.known_choice.ensures c.check.ensures c.in-Ok.is c.parse_into.result c.parse_into.new.«record» c.parse_into.ensures c.and.ensures (parse_line_lem c.in-Ok.choice a.body.now)
+    read_small (leb a.choice 6) (choice_at a.choice) (λ (x : Choice). parse x a.body.now) a.«record».now c.known_choice.ensures c.check.result c.check.ensures c.in-Ok.is c.parse_into.result c.parse_into.new.«record» c.parse_into.ensures c.and.ensures (parse_line_lem c.in-Ok.choice a.body.now)
 
 pub returns-in-Ok : goal.returns-in-Ok
 returns-in-Ok c =
     let a = c.args in
-    was_read (leb a.choice 6) (choice_at a.choice) (λ (x : Choice). parse x a.body.now) a.«record».now c.known_choice.ensures c.check.ensures c.in-Ok.is c.parse_into.result c.parse_into.new.«record» c.parse_into.ensures c.and.ensures c.answered.ensures
+    was_read (leb a.choice 6) (choice_at a.choice) (λ (x : Choice). parse x a.body.now) a.«record».now c.known_choice.ensures c.check.result c.check.ensures c.in-Ok.is c.parse_into.result c.parse_into.new.«record» c.parse_into.ensures c.and.ensures c.answered.ensures
 
 pub returns-in-Err : goal.returns-in-Err
 returns-in-Err c =
     let a = c.args in
-    not_read (leb a.choice 6) (choice_at a.choice) (λ (x : Choice). parse x a.body.now) a.«record».now c.known_choice.ensures c.check.ensures c.in-Err.is
+    not_read (leb a.choice 6) (choice_at a.choice) (λ (x : Choice). parse x a.body.now) a.«record».now c.known_choice.ensures c.check.result c.check.ensures c.in-Err.is c.code.ensures
+
+pub code-requires : goal.code-requires
+code-requires c =
+    let a = c.args in
+    not_read_named (leb a.choice 6) (choice_at a.choice) (λ (x : Choice). parse x a.body.now) a.«record».now c.known_choice.ensures c.check.result c.check.ensures c.in-Err.is

@@ -6,7 +6,7 @@ use Rattle.party.specs.Limits.{option_at}
 use Rattle.reader.specs.Reading.{Reading, told_answer}
 use Rattle.profile.specs.Profile.{read_profiled}
 use Rattle.yewdome.specs.Code.{Named}
-use Rattle.yewdome.proofs.Answers.{not_read, was_stored, profile_read_line}
+use Rattle.yewdome.proofs.Answers.{not_read, not_read_named, was_stored, profile_read_line}
 use Rattle.yewdome.proofs.yewdome_profile_read.Goals as goal
 
 pub store_answer-requires : goal.store_answer-requires
@@ -17,9 +17,14 @@ store_answer-requires c =
 pub returns-in-Ok : goal.returns-in-Ok
 returns-in-Ok c =
     let a = c.args in
-    was_stored (leb a.option 10) (option_at a.option) (λ (o : PartyOption). read_profiled o a.body.now) a.«record».now c.known_option.ensures c.check.ensures c.in-Ok.is (told_answer c.read.result) c.read.ensures c.store_answer.ensures
+    was_stored (leb a.option 10) (option_at a.option) (λ (o : PartyOption). read_profiled o a.body.now) a.«record».now c.known_option.ensures c.check.result c.check.ensures c.in-Ok.is (told_answer c.read.result) c.read.ensures c.store_answer.ensures
 
 pub returns-in-Err : goal.returns-in-Err
 returns-in-Err c =
     let a = c.args in
-    not_read (leb a.option 10) (option_at a.option) (λ (o : PartyOption). read_profiled o a.body.now) a.«record».now c.known_option.ensures c.check.ensures c.in-Err.is
+    not_read (leb a.option 10) (option_at a.option) (λ (o : PartyOption). read_profiled o a.body.now) a.«record».now c.known_option.ensures c.check.result c.check.ensures c.in-Err.is c.code.ensures
+
+pub code-requires : goal.code-requires
+code-requires c =
+    let a = c.args in
+    not_read_named (leb a.option 10) (option_at a.option) (λ (o : PartyOption). read_profiled o a.body.now) a.«record».now c.known_option.ensures c.check.result c.check.ensures c.in-Err.is

@@ -5,4 +5,4 @@ use Rattle.page_reader.proofs.index.field_here.Goals as goal
 
 pub field_in-requires : goal.field_in-requires
 field_in-requires c =
-    let s = ends_by c.args.page.now c.args.position (sym c.read_case.ensures ∙ c.in-Opening.is) in (s.from, s.most)
+    let s = ends_by c.args.page.now c.args.entry.position (sym c.read_case.ensures ∙ c.in-Opening.is) in (s.from, s.most)

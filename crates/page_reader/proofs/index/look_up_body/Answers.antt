@@ -6,4 +6,4 @@ use Rattle.page_reader.proofs.Entries.{field_read}
 use Rattle.page_reader.proofs.index.look_up_body.Goals as goal
 
 pub returns-in-Ok : goal.returns-in-Ok
-returns-in-Ok c = c.body.ensures ∙ ap (λ (r : PageRead). r.body) (sym (field_read c.args.page.now c.in-Ok.ensures.0)) ∙ ap body_of (sym c.in-Ok.ensures.1)
+returns-in-Ok c = ap (λ (r : PageRead). r.body) (sym (field_read c.args.page.now c.in-Ok.ensures.0)) ∙ ap body_of (sym c.in-Ok.ensures.1)

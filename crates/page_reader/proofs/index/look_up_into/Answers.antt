@@ -1,9 +1,7 @@
 -- `page_reader::index::look_up_into` meets its contract: 42, then by where the field stands. Assumes nothing.
 use mathlib.Core.Path.{sym, ◌∙◌, ap, subst}
-use mathlib.Core.List.{List}
-use Prim.Native.Nat.{ℕ}
 use Rattle.std.specs.Prelude.{Ok}
-use Rattle.page_reader.specs.Pages.{PageRead, past, tagged, read_tagged, read_at}
+use Rattle.page_reader.specs.Pages.{PageRead, past, read_at}
 use Rattle.page_reader.specs.Index.{Looked, told_body}
 use Rattle.page_reader.proofs.Cases.{Leaves, body_leaves}
 use Rattle.page_reader.proofs.Entries.{field_read, look_whole, Looks, looks_body}
@@ -19,8 +17,7 @@ returns c =
     let w = c.read_into.result in
     let there = c.in_ok-place.ensures in
     let is = field_read page there.0 in
-    let read = ap (λ (body : List ℕ). read_tagged (tagged p.option body) (past page p.to)) c.body.ensures ∙ sym is in
-    let h = subst (λ (x : PageRead). Leaves (told_body w) x.outcome lent left) read (body_leaves p.option c.body.result.now (past page p.to) w lent size c.read_into.ensures) in
+    let h = subst (λ (x : PageRead). Leaves (told_body w) x.outcome lent left) (sym is) (body_leaves p.tag.option p.tag.body.now (past page p.to) w lent size c.read_into.ensures) in
     let t = looks_body p.at c.past.result (read_at page p.at) lent w (c.past.ensures ∙ ap (λ (x : PageRead). x.next) (sym is)) h in
     let l = subst (λ (y : Looked). Looks (Ok (record { outcome = w; at = p.at; next = c.past.result })) y lent left) (sym (look_whole page c.args.index.now c.args.k lent size ∙ there.1)) t in
     record { result_value = l.0; bytes = l.1 }

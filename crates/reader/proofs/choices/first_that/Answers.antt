@@ -1,5 +1,6 @@
 -- `choices::first_that` meets its contract: each place that is passed leaves it to those after it, and the bytes as they were. Assumes nothing.
 use mathlib.Core.Path.{◌≡◌, refl, sym, ◌∙◌, ap}
+use mathlib.Core.Bool.{true}
 use mathlib.Core.List.{List, ◌∷◌}
 use Prim.Native.Nat.{ℕ, ◌+◌}
 use lib.ListN.{drop, get_or, drop_of_length-le}
@@ -18,7 +19,7 @@ use Rattle.reader.proofs.Into.{went, failed, into_accepted, accepts, refuses, le
 use Rattle.reader.proofs.Trimmed.{tried_body}
 use Rattle.reader.proofs.RuledOut.{open_of, open_that}
 use Rattle.reader.proofs.choices.first_that.Goals as goal
-use Rattle.reader.proofs.choices.first_that.Goals.{After-trials_of-option-items, After-is_open, After-read_own_into}
+use Rattle.reader.proofs.choices.first_that.Goals.{After-trials_of-option-items, After-is_open, else-is_open-via-then-is_open+else-is_ok, else-is_open-via-else-is_open}
 
 -- what was gathered before the loop
 module _ (c : After-trials_of-option-items) where
@@ -42,11 +43,11 @@ module _ (c : After-trials_of-option-items) where
       ap from c.trials_of-option-items.ensures
       ∙ ap (λ (l : List ℕ). first_that (open_of text (lines l) (trials_of a.choice)) text) (c.summarize-seen.ensures ∙ c.asked_text.ensures)
       ∙ ap (λ (l : List ℕ). first_that (open_of l (lines (asked_text a.choice a.body.now)) (trials_of a.choice)) l) c.tried_text-text.ensures
-      ∙ open_that a.choice a.body.now c.requires.0
+      ∙ open_that a.choice a.body.now c.requires
 
   passes : body_reply text ≡ accepted
   passes =
-      ap body_reply c.tried_text-text.ensures ∙ tried_body c.args.body.now c.requires.0 c.args.choice
+      ap body_reply c.tried_text-text.ensures ∙ tried_body c.args.body.now c.requires c.args.choice
 
 -- the option at the place of the loop, and those after it
 module _ (c : After-is_open) where
@@ -62,11 +63,8 @@ module _ (c : After-is_open) where
   here : from at (tried at) ≡ from at (trial ∷ others)
   here = c.loop-option.invariant.1 ∙ ap (from at) (place_at (tried at) c.loop-option.option-index _ c.loop-option-test.true refl)
 
--- what the option's reading is to the rule, by its reply
-module _ (c : After-read_own_into) where
-  abbrev now : After-is_open
-  now = (goal.at.After-read_own_into c).After-is_open
-
+-- what the reading of an option that is open is to the rule, by its reply
+module _ (now : After-is_open) (is_open : now.is_open.result ≡ true) where
   abbrev all : After-trials_of-option-items
   all = at now
 
@@ -74,7 +72,7 @@ module _ (c : After-read_own_into) where
   w = read_own (trial now).0 (text all)
 
   opened : from all (tried all) ≡ first_that ((trial now).0 ∷ open_of (text all) (asked all) (others now)) (text all)
-  opened = here now ∙ first_wanted _ _ _ (sym c.is_open.ensures ∙ c.if-not-is_open.false)
+  opened = here now ∙ first_wanted _ _ _ (sym now.is_open.ensures ∙ is_open)
 
   own : read (trial now).0 (text all) ≡ w
   own = body_passed (trial now).0 (text all) (passes all)
@@ -88,22 +86,26 @@ module _ (c : After-read_own_into) where
 pub loop-option-init : goal.loop-option-init
 loop-option-init c = (refl, refl)
 
-pub loop-option-preserved-then-not-is_open : goal.loop-option-preserved-then-not-is_open
-loop-option-preserved-then-not-is_open c = (c.loop-option.invariant.0, here (goal.at.loop-option-preserved-then-not-is_open c).After-is_open ∙ first_unwanted _ _ _ (sym c.is_open.ensures ∙ c.if-not-is_open.true))
-
 pub returns-then-is_ok : goal.returns-then-is_ok
 returns-then-is_ok c =
-    let r = (goal.at.returns-then-is_ok c).After-read_own_into in
+    let now = (goal.at.returns-then-is_ok c).After-is_open in
+    let t = c.if-is_open.true in
     let e = went c.read_own_into.result (sym c.is_ok.ensures.value ∙ c.if-is_ok.true) in
-    into_accepted (w r) c.loop-option.«record» c.read_own_into.result c.read_own_into.ensures e (won r (accepts (w r) c.loop-option.«record» c.read_own_into.result c.read_own_into.ensures e) ∙ rule (all r)) c.loop-option.invariant.0
+    into_accepted (w now t) c.loop-option.«record» c.read_own_into.result c.read_own_into.ensures e (won now t (accepts (w now t) c.loop-option.«record» c.read_own_into.result c.read_own_into.ensures e) ∙ rule (all now t)) c.loop-option.invariant.0
 
 pub loop-option-preserved : goal.loop-option-preserved
 loop-option-preserved c =
-    let r = (goal.at.loop-option-preserved c).After-read_own_into in
-    let e = failed c.read_own_into.result (sym c.is_ok.ensures.value ∙ c.if-is_ok.false) in (
-      left (w r) c.loop-option.«record» c.read_own_into.result c.read_own_into.ensures e.1 ∙ c.loop-option.invariant.0,
-      lost r (refuses (w r) c.loop-option.«record» c.read_own_into.result c.read_own_into.ensures e.1),
-    )
+    let now = (goal.at.loop-option-preserved c).After-is_open in
+    let d = c.loop-option.«record» in
+    elim c.else-is_open.branch [
+      | else-is_open-via-then-is_open+else-is_ok v ↦
+          let t = v.if-is_open.true in
+          let o = v.read_own_into.result in
+          let e = failed o (sym v.is_ok.ensures.value ∙ v.if-is_ok.false) in
+          (v.record-is ∙ left (w now t) d o v.read_own_into.ensures e.1 ∙ c.loop-option.invariant.0, lost now t (refuses (w now t) d o v.read_own_into.ensures e.1))
+      | else-is_open-via-else-is_open v ↦
+          (v.record-is ∙ c.loop-option.invariant.0, here now ∙ first_unwanted _ _ _ (sym c.is_open.ensures ∙ v.if-is_open.false))
+    ]
 
 pub returns : goal.returns
 returns c =

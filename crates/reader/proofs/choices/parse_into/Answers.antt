@@ -1,8 +1,9 @@
 -- `choices::parse_into` meets its contract: 42, the body's check, then the options. Assumes nothing.
 use mathlib.Core.Path.{sym, ◌∙◌, ap}
+use Rattle.std.specs.Prelude.{Err}
 use Rattle.reader.specs.Reading.{Reading, leaves}
 use Rattle.reader.specs.Choices.{parse}
-use Rattle.reader.proofs.Into.{exits, into_whole}
+use Rattle.reader.proofs.Into.{exits, into_lent}
 use Rattle.reader.proofs.Trials.{check_refused, check_passed}
 use Rattle.reader.proofs.choices.parse_into.Goals as goal
 
@@ -10,16 +11,13 @@ pub returns-in_err-parse_body : goal.returns-in_err-parse_body
 unfolding parse
 returns-in_err-parse_body c =
     let a = c.args in
-    let lent = a.«record».now in
     rw (exits c.from_residual.ensures.1)
-    (ap (λ (r : Reading). leaves r lent) (sym (check_refused _ (sym c.in_err-parse_body.ensures)))
-    ∙ sym (into_whole (parse a.choice a.body.now) lent c.if-record-lt-RECORD_SIZE.false))
+    (into_lent c.in-Some.ensures.cases (parse a.choice a.body.now) (Err c.in_err-parse_body.field-0.0)
+    (ap (λ (r : Reading). leaves r c.in-Some.room.now) (sym (check_refused _ (sym c.in_err-parse_body.ensures)))))
 
 pub returns : goal.returns
 unfolding parse
 returns c =
     let a = c.args in
-    let lent = a.«record».now in
-    c.first_that.ensures
-    ∙ ap (λ (r : Reading). leaves r lent) (sym (check_passed _ (sym c.in_ok-parse_body.ensures)))
-    ∙ sym (into_whole (parse a.choice a.body.now) lent c.if-record-lt-RECORD_SIZE.false)
+    into_lent c.in-Some.ensures.cases (parse a.choice a.body.now) c.first_that.result
+    (c.first_that.ensures ∙ ap (λ (r : Reading). leaves r c.in-Some.room.now) (sym (check_passed _ (sym c.in_ok-parse_body.ensures))))

@@ -1,7 +1,6 @@
 -- `choices::summarize` meets its contract: no line, one, or more. Assumes nothing.
 use mathlib.Core.Path.{◌∙◌, ap}
 use Prim.Native.Nat.{ℕ, ◌+◌}
-use lib.Dec.{ltb}
 use lib.ListN.{length}
 use Rattle.std.specs.Int.{from_bool}
 use Rattle.std.specs.Option.{unwrap_or}
@@ -19,11 +18,11 @@ invariant_of-result c =
     let first = c.part_of-first.ensures ∙ ap (part_in s) c.unwrap_or.ensures ∙ w.first in
     let second = c.part_of-second.ensures ∙ ap (part_in s) c.unwrap_or-2.ensures ∙ w.second in
     record {
-      counted = (λ i. from_bool (c.is_some.ensures i) + from_bool (c.is_some-2.ensures i) + from_bool (ltb u.at (length s))) ∙ w.counted;
-      first_length = ap (length {A = ℕ}) first;
-      second_length = ap (length {A = ℕ}) second;
-      one = c.is_numbered_line.ensures ∙ ap is_numbered first;
-      two = c.is_numbered_line-2.ensures ∙ ap is_numbered second;
+      counted = (λ i. (c.from.ensures ∙ ap from_bool c.is_some.ensures) i + (c.from-2.ensures ∙ ap from_bool c.is_some-2.ensures) i + c.from-3.ensures i) ∙ w.counted;
+      first_length = c.of.ensures.length ∙ ap (length {A = ℕ}) first;
+      second_length = c.of-2.ensures.length ∙ ap (length {A = ℕ}) second;
+      one = c.of.ensures.number ∙ ap is_numbered first;
+      two = c.of-2.ensures.number ∙ ap is_numbered second;
       last_is = ap (part_in s) (c.unwrap_or-3.ensures ∙ ap (λ o. unwrap_or o no_place) c.or.ensures) ∙ w.last;
       later = w.later;
     }

@@ -6,7 +6,7 @@ use native.Mathlib.Omega.{arith}
 use lib.ListN.{length}
 use Rattle.party.specs.declared.Limits.{Limits}
 use Rattle.field_utils.specs.Tags.{capital, tag_of}
-use Rattle.writer.proofs.Puts.{space, space_first, both, puts_as}
+use Rattle.writer.proofs.Puts.{space, space_first, moves_both, moves_as}
 use Rattle.writer.proofs.Cursor.put_tag.Goals as goal
 use Rattle.writer.proofs.Cursor.put_tag.Goals.{After-limits_of-limits, After-put, After-put-2, After-put-3}
 
@@ -67,12 +67,12 @@ put-requires-4 c =
     let r = space (capital (limits at.After-limits_of-limits).letter) (58 ∷ []) c.put_letter.ensures.puts (room-4 at.After-put-3) in
     omega arith
 
-pub returns-clause-puts : goal.returns-clause-puts
-returns-clause-puts c =
-    let at = goal.at.returns-clause-puts c in
+pub returns : goal.returns
+returns c =
+    let at = goal.at.returns c in
     let k = at.After-limits_of-limits in
-    puts_as (tag k)
-    (both (58 ∷ []) (tens k) c.put.ensures.puts (room k)
-    (both ((48 + (limits k).field / 10) ∷ []) (ones k) c.put-2.ensures.puts (room-2 at.After-put)
-    (both ((48 + (limits k).field % 10) ∷ []) (letter k) c.put-3.ensures.puts (room-3 at.After-put-2)
-    (both (capital (limits k).letter) (58 ∷ []) c.put_letter.ensures.puts (room-4 at.After-put-3) c.put-4.ensures.puts))))
+    moves_as (tag k)
+    (moves_both (58 ∷ []) (tens k) c.put.ensures (room k)
+    (moves_both ((48 + (limits k).field / 10) ∷ []) (ones k) c.put-2.ensures (room-2 at.After-put)
+    (moves_both ((48 + (limits k).field % 10) ∷ []) (letter k) c.put-3.ensures (room-3 at.After-put-2)
+    (moves_both (capital (limits k).letter) (58 ∷ []) c.put_letter.ensures (room-4 at.After-put-3) c.put-4.ensures))))

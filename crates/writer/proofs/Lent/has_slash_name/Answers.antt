@@ -16,7 +16,7 @@ names k = content_names (laid_out k.args.self.now.bytes.now) (laid_names k.args.
 pub returns-then-name_count-ne0 : goal.returns-then-name_count-ne0
 returns-then-name_count-ne0 c =
     let p = laid_out c.args.self.now.bytes.now in
-    c.starts_with_slash.ensures ∙ ap (starts 47) c.used_text.ensures
+    c.starts_with_slash.ensures ∙ ap (starts 47) c.name.ensures
     ∙ sym (ap slash_name (names (goal.at.returns-then-name_count-ne0 c).After-name_count ∙ names_next p (laid_names c.args.self.now.bytes.now) c.name_count.ensures.value 0 (omega arith)))
 
 pub returns-else-name_count-ne0 : goal.returns-else-name_count-ne0

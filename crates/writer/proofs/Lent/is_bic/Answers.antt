@@ -36,7 +36,7 @@ pub returns-then-is_whole : goal.returns-then-is_whole
 returns-then-is_whole c =
     let w = (goal.at.returns-then-is_whole c).After-is_whole in
     ok_passes c.parse_bic.result c.parse_bic.ensures c.is_ok.ensures.value
-    ∙ ap (λ (x : List ℕ). passes (parse_bic 1 x)) c.used_text.ensures
+    ∙ ap (λ (x : List ℕ). passes (parse_bic 1 x)) c.bic.ensures
     ∙ sym (bic_line_lem 1 (used (p w).bic).bytes)
     ∙ sym (tested w c.if-is_whole.true)
 

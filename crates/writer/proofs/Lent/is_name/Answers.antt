@@ -34,13 +34,13 @@ whole w e =
 turn :
     (t : After-is_in_turn) {b : Bool} → t.is_in_turn.result ≡ b → let s = (goal.at.After-is_in_turn t).Start in
     in_turn t.args.numbering (t.args.i + 1) (digit s) (name s).bytes ≡ b
-turn t e = rw (← t.digit_of.ensures, ← t.used_text-text.ensures) (sym t.is_in_turn.ensures ∙ e)
+turn t e = rw (← t.digit_of.ensures, ← t.name-text.ensures) (sym t.is_in_turn.ensures ∙ e)
 
 -- the length of the text after the number
 text_length :
-    (l : After-number_length) → length (drop (number_in l.args.numbering) (name (goal.at.After-number_length l).Start).bytes) ≡ length l.used_text-text.result.now - l.number_length.result
+    (l : After-number_length) → length (drop (number_in l.args.numbering) (name (goal.at.After-number_length l).Start).bytes) ≡ length l.name-text.result.now - l.number_length.result
 text_length l =
-    omega (arith, length-drop (number_in l.args.numbering) (name (goal.at.After-number_length l).Start).bytes, ap length l.used_text-text.ensures, l.number_length.ensures)
+    omega (arith, length-drop (number_in l.args.numbering) (name (goal.at.After-number_length l).Start).bytes, ap length l.name-text.ensures, l.number_length.ensures)
 
 pub returns-then-not-is_whole : goal.returns-then-not-is_whole
 returns-then-not-is_whole c =
@@ -61,11 +61,11 @@ pub returns : goal.returns
 returns c =
     let at = goal.at.returns c in
     c.is_plain.ensures
-    ∙ ap (all plain) c.used_text-text.ensures
+    ∙ ap (all plain) c.name-text.ensures
     ∙ sym (name_bytes c.args.numbering c.args.longest (c.args.i + 1) (digit at.Start) (name at.Start) (turn at.After-is_in_turn c.if-not-is_in_turn.false) (omega (arith, text_length at.After-number_length))
     (whole at.After-is_whole c.if-not-is_whole.false))
 
 pub overflow_sub-text : goal.overflow_sub-text
 overflow_sub-text c =
     let at = goal.at.overflow_sub-text c in
-    omega (arith, turn_room c.args.numbering (c.args.i + 1) (digit at.Start) (name at.Start).bytes (turn at.After-is_in_turn c.if-not-is_in_turn.false), ap length c.used_text-text.ensures, c.number_length.ensures)
+    omega (arith, turn_room c.args.numbering (c.args.i + 1) (digit at.Start) (name at.Start).bytes (turn at.After-is_in_turn c.if-not-is_in_turn.false), ap length c.name-text.ensures, c.number_length.ensures)

@@ -1,4 +1,5 @@
 -- `writer::Lent::written_length` meets its contract. Assumes nothing.
+use mathlib.Core.Path.{refl}
 use native.Mathlib.Omega.{arith}
 use lib.ListN.{length-append}
 use Rattle.record_bytes.specs.RecordBytes.{laid_out}
@@ -13,5 +14,5 @@ overflow_add-result-2 c = omega (arith, tag_most c.args.self.now.option)
 
 pub returns : goal.returns
 returns c =
-    rw (lent_parts (laid_out c.args.self.now.bytes.now) c.args.self.now.option_is c.has_head-later.ensures)
+    rw (lent_parts (laid_out c.args.self.now.bytes.now) c.args.self.now.option_is refl)
     (simp length-append (omega arith))
