@@ -9,7 +9,7 @@ ghost use Rattle.profile.specs.Profile.{is_same, holds_bic, is_narrow, is_capita
 
 use errors::ParseError;
 use field_utils::lines::{lines_of, trim};
-use party::{Party, PartyOption, TEXT_MOST, Text, limits_of, part_of};
+use party::{Party, PartyOption, Text, limits_of, part_of};
 use reader::choices::Choice;
 use swift_utils::{NARROW, SMALL, is_in};
 
@@ -17,7 +17,7 @@ use swift_utils::{NARROW, SMALL, is_in};
 fn is_text(s: &[u8], t: &Text) -> bool
     ensures { result ≡ is_same s.now (used t.now).bytes }
 {
-    s == &t.bytes[..t.len.min(TEXT_MOST)]
+    s == t.used()
 }
 
 // Whether a line holds the BIC of a record that has one.

@@ -13,11 +13,11 @@ use Rattle.errors.specs.Refusals.{accepted, refused}
 use Rattle.party.specs.declared.Party.{Party}
 use Rattle.party.specs.Party.{content}
 use Rattle.writer.specs.Code.{Puts}
-use Rattle.writer.proofs.Puts.{puts_byte, space, Partway, begun, finished, kept, next}
+use Rattle.writer.proofs.Puts.{puts_byte, space, Partway, finished, kept, next}
 use Rattle.page_reader.specs.Pages.{page_most, ReadOutcome, a_record, the_end, a_refusal, PageRead, read_at, kind_of, outline}
 use Rattle.page_reader.specs.Reads.{Read, read_here, is_the_end, is_last, reads}
 use Rattle.page_reader.proofs.Moves.{next_most}
-use Rattle.page_reader.proofs.InTurn.{read_moves, rest, rest_some, rest_start, rest_last, rest_next, reads_most, reads_few}
+use Rattle.page_reader.proofs.InTurn.{read_moves, rest, rest_some, rest_last, rest_next, reads_most, reads_few}
 use Rattle.page_writer.specs.Adding.{Filed, position_after, refusal, add}
 use Rattle.page_writer.specs.Fold.{Step, Run, run}
 use Rattle.page_writer.specs.WholePage.{OpenPage}
@@ -142,15 +142,6 @@ module _ (files : Bool) (page : List ℕ) where
     abbrev pub Going : OpenPage → List ℕ → Option ℕ → ℕ → Type 0
     Going s numbers (Some at) count = Partly s numbers at count
     Going s numbers None count = Whole s numbers count
-
-    pub begins : Partly (open_page buffer 0) answers 0 0
-    begins =
-        let e : left (open_page buffer 0) 0 ≡ walk_by files page buffer = ap (run (step_by files page) (open_page buffer 0)) (rest_start page) in
-        record {
-          within = omega arith;
-          state = ap (λ (r : Run OpenPage ℕ). r.state) e;
-          stored = subst (λ (r : Run OpenPage ℕ). Partway answers 0 (walk_by files page buffer).answers answers 0 r.answers) (sym e) (begun answers 0 (walk_by files page buffer).answers);
-        }
 
     -- while the page is not read to its last, there is a number lent for the next answer
     pub there : length page < length answers → {s : OpenPage} {numbers : List ℕ} {at count : ℕ} → Partly s numbers at count → count < length answers
