@@ -7,7 +7,7 @@ ghost use Rattle.field_utils.specs.Cursor.{GivesLine};
 ghost use Rattle.field_utils.specs.Words.{Passed};
 ghost use Rattle.field_utils.specs.Trim.{white, trimmed, trimmed_end};
 
-use crate::words::{BLOCK, is_clear, lf_mask, word};
+use crate::words::{BLOCK, is_clear, is_low, lf_mask, word};
 use party::Part;
 
 // Up to so many bytes are searched by single words, before blocks of them are passed.
@@ -182,10 +182,26 @@ pub fn trim(s: &[u8]) -> &[u8]
     trim_end(part)
 }
 
-// Whether no byte is above 127.
+// Whether no byte of a few is above 127.
 #[tactic(auto, using(crate::proofs::AllBytes::ascii_low))]
-pub fn is_ascii(s: &[u8]) -> bool
+fn are_low(s: &[u8]) -> bool
     ensures { result ≡ all (λ (b : ℕ). nat_le b 127) s.now }
 {
     s.is_ascii()
+}
+
+// Whether no byte is above 127, by words of eight bytes, the last over what was seen before; fewer than eight go singly.
+pub fn is_ascii(s: &[u8]) -> bool
+    ensures { result ≡ all (λ (b : ℕ). nat_le b 127) s.now }
+{
+    let Some(last) = s.last_chunk::<8>() else {
+        return are_low(s);
+    };
+    let (words, _) = s.as_chunks::<8>();
+    for bytes in words {
+        if !is_low(word(bytes)) {
+            return false;
+        }
+    }
+    is_low(word(last))
 }

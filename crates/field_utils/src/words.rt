@@ -1,7 +1,8 @@
-// Eight bytes as one number, the first LF among them, and whether a block of them has one.
-ghost use Rattle.std.specs.Prelude.{◌≡◌, true};
+// Eight bytes as one number, the first LF among them, whether a block of them has one, and whether one is above 127.
+ghost use Rattle.std.specs.Prelude.{◌≡◌, ℕ, true, nat_le};
+ghost use Rattle.swift_utils.specs.Bytes.{all};
 ghost use Rattle.field_utils.specs.Lines.{upto};
-ghost use Rattle.field_utils.specs.Words.{low_bytes, less_ones, lf_mask};
+ghost use Rattle.field_utils.specs.Words.{eight, low_bytes, less_ones, lf_mask};
 
 // In every byte an LF, a one, and the highest bit.
 const LFS: u64 = 0x0a0a0a0a0a0a0a0a;
@@ -15,7 +16,8 @@ pub(crate) const BLOCK: usize = 256;
 
 // Eight bytes as one number, the first byte lowest.
 pub(crate) fn word(bytes: &[u8; 8]) -> u64
-    ensures { low_bytes 8 result ≡ bytes.now }
+    ensures number { result ≡ eight bytes.now }
+    ensures bytes { low_bytes 8 result ≡ bytes.now }
 {
     u64::from_le_bytes(*bytes)
 }
@@ -32,6 +34,13 @@ pub(crate) fn lf_mask(w: u64) -> u64
     ensures { result ≡ lf_mask w }
 {
     less_ones(w) & !(w ^ LFS) & HIGHS
+}
+
+// Whether no byte of a word is above 127: none has its highest bit.
+pub(crate) fn is_low(w: u64) -> bool
+    ensures { result ≡ all (λ (b : ℕ). nat_le b 127) (low_bytes 8 w) }
+{
+    w & HIGHS == 0
 }
 
 // Whether a block is seen to have no LF: no byte of it, flipped and less a one, has its highest bit set. One above 127 may have it too.

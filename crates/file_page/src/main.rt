@@ -3,6 +3,7 @@
 // there are.
 #![tactic(auto)]
 
+mod input;
 mod tally;
 
 ghost use Rattle.std.specs.Prelude.{◌≡◌, ◌≤◌, ◌<◌, length, IfOk};

@@ -70,11 +70,11 @@ fn field_in(page: &[u8], to: usize, entry: Entry) -> Result<Place<'_>, ParseErro
 {
     let at = entry.position as usize;
     let text = text_in(page, at, to);
+    if text.len() != entry.len as usize {
+        return Err(ParseError::Position);
+    }
     match parse_tag(text) {
-        Some(tag)
-            if index_of(tag.option) == entry.tag as usize && text.len() == entry.len as usize => {
-            Ok(Place { tag, at, to })
-        }
+        Some(tag) if index_of(tag.option) == entry.tag as usize => Ok(Place { tag, at, to }),
         _ => Err(ParseError::Position),
     }
 }

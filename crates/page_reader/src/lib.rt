@@ -174,6 +174,7 @@ fn text_in(page: &[u8], at: usize, to: usize) -> &[u8]
 }
 
 // A field's text by its tag: 15, or what the option's reader says of the body.
+#[inline(always)]
 fn read_field_into(text: &[u8], record: &mut [u8; RECORD_SIZE]) -> Result<Option<()>, ParseError>
     ensures result_value { told_kind result ≡ kind_of (read_field text.now 0).outcome }
     ensures bytes { «record».new ≡ read_bytes (read_field text.now 0).outcome «record».old }
@@ -186,7 +187,9 @@ fn read_field_into(text: &[u8], record: &mut [u8; RECORD_SIZE]) -> Result<Option
 }
 
 // Reads the page at a position: the record, the refusal or the end, with the next position. The record is stored at the start of lent bytes;
-// the end and a refusal change none. 42, before everything else, where they are under 241.
+// the end and a refusal change none. 42, before everything else, where they are under 241. Each caller has it in its own code: a call would
+// hand what was read through memory.
+#[inline(always)]
 pub fn read_at_into(page: &[u8], at: usize, record: &mut [u8]) -> PageRead<()>
     ensures result_value { told_read_into result ≡ outline (read_lent page.now at «record».old) }
     ensures bytes { «record».new ≡ read_bytes (read_lent page.now at «record».old).outcome «record».old }

@@ -11,12 +11,12 @@ ghost use Rattle.reader.specs.Detection.{any_numbered, first_line, last_line, bi
 ghost use Rattle.reader.specs.Choices.{trials_of, tried_text, wanted, first_that, parse as parse_of, is_letter, parse_with_variant, read_text};
 ghost use Rattle.reader.specs.ChoicesCode.{short_bic_line, ruled_out, is_open, asked_text};
 
-use crate::{parse_body, read_into, read_own_into};
+use crate::{answer_from, parse_body, read_into, read_own_into};
 use errors::ParseError;
 use field_utils::lines::{Lines, lines_of, trim};
 use field_utils::{is_numbered_line, starts_with_slash};
 use party::{NO_PART, Part, Party, PartyOption, limits_of, part_of};
-use record_bytes::{RECORD_SIZE, load};
+use record_bytes::RECORD_SIZE;
 use swift_utils::{BIC_LONG, BIC_SHORT, all_alphanumeric, is_bic_length};
 
 // The seven choices, under the names of the Rust's enums.
@@ -343,8 +343,8 @@ pub fn parse(choice: Choice, body: &[u8]) -> Result<Party, ParseError>
     ensures { told_answer result ≡ parse_of choice body.now }
 {
     let mut room = [0u8; RECORD_SIZE];
-    parse_into(choice, body, &mut room)?;
-    Ok(load(&room))
+    let outcome = parse_into(choice, body, &mut room);
+    answer_from(outcome, &room)
 }
 
 // By a letter, with the record by value.
@@ -352,8 +352,8 @@ pub fn parse_with_variant(choice: Choice, body: &[u8], letter: u8) -> Result<Par
     ensures { told_answer result ≡ parse_with_variant choice body.now letter }
 {
     let mut room = [0u8; RECORD_SIZE];
-    parse_with_variant_into(choice, body, letter, &mut room)?;
-    Ok(load(&room))
+    let outcome = parse_with_variant_into(choice, body, letter, &mut room);
+    answer_from(outcome, &room)
 }
 
 // What is read of a body by a letter: all of it where the letter picks an option, else what is tried. That is all of it but in the one

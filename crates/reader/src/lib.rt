@@ -19,7 +19,7 @@ ghost use Rattle.party.specs.Limits.{limits_of};
 ghost use Rattle.party.specs.Text.{part_in};
 ghost use Rattle.party.specs.Party.{party_in};
 ghost use Rattle.field_utils.specs.Lines.{starts, lines};
-ghost use Rattle.reader.specs.Reading.{told_answer, party_of, told_into, leaves, read_into};
+ghost use Rattle.reader.specs.Reading.{told_answer, answer_from, party_of, told_into, leaves, read_into};
 ghost use Rattle.reader.specs.Options.{is_counted, length_reply, account_reply, head_by, with_names, with_bic, after_head, by_lines, bic_only, text_only, body_reply, read_own, read as read_of};
 ghost use Rattle.reader.specs.Code.{told_parts, IsHead, has_account, account_by, head_at, lines_before, nameless, reading_of};
 
@@ -296,11 +296,19 @@ pub fn read_into(option: PartyOption, body: &[u8], record: &mut [u8]) -> Result<
     read_own_into(option, body, room)
 }
 
+// The answer of an outcome whose record is stored in a room.
+pub fn answer_from(outcome: Result<(), ParseError>, room: &[u8]) -> Result<Party, ParseError>
+    ensures { result ≡ answer_from outcome room.now }
+{
+    outcome?;
+    Ok(load(room))
+}
+
 // The reader of an option, with the record by value. What was found has one user, so that it is copied nowhere.
 pub fn read(option: PartyOption, body: &[u8]) -> Result<Party, ParseError>
     ensures { told_answer result ≡ read_of option body.now }
 {
     let mut room = [0u8; RECORD_SIZE];
-    read_into(option, body, &mut room)?;
-    Ok(load(&room))
+    let outcome = read_into(option, body, &mut room);
+    answer_from(outcome, &room)
 }

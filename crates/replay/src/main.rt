@@ -6,6 +6,7 @@
 mod call;
 mod cases;
 mod count;
+mod input;
 mod list;
 mod pages;
 mod record;
@@ -24,6 +25,13 @@ struct Player<'a> {
     page: Page,
     records: Records<'a>,
     counts: Counts,
+}
+
+// Prints the text of a line, with counts. It has the room for the text, which would be cleared for every line that is played.
+#[inline(never)]
+fn say(rt: &impl Print, line: Line<'_>, counts: &Counts) {
+    let mut room = [0u8; 4096];
+    counts.print(rt, unescape(line.field(1), &mut room));
 }
 
 impl<'a> Player<'a> {
@@ -46,10 +54,7 @@ impl<'a> Player<'a> {
                 self.page.read(line, way, record, &mut self.counts)?;
             }
             Call::Overwrite => self.page.overwrite(line, &mut self.counts),
-            Call::Say => {
-                let mut room = [0u8; 4096];
-                self.counts.print(rt, unescape(line.field(1), &mut room));
-            }
+            Call::Say => say(rt, line, &self.counts),
         }
         Ok(())
     }

@@ -17,7 +17,7 @@ module _ (c : After-lf_mask-mask) where
 
   told : count_trailing_zeros 64 c.lf_mask-mask.result / 8 ≡ upto 10 (take 8 (drop at s))
   told =
-      let bytes = c.word.ensures ∙ ap (λ (ws : List (List ℕ)). get_or ws c.loop-i.i []) c.as_chunks.ensures.front ∙ chunk_at 8 (length s / 8) s c.loop-i.i (omega (arith, c.as_chunks.ensures.front_len)) in
+      let bytes = c.word.ensures.bytes ∙ ap (λ (ws : List (List ℕ)). get_or ws c.loop-i.i []) c.as_chunks.ensures.front ∙ chunk_at 8 (length s / 8) s c.loop-i.i (omega (arith, c.as_chunks.ensures.front_len)) in
       ap (λ (m : ℕ). count_trailing_zeros 64 m / 8) c.lf_mask-mask.ensures ∙ first_lf c.word.result (omega arith) ∙ ap (upto 10) bytes
 
   inside : at + 8 ≤ length s

@@ -15,7 +15,7 @@ loop-bytes-preserved c = λ e.
     let i = c.loop-bytes.bytes-index in
     let seen = c.loop-bytes.seen in
     let y = c.less_ones-seen.result in
-    let bytes = c.word.ensures ∙ ap (λ (ws : List (List ℕ)). get_or ws i []) c.as_chunks.ensures.front ∙ chunk_at 8 (length block / 8) block i (omega (arith, c.as_chunks.ensures.front_len)) in
+    let bytes = c.word.ensures.bytes ∙ ap (λ (ws : List (List ℕ)). get_or ws i []) c.as_chunks.ensures.front ∙ chunk_at 8 (length block / 8) block i (omega (arith, c.as_chunks.ensures.front_len)) in
     let clear = clear_or y seen (every 128 8) (ap (λ (z : ℕ). bit_and z (every 128 8)) (or_comm y seen) ∙ e) in
     let none = clear_word c.word.result (omega arith) (sym (ap (λ (z : ℕ). bit_and z (every 128 8)) c.less_ones-seen.ensures) ∙ clear) in
     passed_more (c.loop-bytes.invariant (clear_or seen y (every 128 8) e))

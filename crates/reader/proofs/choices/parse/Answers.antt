@@ -2,24 +2,15 @@
 use mathlib.Core.Path.{◌∙◌, ap}
 use native.Mathlib.Omega.{arith}
 use lib.ListN.{replicate}
-use Rattle.std.specs.Prelude.{Ok, Err}
-use Rattle.party.specs.declared.Party.{Party}
 use Rattle.record_bytes.specs.RecordBytes.{record_size}
 use Rattle.reader.specs.Reading.{told_answer}
 use Rattle.reader.specs.Choices.{parse}
 use Rattle.reader.proofs.ByValue.{parse_back}
-use Rattle.reader.proofs.Into.{exits}
 use Rattle.reader.proofs.Loading.{answered}
 use Rattle.reader.proofs.choices.parse.Goals as goal
-
-pub returns-in_err-parse_into : goal.returns-in_err-parse_into
-returns-in_err-parse_into c =
-    let a = c.args in
-    rw (exits c.from_residual.ensures.1)
-    (answered (parse a.choice a.body.now) (Err c.in_err-parse_into.field-0.0) (replicate record_size 0) _ (parse_back a.choice a.body.now) (omega arith) c.in_err-parse_into.ensures)
 
 pub returns : goal.returns
 returns c =
     let a = c.args in
-    ap (λ (p : Party). told_answer (Ok p)) c.load.ensures
-    ∙ answered (parse a.choice a.body.now) (Ok tt) (replicate record_size 0) _ (parse_back a.choice a.body.now) (omega arith) c.in_ok-parse_into.ensures
+    ap told_answer c.answer_from.ensures
+    ∙ answered (parse a.choice a.body.now) c.parse_into-outcome.result (replicate record_size 0) _ (parse_back a.choice a.body.now) (omega arith) c.parse_into-outcome.ensures

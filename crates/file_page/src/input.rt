@@ -1,6 +1,4 @@
-// What both programs read: standard input, into a room of fixed size.
-#![tactic(auto)]
-
+// Standard input, read into a room.
 ghost use Rattle.std.specs.Prelude.{◌≤◌, length, take};
 ghost use Rattle.std.specs.Io.KnownBytes.{Consumes};
 
@@ -8,7 +6,7 @@ use std::io::Read;
 
 // Reads until the room is full, the input ends or a read fails, and gives how many bytes it put at the start of the room: those that the
 // input has lost.
-pub fn read_full<R: Read>(input: &mut R, room: &mut [u8]) -> usize
+pub(crate) fn read_full<R: Read>(input: &mut R, room: &mut [u8]) -> usize
     ensures within { result ≤ length room.new }
     ensures bytes { Consumes (R.remaining input.old) (R.remaining input.new) (take result room.new) }
 {
